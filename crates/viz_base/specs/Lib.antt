@@ -1,0 +1,12 @@
+pub mod Names
+pub mod Padding
+pub mod Faults
+pub mod Refusals
+pub mod Files
+pub mod Entries
+pub mod Calls
+pub mod Texts
+pub mod MemoryPort
+pub mod NeverFails
+pub mod MemoryOut
+pub mod DirPort

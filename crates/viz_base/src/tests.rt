@@ -1,0 +1,178 @@
+//! Values counted by hand, and a real folder.
+
+use crate::{
+    Bytes, DirPort, FailAt, FileEntry, Gate, MemoryOut, MemoryPort, NeverFails, OpenGate, Out,
+    Port, Shape, StdOut, Word,
+};
+use std::alloc::Global;
+use std::fs;
+use std::process::Abort;
+use std::test::Fail;
+
+const FAILED: &str = "[the read failed]";
+
+const TOO_LONG: &str = "[the file is longer than the limit]";
+
+// What a read answers: the bytes as text, or the refusal in brackets.
+fn read<P: Port>(port: &mut P, alloc: Global, name: &str) -> Result<String, Fail> {
+    match port.read(alloc, name) {
+        Ok(bytes) => Ok(String::from_utf8(bytes.list().to_vec(alloc)?)?),
+        Err(e) => Ok(format!(in alloc; "[{e}]")?),
+    }
+}
+
+// Reads each name, and wants this answer.
+fn reads<P: Port>(
+    rt: &impl Abort,
+    alloc: Global,
+    port: &mut P,
+    rows: &[(&str, &str)],
+) -> Result<(), Fail> {
+    for (name, want) in rows {
+        let answer = read(port, alloc, name)?;
+        assert!(rt; answer.as_str() == *want, "a read of {name}");
+    }
+    Ok(())
+}
+
+// Writes each text, and wants it written or not.
+fn writes<P: Port>(rt: &impl Abort, alloc: Global, port: &mut P, rows: &[(&str, &str, bool)]) {
+    for (name, text, want) in rows {
+        let written = port.write(alloc, name, text.as_bytes()).is_ok();
+        assert!(rt; written == *want, "a write to {name}");
+    }
+}
+
+fn holds(file: Option<&Bytes>, want: &[u8]) -> bool {
+    match file {
+        Some(bytes) => bytes.list() == want,
+        None => false,
+    }
+}
+
+fn entry(alloc: Global, name: &str, text: &str) -> Result<FileEntry, Fail> {
+    let name = Word::new(name.as_bytes()).ok_or("no name")?;
+    let bytes = Bytes::new(text.as_bytes().to_vec(alloc)?);
+    Ok(FileEntry { name, bytes })
+}
+
+fn two_files(alloc: Global) -> Result<Vec<FileEntry>, Fail> {
+    let mut files = Vec::new(alloc);
+    files.push(entry(alloc, "a", "one")?)?;
+    files.push(entry(alloc, "b", "three")?)?;
+    Ok(files)
+}
+
+#[test]
+fn a_name_has_1_to_64_bytes(rt: HostRuntime) {
+    let text = [b'n'; 65];
+    for (len, want) in [(0, false), (1, true), (64, true), (65, false)] {
+        let same = match Word::new(&text[..len]) {
+            Some(word) => word.bytes() == &text[..len],
+            None => false,
+        };
+        assert!(rt; same == want, "{len} bytes");
+    }
+}
+
+#[test]
+fn a_memory_port_fails_by_its_list(rt: HostRuntime) -> Result<(), Fail> {
+    let alloc = rt.alloc();
+    let failing = vec![in alloc; FailAt { call: 5, kept: 2 }, FailAt { call: 4, kept: 0 }]?;
+    let mut port = MemoryPort::new(alloc, two_files(alloc)?, 4, failing);
+    // Calls 1 to 4: a file, a missing one, one that is too long, and a listed call.
+    reads(
+        &rt,
+        alloc,
+        &mut port,
+        &[("a", "one"), ("c", FAILED), ("b", TOO_LONG), ("a", FAILED)],
+    )?;
+    // Calls 5 to 8: a listed call keeps two bytes, and no file has the last name.
+    writes(
+        &rt,
+        alloc,
+        &mut port,
+        &[
+            ("a", "four", false),
+            ("b", "z", true),
+            ("c", "new", true),
+            ("", "x", false),
+        ],
+    );
+    reads(
+        &rt,
+        alloc,
+        &mut port,
+        &[("a", "fo"), ("b", "z"), ("c", "new"), ("", FAILED)],
+    )?;
+    assert!(rt; holds(port.file("a"), b"fo") && port.file("").is_none());
+    Ok(())
+}
+
+#[test]
+fn a_missing_file_is_empty_where_nothing_fails(rt: HostRuntime) -> Result<(), Fail> {
+    let alloc = rt.alloc();
+    let mut port = NeverFails::new(alloc, two_files(alloc)?, 4);
+    reads(
+        &rt,
+        alloc,
+        &mut port,
+        &[("c", ""), ("a", "one"), ("b", TOO_LONG), ("", "")],
+    )?;
+    writes(
+        &rt,
+        alloc,
+        &mut port,
+        &[("c", "new", true), ("", "x", false)],
+    );
+    assert!(rt; holds(port.file("c"), b"new") && holds(port.file("d"), b""));
+    Ok(())
+}
+
+#[test]
+fn a_listed_put_appends_nothing(rt: HostRuntime) -> Result<(), Fail> {
+    let alloc = rt.alloc();
+    let mut out = MemoryOut::new(alloc, vec![in alloc; 2]?);
+    for (text, want) in [("one ", true), ("two ", false), ("three", true)] {
+        assert!(rt; out.put(alloc, text.as_bytes()).is_ok() == want, "{text}");
+    }
+    assert!(rt; out.text() == b"one three".as_slice());
+    Ok(())
+}
+
+#[test]
+fn a_folder_is_read_and_written(rt: HostRuntime) -> Result<(), Fail> {
+    let alloc = rt.alloc();
+    let folder = "viz_base_folder";
+    let _ = fs::remove_dir_all(&rt, folder);
+    fs::create_dir_all(&rt, "viz_base_folder/sub")?;
+    let mut port = DirPort::new(&rt, alloc, folder, 8)?;
+    reads(&rt, alloc, &mut port, &[("a", FAILED), ("sub", FAILED)])?;
+    // Nine bytes are one too many; the shorter files replace the longer one.
+    for (text, want) in [
+        ("ninebytes", TOO_LONG),
+        ("8 bytes.", "8 bytes."),
+        ("short", "short"),
+    ] {
+        writes(
+            &rt,
+            alloc,
+            &mut port,
+            &[("a", text, true), ("sub", text, false)],
+        );
+        reads(&rt, alloc, &mut port, &[("a", want)])?;
+    }
+    fs::remove_dir_all(&rt, folder)?;
+    Ok(())
+}
+
+#[test]
+fn the_edges_answer(rt: HostRuntime) {
+    let mut out = StdOut::new(&rt);
+    assert!(rt; out.put(rt.alloc(), b"printed\n").is_ok());
+    let shape = Shape {
+        pieces: 64,
+        workers: 1,
+    };
+    OpenGate.enter(u64::from(shape.pieces));
+}

@@ -1,0 +1,80 @@
+//! Points counted and numbered by hand.
+use crate::Extent;
+use std::test::Fail;
+
+#[test]
+fn an_extent_has_its_bounds_and_points(rt: HostRuntime) -> Result<(), Fail> {
+    for (bounds, count) in [
+        ([0, 0, 0, 0, 0, 0], 1),
+        ([0, 1, 0, 2, 0, 3], 24),
+        ([3, 6, 2, 2, 5, 9], 20),
+        // The highest bound.
+        ([2_147_483_647; 6], 1),
+        // 2^31 - 1 points, and 3 * 715,827,882 of them.
+        ([0, 2_147_483_646, 0, 0, 0, 0], 2_147_483_647),
+        ([0, 0, 1, 3, 0, 715_827_881], 2_147_483_646),
+    ] {
+        let extent = Extent::new(bounds).ok_or("an extent")?;
+        assert_eq!(rt; extent.bounds(), bounds);
+        assert_eq!(rt; extent.count(), count, "{bounds:?}");
+    }
+    Ok(())
+}
+
+#[test]
+fn other_bounds_make_no_extent(rt: HostRuntime) {
+    for bounds in [
+        // A lower bound above its upper one.
+        [1, 0, 0, 0, 0, 0],
+        [0, 0, 1, 0, 0, 0],
+        [0, 0, 0, 0, 1, 0],
+        // One point, at 2^31 along an axis.
+        [2_147_483_648, 2_147_483_648, 0, 0, 0, 0],
+        [0, 0, 2_147_483_648, 2_147_483_648, 0, 0],
+        [0, 0, 0, 0, 2_147_483_648, 2_147_483_648],
+        // 2^31 points: in one row, as 2^16 * 2^15, and as 2 * 2 * 2^29.
+        [0, 2_147_483_647, 0, 0, 0, 0],
+        [0, 65_535, 0, 32_767, 0, 0],
+        [0, 1, 0, 1, 0, 536_870_911],
+        // 2^64 points, which 64 bits would take for none.
+        [0, 2_147_483_647, 0, 2_147_483_647, 0, 3],
+    ] {
+        assert_eq!(rt; Extent::new(bounds), None, "{bounds:?}");
+    }
+}
+
+#[test]
+fn numbers_go_with_x_fastest(rt: HostRuntime) -> Result<(), Fail> {
+    for (bounds, index, place) in [
+        // Three by two by two points, all in order.
+        ([1, 3, 5, 6, 2, 3], 0, (1, 5, 2)),
+        ([1, 3, 5, 6, 2, 3], 1, (2, 5, 2)),
+        ([1, 3, 5, 6, 2, 3], 2, (3, 5, 2)),
+        ([1, 3, 5, 6, 2, 3], 3, (1, 6, 2)),
+        ([1, 3, 5, 6, 2, 3], 4, (2, 6, 2)),
+        ([1, 3, 5, 6, 2, 3], 5, (3, 6, 2)),
+        ([1, 3, 5, 6, 2, 3], 6, (1, 5, 3)),
+        ([1, 3, 5, 6, 2, 3], 7, (2, 5, 3)),
+        ([1, 3, 5, 6, 2, 3], 8, (3, 5, 3)),
+        ([1, 3, 5, 6, 2, 3], 9, (1, 6, 3)),
+        ([1, 3, 5, 6, 2, 3], 10, (2, 6, 3)),
+        ([1, 3, 5, 6, 2, 3], 11, (3, 6, 3)),
+        // One row along each axis.
+        ([4, 9, 7, 7, 8, 8], 5, (9, 7, 8)),
+        ([4, 4, 7, 9, 8, 8], 1, (4, 8, 8)),
+        ([4, 4, 7, 7, 8, 9], 1, (4, 7, 9)),
+        // The last point of the longest row.
+        (
+            [0, 2_147_483_646, 0, 0, 0, 0],
+            2_147_483_646,
+            (2_147_483_646, 0, 0),
+        ),
+    ] {
+        let extent = Extent::new(bounds).ok_or("an extent")?;
+        assert!(rt; index < extent.count(), "{bounds:?} {index}");
+        let (i, j, k) = extent.place_of(index);
+        assert_eq!(rt; (i, j, k), place, "{bounds:?} {index}");
+        assert_eq!(rt; extent.index_of(i, j, k), index, "{bounds:?} {place:?}");
+    }
+    Ok(())
+}

@@ -1,0 +1,189 @@
+//! The reader of a text.
+
+ghost use Rattle.std.specs.Prelude.{◌≡◌, ◌↔◌, ◌<◌, ◌≤◌, length, option_map, IsNone, IfSome, IfOk, OnOk};
+ghost use Rattle.viz_lex.specs.Reading.{rest_of, fault_at, Gives, Finds};
+ghost use Rattle.viz_lex.specs.Words.{text_of, word_at, line_at, line_end_at, IsBlank, HasNoNewline, IsFiller, IsWordAt, IsLineAt, IsLineEndAt};
+ghost use Rattle.viz_lex.specs.Numbers.{whole_at, IsNumberAt};
+ghost use Rattle.viz_lex.specs.declared.fault.FileKind.TheVariants.{Truncated};
+
+use crate::fault::{FileFault, FileKind};
+use crate::number::number;
+use crate::scan::{blanks, fillers, line_len, word_len};
+use crate::span::Span;
+use std::marker::Model;
+
+/// The bytes of a text, and the place up to which they are read.
+#[derive(Drop)]
+pub struct Lexer<'a> {
+    bytes: &'a [u8],
+    place: usize,
+}
+
+impl<'a> Model for Lexer<'a> {
+    ghost use Rattle.std.specs.Prelude.{◌≤◌, length};
+    ghost use Rattle.viz_lex.specs.Reading.{Reading};
+
+    ghost Value = { Reading };
+
+    ghost view = { λ l. record { bytes = l.bytes.now; place = l.place } };
+
+    ghost invariant = { λ l. l.place ≤ length l.bytes.now };
+}
+
+impl<'a> Lexer<'a> {
+    /// Nothing is read yet.
+    pub fn new(bytes: &'a [u8]) -> Lexer<'a>
+        ensures { result ≡ record { bytes = bytes.now; place = 0 } }
+    {
+        Lexer { bytes, place: 0 }
+    }
+
+    /// The number of bytes that are read.
+    pub fn place(&self) -> u64
+        ensures value { result ≡ self.now.place }
+        ensures within { result ≤ length self.now.bytes }
+    {
+        self.place as u64
+    }
+
+    /// All the bytes, read or not: the place of a fault at the end is their number.
+    pub fn bytes(&self) -> &'a [u8]
+        ensures { result.now ≡ self.now.bytes }
+    {
+        self.bytes
+    }
+
+    /// The bytes of a span.
+    pub fn text(&self, span: &Span) -> &'a [u8]
+        requires ordered { span.now.start ≤ span.now.«end» }
+        requires within { span.now.«end» ≤ length self.now.bytes }
+        ensures { result.now ≡ text_of self.now span.now }
+    {
+        &self.bytes[span.start as usize..span.end as usize]
+    }
+
+    /// The next word: the blanks in front of it are passed over.
+    #[tactic(auto, unfolding(crate::specs::Words::word_at))]
+    pub fn word(&mut self) -> Option<Span>
+        ensures value { Finds result self.old self.new (word_at self.old) }
+        ensures some { IfSome result (IsWordAt self.old self.new) }
+        ensures none { IsNone result ↔ IsBlank (rest_of self.old) }
+
+        // Where the word lies.
+        ensures long { IfSome result (λ span. span.start < span.«end») }
+        ensures within { IfSome result (λ span. span.«end» ≤ length self.old.bytes) }
+
+        // The bytes stay, and the place rises.
+        ensures kept { self.new.bytes ≡ self.old.bytes }
+        ensures onward { self.old.place ≤ self.new.place }
+        ensures at_most { self.new.place ≤ length self.old.bytes }
+    {
+        let span = self.ahead()?;
+        self.place = span.end as usize;
+        Some(span)
+    }
+
+    // The word that `word` finds.
+    #[tactic(auto, unfolding(crate::specs::Words::word_at))]
+    fn ahead(&self) -> Option<Span>
+        ensures value { result ≡ option_map (λ found. found.0) (word_at self.now) }
+        ensures none { IsNone result ↔ IsBlank (rest_of self.now) }
+        ensures ahead { IfSome result (λ span. self.now.place ≤ span.start) }
+        ensures long { IfSome result (λ span. span.start < span.«end») }
+        ensures within { IfSome result (λ span. span.«end» ≤ length self.now.bytes) }
+    {
+        let rest = &self.bytes[self.place..];
+        let gap = blanks(rest);
+        let len = word_len(&rest[gap..]);
+        if len == 0 {
+            return None;
+        }
+        let start = self.place + gap;
+        Some(Span {
+            start: start as u64,
+            end: (start + len) as u64,
+        })
+    }
+
+    /// The bytes up to the next newline, which is passed over.
+    #[tactic(auto, unfolding(crate::specs::Words::line_at))]
+    pub fn line(&mut self) -> Option<Span>
+        ensures value { Finds result self.old self.new (line_at self.old) }
+        ensures some { IfSome result (IsLineAt self.old self.new) }
+        ensures none { IsNone result ↔ HasNoNewline (rest_of self.old) }
+
+        // Where the line lies.
+        ensures ordered { IfSome result (λ span. span.start ≤ span.«end») }
+        ensures within { IfSome result (λ span. span.«end» ≤ length self.old.bytes) }
+
+        // The bytes stay, and the place rises.
+        ensures kept { self.new.bytes ≡ self.old.bytes }
+        ensures onward { self.old.place ≤ self.new.place }
+        ensures at_most { self.new.place ≤ length self.old.bytes }
+    {
+        let start = self.place;
+        let len = line_len(&self.bytes[start..])?;
+        let end = start + len;
+        self.place = end + 1;
+        Some(Span {
+            start: start as u64,
+            end: end as u64,
+        })
+    }
+
+    /// The next word, as a whole number.
+    #[tactic(auto, unfolding(crate::specs::Words::word_at, crate::specs::Numbers::whole_at))]
+    pub fn whole(&mut self) -> Result<i128, FileFault>
+        ensures value { Gives result self.old self.new (whole_at self.old) }
+        ensures ok { IfOk result (IsNumberAt self.old self.new) }
+        ensures truncated { (result ≡ Err (fault_at Truncated (length self.old.bytes)))
+            ↔ IsBlank (rest_of self.old) }
+
+        // The bytes stay, and the place rises.
+        ensures kept { self.new.bytes ≡ self.old.bytes }
+        ensures onward { self.old.place ≤ self.new.place }
+        ensures at_most { self.new.place ≤ length self.old.bytes }
+    {
+        let Some(span) = self.ahead() else {
+            return Err(FileFault {
+                kind: FileKind::Truncated,
+                place: self.bytes.len() as u64,
+            });
+        };
+        let n = number(self.text(&span), span.start)?;
+        self.place = span.end as usize;
+        Ok(n)
+    }
+
+    /// Moves behind the next newline, in front of which only spaces, tabs and carriage returns may
+    /// stand.
+    #[tactic(auto, unfolding(crate::specs::Words::line_end_at))]
+    pub fn line_end(&mut self) -> Result<(), FileFault>
+        ensures value { Gives result self.old self.new (line_end_at self.old) }
+        ensures ok { OnOk result (IsLineEndAt self.old self.new) }
+        ensures truncated { (result ≡ Err (fault_at Truncated (length self.old.bytes)))
+            ↔ IsFiller (rest_of self.old) }
+
+        // The bytes stay, and the place rises.
+        ensures kept { self.new.bytes ≡ self.old.bytes }
+        ensures onward { self.old.place ≤ self.new.place }
+        ensures at_most { self.new.place ≤ length self.old.bytes }
+    {
+        let rest = &self.bytes[self.place..];
+        let place = self.place + fillers(rest);
+        if place == self.bytes.len() {
+            return Err(FileFault {
+                kind: FileKind::Truncated,
+                place: place as u64,
+            });
+        }
+        if self.bytes[place] != b'\n' {
+            return Err(FileFault {
+                kind: FileKind::Keyword,
+                place: place as u64,
+            });
+        }
+        self.place = place + 1;
+        Ok(())
+    }
+}

@@ -1,0 +1,26 @@
+//! Words, lines and whole numbers of a text, read once from the front.
+//!
+//! Contract: each reader gives just what a definition on the bytes gives, or the fault that it
+//! gives, and a refused call leaves the place. Definitions: `specs/`; the rule is that of
+//! docs/FORMATS.md, "Reading".
+#![tactic(auto)]
+
+mod fault;
+mod laws;
+mod lexer;
+mod number;
+mod put;
+mod scan;
+mod span;
+
+pub use fault::{FileFault, FileKind};
+pub use laws::{
+    ends_lines_only, finds_each_line, finds_each_word, finds_lines_only, finds_words_only,
+    reads_each_number, reads_what_is_written,
+};
+pub use lexer::Lexer;
+pub use put::put_whole;
+pub use span::Span;
+
+#[cfg(test)]
+mod tests;

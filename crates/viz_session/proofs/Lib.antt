@@ -1,0 +1,4 @@
+pub mod ValuesLoop
+pub mod WriteLemmas
+pub mod CommandLemmas
+pub mod RunLemmas

@@ -1,0 +1,7 @@
+use Rattle.std.proofs.Common.{◌≡◌, ◌+◌, drop}
+use Rattle.viz_session.specs.FirstForm.{digits_len}
+use Rattle.viz_session.proofs.read.digits.Given as goal
+
+-- digits so far, and those in front of what is left
+abbrev pub invariant-loop-i : goal.invariant-loop-i
+invariant-loop-i l = l.i + digits_len (drop l.i l.text) ≡ digits_len l.text

@@ -1,0 +1,12 @@
+pub mod Image
+pub mod Reads
+pub mod FirstForm
+pub mod Grammar
+pub mod Threshold
+pub mod Written
+pub mod Command
+pub mod Commands
+pub mod Report
+pub mod Fixed
+pub mod Account
+pub mod Made

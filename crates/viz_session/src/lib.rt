@@ -1,0 +1,19 @@
+//! The commands of the program, from their words to the status.
+#![tactic(auto)]
+
+mod command;
+mod image;
+mod once;
+mod outcome;
+mod read;
+mod report;
+mod session;
+mod stop;
+mod threshold;
+mod write;
+
+pub use outcome::Status;
+pub use session::run;
+
+#[cfg(test)]
+mod tests;

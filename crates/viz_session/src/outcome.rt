@@ -1,0 +1,41 @@
+//! How a run ended, and the status that tells it.
+
+use viz_lex::FileFault;
+
+/// How a run ended. Its codes are 0 to 5, in this order.
+#[derive(Clone, Copy, PartialEq, Eq, Debug)]
+pub enum Status {
+    /// All was done.
+    Done,
+    /// The words are no command.
+    Usage,
+    /// There is no port for the command.
+    Script,
+    /// The line put says `refused`.
+    Refused,
+    /// A count of faults of a port or of the output rose.
+    Fault,
+    /// Want of memory.
+    Memory,
+}
+
+/// What a run found, before its line is put.
+#[derive(Clone, Copy, PartialEq, Eq, Debug)]
+pub enum Outcome {
+    /// The words are no command.
+    Usage,
+    /// No port is there.
+    NoPort,
+    /// The file was written, with so many cells and points.
+    Written { cells: u64, points: u64 },
+    /// The file that was read isn't of the first form: its first fault.
+    BadFile(FileFault),
+    /// The file that was to be read is too long.
+    TooLong,
+    /// The read failed.
+    ReadFault,
+    /// The write failed.
+    WriteFault,
+    /// Want of memory.
+    Memory,
+}

@@ -1,0 +1,13 @@
+#!/usr/bin/env bash
+# Builds the program and thresholds the example; `out` is never committed.
+set -eu
+cd "$(dirname "$0")/crates/viz_cli"
+rt run > out.log 2>&1 || [ -x out/viz_cli ] || { cat out.log; rm -f out.log; exit 1; }
+rm -f out.log
+cp data/b.vtk out/
+cd out
+echo '$ vizrun once b.vtk o.vtk threshold 2 3'
+./viz_cli once b.vtk o.vtk threshold 2 3
+echo '$ cat o.vtk'
+cat o.vtk
+echo "The program is $PWD/viz_cli; it reads and writes files of the folder that it is started in."
