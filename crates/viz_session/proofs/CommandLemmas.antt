@@ -1,6 +1,6 @@
 -- The words of a command: file names are text, and numbers are read as a lexer reads them.
-use Rattle.std.proofs.Common.{◌≡◌, ◌≢◌, ◌⊎◌, ℕ, ℤ, pos, negsuc, ◌+◌, ◌^◌, ◌<◌, ◌≤◌, Bool, true, false, cond, List, [], ◌∷◌, ◌++◌, length, All, Option, Some, None, Result, Ok, Err, refl, sym, ap, ◌∙◌, zero-add, inl, inr, arith, rules}
-use Rattle.std.specs.Prelude.{ok_or, option_and_then, nat_lt, nat_le, ◌==◌, ◌&&◌, ◌||◌}
+use Rattle.std.proofs.Common.{◌≡◌, ℕ, ℤ, pos, negsuc, ◌<◌, Bool, true, false, cond, List, [], ◌∷◌, length, All, Option, Some, None, Result, Ok, Err, refl, sym, ap, ◌∙◌, zero-add, arith}
+use Rattle.std.specs.Prelude.{ok_or, option_and_then}
 use Rattle.std.specs.List.{list_all}
 use Rattle.std.specs.Str.{IsUtf8, IsAscii}
 use Rattle.std.proofs.lemmas.Bool.{and_parts}
@@ -12,10 +12,10 @@ use Rattle.std.proofs.lemmas.Str.Ascii.{IsAscii-nil, IsAscii-cons}
 use Rattle.viz_lex.specs.declared.fault.FileFault.{FileFault}
 use Rattle.viz_lex.specs.declared.fault.FileKind.TheVariants.{Number, ValueRange}
 use Rattle.viz_lex.specs.Reading.{Reading, advanced, fault_at, ◌>>=◌}
-use Rattle.viz_lex.specs.Words.{is_blank, word_at, IsWord, IsNextWord}
-use Rattle.viz_lex.specs.Numbers.{is_digit, whole_of, fits_i128, number_at, whole_at}
+use Rattle.viz_lex.specs.Words.{is_blank, word_at, IsNextWord}
+use Rattle.viz_lex.specs.Numbers.{whole_of, fits_i128, number_at, whole_at}
 use Rattle.viz_lex.proofs.NumberLemmas.{whole_at-next}
-use Rattle.viz_session.specs.Command.{is_name_byte, is_file_byte, is_file_name, is_number_byte, fits_i64, number_of}
+use Rattle.viz_session.specs.Command.{is_file_byte, is_file_name, is_number_byte, fits_i64, number_of}
 
 -- ---- file names
 

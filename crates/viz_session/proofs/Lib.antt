@@ -2,3 +2,17 @@ pub mod ValuesLoop
 pub mod WriteLemmas
 pub mod CommandLemmas
 pub mod RunLemmas
+pub mod GrammarMagic
+pub mod GrammarWords
+pub mod GrammarNumbers
+pub mod GrammarValues
+pub mod GrammarLines
+pub mod GrammarAccepts
+pub mod GrammarFinds
+pub mod GrammarFile
+pub mod PromiseLemmas
+pub mod EndLemmas
+pub mod RunPromises
+pub mod RefusalPromises
+pub mod ExactPromises
+pub mod StandardFacts

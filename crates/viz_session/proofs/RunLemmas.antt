@@ -1,5 +1,5 @@
 -- What the outcome of a run says of its words.
-use Rattle.std.proofs.Common.{◌≡◌, ◌↔◌, ℕ, Bool, List, [], ◌∷◌, Option, Some, None, refl, sym, subst}
+use Rattle.std.proofs.Common.{◌≡◌, ◌↔◌, ℕ, Bool, List, [], ◌∷◌, Option, Some, None, refl, subst}
 use Rattle.viz_base.specs.Files.{Files}
 use Rattle.viz_base.specs.declared.call.Call.{Call}
 use Rattle.viz_session.specs.declared.outcome.Outcome.{Outcome}

@@ -4,7 +4,7 @@ use Rattle.std.proofs.lemmas.List.{append-nil}
 use Rattle.viz_lex.specs.declared.fault.FileFault.{FileFault}
 use Rattle.viz_lex.specs.Reading.{Reading, ◌>>=◌}
 use Rattle.viz_session.specs.declared.stop.ReadStop.{ReadStop}
-use Rattle.viz_session.specs.declared.stop.ReadStop.TheVariants.{File, Memory}
+use Rattle.viz_session.specs.declared.stop.ReadStop.TheVariants.{File}
 use Rattle.viz_session.specs.Reads.{Stops}
 use Rattle.viz_session.specs.FirstForm.{value_at, values_at}
 

@@ -1,5 +1,5 @@
 -- Texts that grow at their end, row after row.
-use Rattle.std.proofs.Common.{◌≡◌, ℕ, ℤ, suc, ◌-◌, ◌+◌, ◌<◌, List, [], ◌∷◌, ◌++◌, length, min, get_or, take, drop, set, refl, sym, ap, ◌∙◌, append_assoc, arith}
+use Rattle.std.proofs.Common.{◌≡◌, ℕ, ℤ, suc, ◌-◌, ◌+◌, ◌<◌, List, [], ◌∷◌, ◌++◌, length, min, get_or, take, drop, set, sym, ap, ◌∙◌, append_assoc, arith}
 use Rattle.std.specs.Prelude.{map}
 use Rattle.std.proofs.lemmas.List.{take_min, drop_min, set_at, get_or_at, drop_more, take_more, map_push, length-map, length-take-le}
 use Rattle.viz_session.specs.Written.{row_text, rows_text}

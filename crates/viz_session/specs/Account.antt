@@ -1,7 +1,5 @@
 -- What a run did to the outside: calls of a port, files, and the text put (docs/DEFINITIONS.md, "The account of a command").
-use Rattle.std.specs.Prelude.{◌≡◌, ℕ, ◌≤◌, Bool, List, [], ◌∷◌, ◌++◌, ◌⊎◌, ◌↔◌, Result, Ok, Err, Option, Some, None, IsTrue}
-use Rattle.viz_lex.specs.declared.fault.FileFault.{FileFault}
-use Rattle.viz_lex.specs.Reading.{◌>>=◌}
+use Rattle.std.specs.Prelude.{◌≡◌, ℕ, ◌≤◌, Bool, List, [], ◌∷◌, ◌++◌, ◌⊎◌, ◌↔◌, Ok, Err, Option, Some, None, IsTrue}
 use Rattle.viz_base.specs.Faults.{Rose}
 use Rattle.viz_base.specs.Files.{Files, SameFiles, SameOthers, KeepsPrefix}
 use Rattle.viz_base.specs.Texts.{AppendsPrefix}
@@ -99,17 +97,17 @@ Settles found o = o ≡ found
 abbrev pub TellsAll : Outcome → Status → List ℕ → List ℕ → Type 0
 TellsAll o ended old new = (ended ≡ status_of o) × (new ≡ old ++ line_of o)
 
--- the put failed behind some first bytes of the line
-abbrev pub TellsPart : Outcome → Status → List ℕ → List ℕ → Type 0
-TellsPart o ended old new = (ended ≡ status_at_fault o) × AppendsPrefix old (line_of o) new
+-- the put failed behind some first bytes of the line, and the count rose
+abbrev pub TellsPart : Outcome → Status → List ℕ → List ℕ → ℕ → ℕ → Type 0
+TellsPart o ended old new before after = (ended ≡ status_at_fault o) × Rose before after × AppendsPrefix old (line_of o) new
 
 -- memory ran out at the put
 abbrev pub TellsNothing : Outcome → Status → List ℕ → List ℕ → Type 0
 TellsNothing o ended old new = (ended ≡ status_at_memory o) × (new ≡ old)
 
 -- one of these
-abbrev pub Tells : Outcome → Status → List ℕ → List ℕ → Type 0
-Tells o ended old new = TellsAll o ended old new ⊎ (TellsPart o ended old new ⊎ TellsNothing o ended old new)
+abbrev pub Tells : Outcome → Status → List ℕ → List ℕ → ℕ → ℕ → Type 0
+Tells o ended old new before after = TellsAll o ended old new ⊎ (TellsPart o ended old new before after ⊎ TellsNothing o ended old new)
 
 -- the read or the write failed
 abbrev pub IsPortFault : Outcome → Type 0
@@ -119,7 +117,7 @@ IsPortFault o = ⊥
 
 -- what a run put, and its status
 pub record IsReported (tells_text : Bool) (found : Outcome) (ended : Status) (old_text new_text : List ℕ) (old_faults new_faults : ℕ) : Type 0 where
-  pub told : IsTrue tells_text → (o : Outcome) × Settles found o × Tells o ended old_text new_text
+  pub told : IsTrue tells_text → (o : Outcome) × Settles found o × Tells o ended old_text new_text old_faults new_faults
   pub usage : (ended ≡ status.Usage) ↔ (found ≡ outcome.Usage)
   pub cause : ended ≡ status.Fault → IsPortFault found ⊎ Rose old_faults new_faults
   pub later : old_faults ≤ new_faults

@@ -1,9 +1,8 @@
 -- The first form of an image file in the format's own words, on no reader (VTK User's Guide, "Simple legacy formats"; docs/FORMATS.md, "First form").
-use Rattle.std.specs.Prelude.{◌≡◌, ◌≢◌, ℕ, ℤ, true, pos, ◌^◌, ◌<◌, ◌≤◌, List, [], ◌∷◌, ◌++◌, length, map, All, codes, Option, Some, Result, Ok, negsuc, unsigned_abs}
+use Rattle.std.specs.Prelude.{◌≡◌, ◌≢◌, ℕ, ℤ, true, pos, ◌^◌, ◌<◌, ◌≤◌, List, [], ◌∷◌, ◌++◌, length, All, codes, Some, Ok, negsuc, unsigned_abs}
 use Rattle.std.specs.Str.{str_to_ascii_lowercase}
 use Rattle.viz_lex.specs.Words.{IsBlank, IsNextWord}
 use Rattle.viz_lex.specs.Numbers.{is_digit, whole_of}
-use Rattle.viz_session.specs.declared.image.Sizes.{Sizes}
 use Rattle.viz_session.specs.declared.image.Vector.{Vector}
 use Rattle.viz_session.specs.Image.{Image, AreSizes, point_count}
 use Rattle.viz_session.specs.FirstForm.{image_of}

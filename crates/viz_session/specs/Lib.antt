@@ -7,6 +7,6 @@ pub mod Written
 pub mod Command
 pub mod Commands
 pub mod Report
-pub mod Fixed
 pub mod Account
+pub mod Promises
 pub mod Made

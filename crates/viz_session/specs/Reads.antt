@@ -1,12 +1,12 @@
 -- What a reader of the code gave, beside what reading gives (docs/DEFINITIONS.md, "Reading").
-use Rattle.std.specs.Prelude.{◌≡◌, ℕ, ◌*◌, List, Result, Ok, Err}
+use Rattle.std.specs.Prelude.{◌≡◌, Result, Ok, Err}
 use Rattle.viz_lex.specs.declared.fault.FileFault.{FileFault}
 use Rattle.viz_lex.specs.Reading.{Reading}
 use Rattle.viz_session.specs.declared.image.IntImage.{IntImage}
 use Rattle.viz_session.specs.declared.stop.ReadStop.{ReadStop}
 use Rattle.viz_session.specs.declared.stop.ReadStop.TheVariants.{File, Memory}
-use Rattle.viz_session.specs.declared.read.ImageHeader.{ImageHeader}
-use Rattle.viz_session.specs.FirstForm.{Header}
+use Rattle.viz_session.specs.declared.read.header.ImageHeader.{ImageHeader}
+use Rattle.viz_session.specs.FirstForm.Header.{Header}
 use Rattle.viz_session.specs.Image.{Image}
 
 -- a value, seen by view, and the new place; or the fault

@@ -1,5 +1,5 @@
 -- The line that a run puts, and its status (docs/FORMATS.md, "Report").
-use Rattle.std.specs.Prelude.{◌≡◌, ℕ, List, ◌++◌, codes}
+use Rattle.std.specs.Prelude.{ℕ, List, ◌++◌, codes}
 use Rattle.std.specs.Fmt.{decimal}
 use Rattle.viz_session.specs.declared.outcome.Outcome.{Outcome}
 use Rattle.viz_session.specs.declared.outcome.Outcome.TheVariants as outcome
@@ -71,3 +71,8 @@ status_at_fault o = status.Fault
 abbrev pub status_at_memory : Outcome → Status
 status_at_memory outcome.Usage = status.Usage
 status_at_memory o = status.Memory
+
+-- any outcome but a written file has a line without numbers
+abbrev pub IsFixed : Outcome → Type 0
+IsFixed (outcome.Written cells points) = ⊥
+IsFixed o = Unit {0}

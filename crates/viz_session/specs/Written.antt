@@ -1,7 +1,7 @@
 -- The text of a written image (VTK User's Guide, "Simple legacy formats"; docs/FORMATS.md, "Written files").
-use Rattle.std.specs.Prelude.{ℕ, ℤ, pos, zero, suc, ◌*◌, List, [], ◌∷◌, ◌++◌, take, drop, map, codes}
+use Rattle.std.specs.Prelude.{ℕ, ℤ, pos, zero, suc, ◌*◌, List, [], ◌∷◌, ◌++◌, take, drop, codes}
 use Rattle.std.specs.List.{flat_map}
-use Rattle.std.specs.Fmt.{decimal, signed_decimal}
+use Rattle.std.specs.Fmt.{signed_decimal}
 use Rattle.viz_session.specs.declared.image.Sizes.{Sizes}
 use Rattle.viz_session.specs.declared.image.Vector.{Vector}
 use Rattle.viz_session.specs.Image.{Image, point_count}

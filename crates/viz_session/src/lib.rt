@@ -3,6 +3,7 @@
 
 mod command;
 mod image;
+mod laws;
 mod once;
 mod outcome;
 mod read;
@@ -12,6 +13,7 @@ mod stop;
 mod threshold;
 mod write;
 
+pub use laws::first_form_is_read;
 pub use outcome::Status;
 pub use session::run;
 

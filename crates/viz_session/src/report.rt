@@ -1,9 +1,8 @@
 //! The line that a run puts, and its status (docs/FORMATS.md, "Report").
 
 ghost use Rattle.std.specs.Prelude.{◌≡◌, ◌≤◌, ◌⊎◌, ◌↔◌, IsTrue, IfOk};
-ghost use Rattle.viz_session.specs.Report.{line_of, file_line, status_of, status_at_fault, status_at_memory};
+ghost use Rattle.viz_session.specs.Report.{IsFixed, line_of, file_line, status_of, status_at_fault, status_at_memory};
 ghost use Rattle.viz_session.specs.Account.{Tells, IsPortFault, IsReported};
-ghost use Rattle.viz_session.specs.Fixed.{IsFixed};
 ghost use Rattle.viz_base.specs.Faults.{Rose};
 
 use crate::outcome::{Outcome, Status};
@@ -79,7 +78,7 @@ fn file_line(alloc: Global, cells: u64, points: u64) -> Result<Vec<u8>, AllocErr
 /// Puts a line once.
 fn put<O: Out>(alloc: Global, out: &mut O, outcome: &Outcome, line: &[u8]) -> Status
     requires { line.now ≡ line_of outcome.now }
-    ensures told { IsTrue O.tells_text → Tells outcome.now result (O.text out.old) (O.text out.new) }
+    ensures told { IsTrue O.tells_text → Tells outcome.now result (O.text out.old) (O.text out.new) (O.faults out.old) (O.faults out.new) }
     ensures usage { (result ≡ Status.Usage) ↔ (outcome.now ≡ Outcome.Usage) }
     ensures cause { result ≡ Status.Fault → IsPortFault outcome.now ⊎ Rose (O.faults out.old) (O.faults out.new) }
     ensures later { O.faults out.old ≤ O.faults out.new }

@@ -2,8 +2,8 @@ use Rattle.std.proofs.Common.{◌≡◌, true, sym, ap, ◌∙◌, drop}
 use Rattle.std.specs.Prelude.{Bool, ◌&&◌, nat_eq}
 use Rattle.std.specs.List.{starts_with}
 use Rattle.std.proofs.lemmas.List.{take_rest}
-use Rattle.viz_session.specs.FirstForm.{magic, is_version}
-use Rattle.viz_session.proofs.read.is_magic.Goals as goal
+use Rattle.viz_session.specs.FirstForm.Magic.{magic, is_version}
+use Rattle.viz_session.proofs.read.magic.is_magic.Goals as goal
 
 pub returns-then-starts_with : goal.returns-then-starts_with
 returns-then-starts_with c =
