@@ -1,2 +1,3 @@
 pub mod PaddingLemmas
 pub mod EntriesLemmas
+pub mod ReadersLemmas

@@ -10,7 +10,7 @@ padded_more text i n within room =
     let left : n - i ≡ suc (n - (i + 1)) = omega arith in
     let len : length (take i text) ≡ i = length-take-le i text (omega arith) in
     let zeros : replicate (n - i) 0 ≡ 0 ∷ replicate (n - (i + 1)) 0 = ap (λ (m : ℕ). replicate m 0) left in
-    ap (λ (zs : List ℕ). set (take i text ++ zs) i (get_or text i 0)) zeros
+    ap (λ (zs : List ℕ). set (take i text ++ zs) i (get_or text i 0)) {y = 0 ∷ replicate (n - (i + 1)) 0} zeros
     ∙ set_at (take i text) 0 (replicate (n - (i + 1)) 0) (get_or text i 0) i len
     ∙ sym (ap (λ (front : List ℕ). front ++ replicate (n - (i + 1)) 0) (take_more text i 0 within) ∙ append_assoc (take i text) (get_or text i 0 ∷ []) (replicate (n - (i + 1)) 0))
 

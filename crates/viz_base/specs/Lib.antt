@@ -2,6 +2,7 @@ pub mod Names
 pub mod Padding
 pub mod Faults
 pub mod Refusals
+pub mod Readers
 pub mod Files
 pub mod Entries
 pub mod Calls

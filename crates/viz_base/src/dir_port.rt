@@ -1,7 +1,10 @@
 //! The port to a real folder: a trusted edge, which tells neither files nor calls.
 
-ghost use Rattle.std.specs.Prelude.{◌≡◌, ◌+◌, ◌≤◌, ◌++◌, [], false, None, length, vec_len, string_bytes, codes, IfOk};
+ghost use Rattle.std.specs.Prelude.{◌≡◌, ℕ, ◌+◌, ◌<◌, ◌≤◌, ◌++◌, [], false, None, length, take, drop, vec_len, string_bytes, codes, IfOk, OnOk, IfSome, IsErrOf};
+ghost use Rattle.std.specs.Io.{ReadsAtMost};
+ghost use Rattle.std.specs.Io.KnownBytes.{Consumes, Appends, IsAtEnd};
 ghost use Rattle.viz_base.specs.Refusals.{IsWithin, NeverTooLong};
+ghost use Rattle.viz_base.specs.Readers.{Gains};
 
 use crate::bytes::Bytes;
 use crate::port::Port;
@@ -30,7 +33,11 @@ impl<'a, R: Files + Sync> Model for DirPort<'a, R> {
 
     ghost Value = { Folder };
 
-    ghost view = { λ p. record { path = string_bytes p.folder; limit = p.limit; faults = p.faults } };
+    ghost view = { λ p. record {
+      path = string_bytes p.folder;
+      limit = p.limit;
+      faults = p.faults;
+    } };
 }
 
 // Where the file of this name lies.
@@ -40,14 +47,16 @@ fn path_of(alloc: Global, folder: &str, name: &str) -> Result<String, AllocError
     format!(in alloc; "{folder}/{name}")
 }
 
-// One real read behind the first `start` bytes, tried again where a signal interrupts it.
-fn read_at<F: Read>(file: &mut F, bytes: &mut [u8], start: usize) -> Result<usize, ReadRefusal>
-    requires { start ≤ length bytes.old }
-    ensures within { IfOk result (λ n. start + n ≤ length bytes.new) }
+// One real read, tried again where a signal interrupts it.
+fn read_some<F: Read>(file: &mut F, bytes: &mut [u8]) -> Result<usize, ReadRefusal>
+    ensures within { ReadsAtMost result bytes.new }
+    ensures taken { IfOk result (λ n.
+        Consumes (F.remaining file.old) (F.remaining file.new) (take n bytes.new)) }
+    ensures end { IfOk result (λ n. n ≡ 0 → 0 < length bytes.new → IsAtEnd (F.remaining file.new)) }
     ensures refused { NeverTooLong result }
 {
     for _ in 0..u64::MAX {
-        match file.read(&mut bytes[start..]) {
+        match file.read(bytes) {
             Ok(n) => return Ok(n),
             Err(e) if e.kind() == ErrorKind::Interrupted => {}
             Err(_) => return Err(ReadRefusal::Failed),
@@ -56,9 +65,24 @@ fn read_at<F: Read>(file: &mut F, bytes: &mut [u8], start: usize) -> Result<usiz
     Err(ReadRefusal::Failed)
 }
 
+// One real read behind the first `start` bytes.
+fn read_at<F: Read>(file: &mut F, bytes: &mut [u8], start: usize) -> Result<usize, ReadRefusal>
+    requires { start < length bytes.old }
+    ensures front { take start bytes.new ≡ take start bytes.old }
+    ensures within { IfOk result (λ n. start + n ≤ length bytes.new) }
+    ensures taken { IfOk result (λ n.
+        Consumes (F.remaining file.old) (F.remaining file.new) (take n (drop start bytes.new))) }
+    ensures end { IfOk result (λ n. n ≡ 0 → IsAtEnd (F.remaining file.new)) }
+    ensures refused { NeverTooLong result }
+{
+    read_some(file, &mut bytes[start..])
+}
+
 // How many bytes the next real read takes at most: what is reserved, if anything is.
 fn piece_of(bytes: &Vec<u8>, most: u64) -> usize
-    ensures { result ≤ most }
+    requires { 0 < most }
+    ensures some { 0 < result }
+    ensures within { result ≤ most }
 {
     let reserved = bytes.capacity().saturating_sub(bytes.len());
     let piece = if reserved == 0 {
@@ -71,12 +95,16 @@ fn piece_of(bytes: &Vec<u8>, most: u64) -> usize
 
 // Appends what one real read gives, at most so many bytes. It gives none at the end of the file.
 fn read_more<F: Read>(file: &mut F, bytes: &mut Vec<u8>, most: u64) -> Result<usize, ReadRefusal>
-    ensures len { IfOk result (λ n. vec_len bytes.new ≡ vec_len bytes.old + n) }
+    requires { 0 < most }
+    ensures gains { IfOk result (Gains (F.remaining file.old) (F.remaining file.new)
+        bytes.old.items bytes.new.items) }
     ensures within { IfOk result (λ n. n ≤ most) }
     ensures refused { NeverTooLong result }
 {
     let start = bytes.len();
-    let end = start.saturating_add(piece_of(bytes, most));
+    let Some(end) = start.checked_add(piece_of(bytes, most)) else {
+        return Err(ReadRefusal::Memory);
+    };
     if bytes.resize(end, 0).is_err() {
         return Err(ReadRefusal::Memory);
     }
@@ -87,8 +115,11 @@ fn read_more<F: Read>(file: &mut F, bytes: &mut Vec<u8>, most: u64) -> Result<us
 
 // The file's bytes from here to its end, if they are within the limit.
 fn read_rest<F: Read>(file: &mut F, mut bytes: Vec<u8>, limit: u64) -> Result<Bytes, ReadRefusal>
-    requires { vec_len bytes ≤ limit }
-    ensures { IsWithin limit result }
+    requires { bytes.items ≡ [] }
+    ensures all { IfOk result (λ b. IfSome (F.remaining file.old) (λ xs. b ≡ xs)) }
+    ensures within { IsWithin limit result }
+    ensures longer { (taken : ℕ) → IsErrOf result (ReadRefusal.TooLong taken)
+        → IfSome (F.remaining file.old) (λ xs. limit < length xs) }
 {
     for _ in 0..u64::MAX {
         let most = (limit - bytes.len() as u64).saturating_add(1);
@@ -126,7 +157,9 @@ fn read_file<R: Files>(rt: &R, alloc: Global, path: &str, limit: u64) -> Result<
 }
 
 // Writes all the bytes, in as many real writes as it takes.
-fn write_all<F: Write>(file: &mut F, bytes: &[u8]) -> Result<(), WriteRefusal> {
+fn write_all<F: Write>(file: &mut F, bytes: &[u8]) -> Result<(), WriteRefusal>
+    ensures { OnOk result (Appends (F.contents file.old) (F.contents file.new) bytes.now) }
+{
     let mut rest = bytes;
     for _ in 0..u64::MAX {
         if rest.is_empty() {

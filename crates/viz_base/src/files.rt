@@ -61,7 +61,8 @@ pub(crate) fn replace(
     name: &[u8],
     bytes: &[u8],
 ) -> Result<(), AllocError>
-    ensures ok { OnOk result (IsName name.now → Puts files.old.items files.new.items name.now bytes.now) }
+    ensures ok { OnOk result (IsName name.now
+        → Puts files.old.items files.new.items name.now bytes.now) }
     ensures no_name { (IsName name.now → ⊥) → files.new.items ≡ files.old.items }
     ensures err { OnErr result (files.new.items ≡ files.old.items) }
 {

@@ -2,7 +2,8 @@
 //!
 //! Contract: a fault of a port or an output comes only where its count of faults rose, and that
 //! count never falls; what a port read and wrote is told by its files and by the list of its calls.
-//! Definitions: `specs/Faults.antt`, `specs/Files.antt`, `specs/Calls.antt`, `specs/Texts.antt`.
+//! Definitions: `specs/Faults.antt`, `specs/Files.antt`, `specs/Calls.antt`, `specs/Texts.antt`;
+//! what the ports in memory answer stands in `specs/MemoryPort.antt` and `specs/NeverFails.antt`.
 #![tactic(auto)]
 
 mod bytes;

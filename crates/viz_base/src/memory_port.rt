@@ -34,7 +34,8 @@ pub struct FailAt {
 }
 
 /// A port to files in memory that keeps the list of its calls. The listed calls fail, and so do
-/// reads of a missing name and writes to a name that no file can have; each raises the count by one.
+/// reads of a missing name and writes to a name that no file can have. Each failure raises the
+/// count by one.
 #[derive(Debug, Drop)]
 pub struct MemoryPort {
     files: Vec<FileEntry>,
@@ -145,7 +146,8 @@ impl Port for MemoryPort {
     ghost faults = { λ port. port.faults };
 
     fn read(&mut self, alloc: Global, name: &str) -> Result<Bytes, ReadRefusal>
-        ensures answers { IsErrOf result ReadRefusal.Memory ⊎ (result ≡ next_read self.old name.now) }
+        ensures answers { IsErrOf result ReadRefusal.Memory
+            ⊎ (result ≡ next_read self.old name.now) }
 
         // The call and its failure are noted, and nothing else changes.
         ensures after { self.new ≡ record self.old {

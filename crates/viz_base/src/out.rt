@@ -20,10 +20,12 @@ pub trait Out {
 
     /// Appends the bytes.
     fn put(&mut self, alloc: Global, bytes: &[u8]) -> Result<(), WriteRefusal>
-        ensures appended { IsTrue tells_text → OnOk result (text self.new ≡ text self.old ++ bytes.now) }
+        ensures appended { IsTrue tells_text
+            → OnOk result (text self.new ≡ text self.old ++ bytes.now) }
 
         // The refusals.
-        ensures failed { IsErrOf result WriteRefusal.Failed → Rose (faults self.old) (faults self.new) }
+        ensures failed { IsErrOf result WriteRefusal.Failed
+            → Rose (faults self.old) (faults self.new) }
         ensures prefix { IsTrue tells_text → IsErrOf result WriteRefusal.Failed
             → AppendsPrefix (text self.old) bytes.now (text self.new) }
         ensures err { IsTrue tells_text → IsErrOf result WriteRefusal.Memory

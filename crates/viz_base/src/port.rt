@@ -10,8 +10,8 @@ use crate::bytes::Bytes;
 use crate::refusal::{ReadRefusal, WriteRefusal};
 use std::alloc::Global;
 
-/// A port to named files. What it tells, its files and its calls, is said of the type: an adapter to
-/// a real folder tells neither.
+/// A port to named files. What it tells, its files and its calls, is said of the type: an adapter
+/// to a real folder tells neither.
 pub trait Port {
     /// Whether the files are told.
     ghost tells_files: { Bool };
@@ -39,10 +39,12 @@ pub trait Port {
         // The refusals. A missing file is a failure, unless memory ran out before.
         ensures missing { IsTrue tells_files → files self.old name.now ≡ None
             → IsErrOf result ReadRefusal.Failed ⊎ IsErrOf result ReadRefusal.Memory }
-        ensures failed { IsErrOf result ReadRefusal.Failed → Rose (faults self.old) (faults self.new) }
+        ensures failed { IsErrOf result ReadRefusal.Failed
+            → Rose (faults self.old) (faults self.new) }
         ensures too_long { (taken : ℕ) → IsErrOf result (ReadRefusal.TooLong taken)
             → taken ≡ limit self.old + 1 }
-        ensures longer { IsTrue tells_files → (taken : ℕ) → IsErrOf result (ReadRefusal.TooLong taken)
+        ensures longer { IsTrue tells_files → (taken : ℕ)
+            → IsErrOf result (ReadRefusal.TooLong taken)
             → IsLonger (files self.old) name.now (limit self.old) }
 
         // What stays, and the list of calls.
@@ -55,10 +57,12 @@ pub trait Port {
 
     /// Replaces the file of this name by the bytes.
     fn write(&mut self, alloc: Global, name: &str, bytes: &[u8]) -> Result<(), WriteRefusal>
-        ensures written { IsTrue tells_files → OnOk result (files self.new name.now ≡ Some bytes.now) }
+        ensures written { IsTrue tells_files
+            → OnOk result (files self.new name.now ≡ Some bytes.now) }
 
         // The refusals.
-        ensures failed { IsErrOf result WriteRefusal.Failed → Rose (faults self.old) (faults self.new) }
+        ensures failed { IsErrOf result WriteRefusal.Failed
+            → Rose (faults self.old) (faults self.new) }
         ensures prefix { IsTrue tells_files → IsErrOf result WriteRefusal.Failed
             → KeepsPrefix name.now bytes.now (files self.new) }
         ensures err { IsTrue tells_files → IsErrOf result WriteRefusal.Memory

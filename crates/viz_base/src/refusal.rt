@@ -8,7 +8,7 @@ pub enum ReadRefusal {
     /// The read failed, as at a missing file; only where the port's count of faults rose.
     #[error("the read failed")]
     Failed,
-    /// The file has more bytes than the port's limit. The number is the limit plus one: so many were taken.
+    /// The file has more bytes than the port's limit. So many were taken: the limit plus one.
     #[error("the file is longer than the limit")]
     TooLong(u64),
     /// Want of memory.

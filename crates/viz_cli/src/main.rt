@@ -2,11 +2,10 @@
 #![tactic(auto)]
 
 use std::alloc::{AllocError, Global};
-use std::env;
-use std::io;
 use std::io::ErrorKind;
 use std::process::ExitCode;
 use std::rt::{Env, Files};
+use std::{env, io};
 use viz_base::{ACTORS, Bytes, DirPort, FILE_LIMIT, OpenGate, Out, StdOut};
 use viz_session::{Status, run};
 
@@ -53,6 +52,8 @@ fn main(rt: HostRuntime) -> ExitCode {
     let Ok(mut ports) = ports(&rt, alloc) else {
         return ExitCode::from(Status::Memory as u8);
     };
-    let status = run(&rt, alloc, &words, &mut desk, &mut ports, &mut out, &OpenGate);
+    let status = run(
+        &rt, alloc, &words, &mut desk, &mut ports, &mut out, &OpenGate,
+    );
     ExitCode::from(status as u8)
 }
