@@ -13,8 +13,8 @@ use Rattle.viz_session.specs.declared.outcome.Status.{Status}
 use Rattle.viz_session.specs.declared.outcome.Status.TheVariants as status
 use Rattle.viz_session.specs.Command.{Command}
 use Rattle.viz_session.specs.Report.{line_of, bad_file_line, too_long_line, read_fault_line, write_fault_line, no_port_line}
-use Rattle.viz_session.specs.Account.{IsServed, Runs, Settles, Tells}
-use Rattle.viz_session.specs.Promises.{IsRefused, IsFault, PutsLine, WantsPort, read_given, write_output}
+use Rattle.viz_session.specs.Account.{IsServed, Runs, Settles, Tells, Touches}
+use Rattle.viz_session.specs.Promises.{IsRefused, IsFault, FirstKeeps, PutsLine, WantsPort, read_given, write_output}
 use Rattle.viz_session.proofs.EndLemmas.{settled, memory_ends, refused_tells, fault_tells}
 use Rattle.viz_session.proofs.RunPromises.{gains, refused_image}
 
@@ -112,3 +112,27 @@ WantsPort-Runs S (Some d) found o [] new ended a b before after h settle tells =
 -- what other words put
 pub usage_told : (o : Outcome) (ended : Status) (a b : List ℕ) (before after : ℕ) → o ≡ outcome.Usage → Tells o ended a b before after → PutsLine (line_of outcome.Usage) a b before after
 usage_told o ended a b before after is tells = told_line outcome.Usage ended a b before after (subst (λ (x : Outcome). Tells x ended a b before after) is tells)
+
+-- ---- files
+
+keeps-Runs : {P : Type 0} (f t : Bool) (files : P → Files) (calls : P → List Call) (faults : P → ℕ) (words : Option Command) (o : Outcome) (old new : List P) → IsTrue f
+    → ((fault : FileFault) × (o ≡ outcome.BadFile fault)) ⊎ (o ≡ outcome.TooLong) → Runs (IsServed f t files calls faults) words o old new → FirstKeeps files old new
+keeps-Runs f t files calls faults None o old new told is h =
+    absurd (elim is [ inl bad ↦ (let e : outcome.BadFile bad.0 ≡ outcome.Usage = sym bad.1 ∙ h.0 in cc) | inr long ↦ (let e : outcome.TooLong ≡ outcome.Usage = sym long ∙ h.0 in cc) ])
+keeps-Runs f t files calls faults (Some c) o [] new told is h =
+    absurd (elim is [ inl bad ↦ (let e : outcome.BadFile bad.0 ≡ outcome.NoPort = sym bad.1 ∙ h.0 in cc) | inr long ↦ (let e : outcome.TooLong ≡ outcome.NoPort = sym long ∙ h.0 in cc) ])
+keeps-Runs f t files calls faults (Some c) o (p ∷ ps) [] told is h = absurd h
+keeps-Runs f t files calls faults (Some c) o (p ∷ ps) (q ∷ qs) told is h =
+    let T : Outcome → Type 0 = λ (x : Outcome). Touches c x (files p) (files q) in
+    (elim is [ inl bad ↦ subst T bad.1 (h.0.touched told) | inr long ↦ subst T long (h.0.touched told) ], h.1)
+
+pub FirstKeeps-Runs : {P : Type 0} (f t : Bool) (files : P → Files) (calls : P → List Call) (faults : P → ℕ) (words : Option Command) (found o : Outcome) (old new : List P) (ended : Status) (a b : List ℕ) (before after : ℕ)
+    → IsTrue f → Runs (IsServed f t files calls faults) words found old new → Settles found o → Tells o ended a b before after → ended ≡ status.Refused → FirstKeeps files old new
+FirstKeeps-Runs f t files calls faults words found o old new ended a b before after told h settle tells is =
+    elim (settled found o settle) [
+      | inl same ↦ elim (refused_tells o ended a b before after tells is) [
+        | inl bad ↦ keeps-Runs f t files calls faults words found old new told (inl (bad.0, sym same ∙ bad.1)) h
+        | inr long ↦ keeps-Runs f t files calls faults words found old new told (inr (sym same ∙ long.0)) h
+      ]
+      | inr memory ↦ absurd (let e : status.Memory ≡ status.Refused = sym (memory_ends ended a b before after (subst (λ (x : Outcome). Tells x ended a b before after) memory tells)) ∙ is in cc)
+    ]

@@ -114,6 +114,10 @@ abbrev pub WantsPort : {P : Type 0} → Option Command → List P → Status →
 WantsPort words old ended old_text new_text old_faults new_faults =
     (c : Command) → words ≡ Some c → old ≡ [] → ((ended ≡ status.Script) ⊎ (ended ≡ status.Memory)) × PutsLine no_port_line old_text new_text old_faults new_faults
 
+-- the first port's files are as before
+abbrev pub FirstKeeps : {P : Type 0} → (P → Files) → List P → List P → Type 0
+FirstKeeps files old new = FirstOnly (λ p q. SameFiles (files p) (files q)) old new
+
 -- the first port's count rose
 abbrev pub FirstRose : {P : Type 0} → (P → ℕ) → List P → List P → Type 0
 FirstRose faults old new = FirstOnly (λ p q. Rose (faults p) (faults q)) old new

@@ -78,9 +78,11 @@ fn file_line(alloc: Global, cells: u64, points: u64) -> Result<Vec<u8>, AllocErr
 /// Puts a line once.
 fn put<O: Out>(alloc: Global, out: &mut O, outcome: &Outcome, line: &[u8]) -> Status
     requires { line.now ≡ line_of outcome.now }
-    ensures told { IsTrue O.tells_text → Tells outcome.now result (O.text out.old) (O.text out.new) (O.faults out.old) (O.faults out.new) }
+    ensures told { IsTrue O.tells_text → Tells outcome.now result
+        (O.text out.old) (O.text out.new) (O.faults out.old) (O.faults out.new) }
     ensures usage { (result ≡ Status.Usage) ↔ (outcome.now ≡ Outcome.Usage) }
-    ensures cause { result ≡ Status.Fault → IsPortFault outcome.now ⊎ Rose (O.faults out.old) (O.faults out.new) }
+    ensures cause { result ≡ Status.Fault
+        → IsPortFault outcome.now ⊎ Rose (O.faults out.old) (O.faults out.new) }
     ensures later { O.faults out.old ≤ O.faults out.new }
 {
     match out.put(alloc, line) {
@@ -92,7 +94,8 @@ fn put<O: Out>(alloc: Global, out: &mut O, outcome: &Outcome, line: &[u8]) -> St
 
 /// Puts the line of an outcome, once, and gives the status.
 pub fn report<O: Out>(alloc: Global, out: &mut O, outcome: &Outcome) -> Status
-    ensures { IsReported O.tells_text outcome.now result (O.text out.old) (O.text out.new) (O.faults out.old) (O.faults out.new) }
+    ensures { IsReported O.tells_text outcome.now result
+        (O.text out.old) (O.text out.new) (O.faults out.old) (O.faults out.new) }
 {
     if let Outcome::Written { cells, points } = outcome {
         return match file_line(alloc, *cells, *points) {

@@ -5,7 +5,7 @@ ghost use Rattle.viz_base.specs.Faults.{Rose};
 ghost use Rattle.viz_session.specs.declared.outcome.Outcome.{Outcome as Ended};
 ghost use Rattle.viz_session.specs.Account.{Runs, IsServed, IsReported};
 ghost use Rattle.viz_session.specs.Command.{command_of};
-ghost use Rattle.viz_session.specs.Promises.{PutsLine, WantsPort, OthersStay, CallsOnce, FilesOnce, IsDone, IsRefused, RefusesBadFiles, RefusesLongFiles, IsFault, FirstRose};
+ghost use Rattle.viz_session.specs.Promises.{PutsLine, WantsPort, OthersStay, CallsOnce, FilesOnce, IsDone, IsRefused, RefusesBadFiles, RefusesLongFiles, IsFault, FirstKeeps, FirstRose};
 ghost use Rattle.viz_session.specs.Report.{usage_line};
 
 use crate::command::command;
@@ -19,7 +19,8 @@ use viz_base::{Bytes, Gate, Out, Port};
 
 /// Serves the command by the first port, and calls no other.
 fn serve_first<P: Port>(alloc: Global, words: &[Bytes], ports: &mut [P]) -> Outcome
-    ensures { Runs (IsServed P.tells_files P.tells_calls P.files P.calls P.faults) (command_of words.now) result ports.old ports.new }
+    ensures { Runs (IsServed P.tells_files P.tells_calls P.files P.calls P.faults)
+        (command_of words.now) result ports.old ports.new }
 {
     let Some(once) = command(words) else {
         return Outcome::Usage;
@@ -32,7 +33,8 @@ fn serve_first<P: Port>(alloc: Global, words: &[Bytes], ports: &mut [P]) -> Outc
 
 /// The same over the list of ports.
 fn serve_words<P: Port>(alloc: Global, words: &[Bytes], ports: &mut Vec<P>) -> Outcome
-    ensures { Runs (IsServed P.tells_files P.tells_calls P.files P.calls P.faults) (command_of words.now) result ports.old.items ports.new.items }
+    ensures { Runs (IsServed P.tells_files P.tells_calls P.files P.calls P.faults)
+        (command_of words.now) result ports.old.items ports.new.items }
 {
     serve_first(alloc, words, ports.as_mut_slice())
 }
@@ -53,7 +55,8 @@ pub fn run<R: Threads + Wait + Sync, P: Port + Send + Drop, O: Out, G: Gate + Sy
     // The words.
     ensures usage { (result ≡ Status.Usage) ↔ (command_of words.now ≡ None) }
     ensures usage_line { IsTrue O.tells_text → command_of words.now ≡ None
-        → PutsLine usage_line (O.text out.old) (O.text out.new) (O.faults out.old) (O.faults out.new) }
+        → PutsLine usage_line
+        (O.text out.old) (O.text out.new) (O.faults out.old) (O.faults out.new) }
     ensures no_port { IsTrue O.tells_text
         → WantsPort (command_of words.now) ports.old.items result
         (O.text out.old) (O.text out.new) (O.faults out.old) (O.faults out.new) }
@@ -73,6 +76,8 @@ pub fn run<R: Threads + Wait + Sync, P: Port + Send + Drop, O: Out, G: Gate + Sy
     ensures refused { result ≡ Status.Refused → IsTrue P.tells_calls → IsTrue O.tells_text
         → IsRefused (IsTrue P.tells_files) P.files P.calls (command_of words.now)
         ports.old.items ports.new.items (O.text out.old) (O.text out.new) }
+    ensures kept { result ≡ Status.Refused → IsTrue P.tells_files → IsTrue O.tells_text
+        → FirstKeeps P.files ports.old.items ports.new.items }
     ensures bad_file { IsTrue P.tells_calls → IsTrue O.tells_text
         → RefusesBadFiles P.calls (command_of words.now) ports.old.items ports.new.items result
         (O.text out.old) (O.text out.new) (O.faults out.old) (O.faults out.new) }
@@ -83,12 +88,13 @@ pub fn run<R: Threads + Wait + Sync, P: Port + Send + Drop, O: Out, G: Gate + Sy
         → IsFault P.calls (command_of words.now) ports.old.items ports.new.items
         (O.text out.old) (O.text out.new) (O.faults out.old) (O.faults out.new) }
     ensures cause { result ≡ Status.Fault
-        → FirstRose P.faults ports.old.items ports.new.items ⊎ Rose (O.faults out.old) (O.faults out.new) }
+        → FirstRose P.faults ports.old.items ports.new.items
+        ⊎ Rose (O.faults out.old) (O.faults out.new) }
 
     // All of it at once: one outcome, what it did to the ports, and what was put of it.
     ensures account { (found : Ended)
-        × Runs (IsServed P.tells_files P.tells_calls P.files P.calls P.faults) (command_of words.now)
-        found ports.old.items ports.new.items
+        × Runs (IsServed P.tells_files P.tells_calls P.files P.calls P.faults)
+        (command_of words.now) found ports.old.items ports.new.items
         × IsReported O.tells_text found result
         (O.text out.old) (O.text out.new) (O.faults out.old) (O.faults out.new) }
 {

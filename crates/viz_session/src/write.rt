@@ -24,7 +24,8 @@ fn put_spaced(text: &mut Vec<u8>, n: &i64) -> Result<(), AllocError>
 /// A line of a word and three numbers.
 #[tactic(auto, unfolding(crate::specs::Written::numbers_line))]
 fn put_line(text: &mut Vec<u8>, word: &[u8], numbers: &Vector) -> Result<(), AllocError>
-    ensures { OnOk result (text.new.items ≡ text.old.items ++ numbers_line word.now (vector_numbers numbers.now)) }
+    ensures { OnOk result (text.new.items
+        ≡ text.old.items ++ numbers_line word.now (vector_numbers numbers.now)) }
 {
     text.extend_from_slice(word)?;
     put_spaced(text, &numbers.x)?;
@@ -123,7 +124,8 @@ fn put_spacing(text: &mut Vec<u8>, spacing: &Vector) -> Result<(), AllocError>
 /// The lines that say where the points are.
 #[tactic(auto, unfolding(crate::specs::Written::geometry_lines))]
 fn put_geometry(text: &mut Vec<u8>, image: &IntImage) -> Result<(), AllocError>
-    ensures { OnOk result (text.new.items ≡ text.old.items ++ geometry_lines (image_view image.now)) }
+    ensures { OnOk result (text.new.items
+        ≡ text.old.items ++ geometry_lines (image_view image.now)) }
 {
     put_dimensions(text, &image.sizes)?;
     put_origin(text, &image.origin)?;

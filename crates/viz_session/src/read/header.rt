@@ -80,7 +80,8 @@ fn checked_sizes(x: u128, y: u128, z: u128) -> Option<Sizes>
     requires some_x { 1 ≤ x }
     requires some_y { 1 ≤ y }
     requires some_z { 1 ≤ z }
-    ensures { result ≡ (if nat_lt (x * y * z) (2 ^ 31) then Some (record { x = x; y = y; z = z }) else None) }
+    ensures { result ≡ (if nat_lt (x * y * z) (2 ^ 31)
+        then Some (record { x = x; y = y; z = z }) else None) }
 {
     let x = u32::try_from(x).ok()?;
     let y = u32::try_from(y).ok()?;

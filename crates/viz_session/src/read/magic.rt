@@ -26,7 +26,8 @@ fn digits(text: &[u8]) -> usize
 
 /// Whether one to three digits stand in front; then how many.
 fn short_number(text: &[u8]) -> Option<usize>
-    ensures value { result ≡ (if has_short_number text.now then Some (digits_len text.now) else None) }
+    ensures value { result ≡ (if has_short_number text.now
+        then Some (digits_len text.now) else None) }
     ensures within { IfSome result (λ n. n ≤ length text.now) }
 {
     let n = digits(text);

@@ -2,7 +2,7 @@ use Rattle.std.proofs.Common.{inl, inr}
 use Rattle.viz_session.proofs.RunLemmas.{usage-Runs}
 use Rattle.viz_session.proofs.PromiseLemmas.{OthersStay-Runs, CallsOnce-Runs, FilesOnce-Runs, FirstRose-Runs}
 use Rattle.viz_session.proofs.RunPromises.{IsDone-Runs}
-use Rattle.viz_session.proofs.RefusalPromises.{IsRefused-Runs, IsFault-Runs, WantsPort-Runs}
+use Rattle.viz_session.proofs.RefusalPromises.{IsRefused-Runs, IsFault-Runs, WantsPort-Runs, FirstKeeps-Runs}
 use Rattle.viz_session.proofs.ExactPromises.{RefusesBadFiles-Runs, RefusesLongFiles-Runs}
 use Rattle.viz_session.proofs.session.run.Goals as goal
 
@@ -58,3 +58,8 @@ returns-clause-cause g c =
       | inl port ↦ inl (FirstRose-Runs g.P.Port.tells_files g.P.Port.tells_calls g.P.Port.files g.P.Port.calls g.P.Port.faults _ _ _ _ c.serve_words-outcome.ensures port)
       | inr out ↦ inr out
     ]
+
+pub returns-clause-kept : goal.returns-clause-kept
+returns-clause-kept g c =
+    λ is told text. let r = c.report.ensures.told text in
+    FirstKeeps-Runs g.P.Port.tells_files g.P.Port.tells_calls g.P.Port.files g.P.Port.calls g.P.Port.faults _ _ r.0 _ _ _ _ _ _ _ told c.serve_words-outcome.ensures r.1 r.2 is
