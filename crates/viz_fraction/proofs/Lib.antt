@@ -1,0 +1,15 @@
+pub mod IntegersLemmas
+pub mod DivisorsLemmas
+pub mod PointsLemmas
+pub mod FieldsLemmas
+pub mod CrossingsLemmas
+pub mod ZerosLemmas
+pub mod DecimalsLemmas
+pub mod StandardFacts
+pub mod CaseTable
+pub mod CaseValue
+pub mod CaseEquals
+pub mod CaseEdges
+pub mod CaseFacingLemmas
+pub mod CaseDiagonals
+pub mod CaseFacts

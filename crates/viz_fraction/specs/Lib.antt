@@ -1,0 +1,13 @@
+pub mod Divisors
+pub mod Points
+pub mod Numbers
+pub mod Forms
+pub mod Sums
+pub mod Crossings
+pub mod Mixes
+pub mod Steps
+pub mod Decimals
+pub mod CaseRows
+pub mod Cases
+pub mod CaseLaws
+pub mod CaseFacing

@@ -1,0 +1,37 @@
+//! Exact points and linear forms: crossings on edges, the cells of a section, and decimals.
+//!
+//! Contract: each call is its formula on whole numbers without bound, `TooWide` comes exactly where
+//! a number of that formula exceeds 2^120 in magnitude, and `cells_of` gives the row of the table.
+//! No memory is taken. Definitions: `specs/`; the rules are those of docs/FORMATS.md, "Exact
+//! points" and "Cases of a section".
+#![tactic(auto)]
+
+mod case_laws;
+mod case_table;
+mod crossings;
+mod decimals;
+mod divisors;
+mod forms;
+mod laws;
+mod numbers;
+mod points;
+mod products;
+mod steps;
+
+pub use case_laws::{
+    cells_cut_the_simplex, quadrilaterals_have_a_diagonal, triangles_face_outside,
+};
+pub use case_table::{Case, cells_of};
+pub use crossings::crossing;
+pub use decimals::fixed;
+pub use forms::{Form, is_inside, value};
+pub use laws::{
+    crossings_are_zeros, decimals_are_floors, divisors_are_greatest, lowest_terms_are_one,
+};
+pub use numbers::WIDEST;
+pub use points::{Point5, TooWide, point};
+
+#[cfg(test)]
+mod case_tests;
+#[cfg(test)]
+mod tests;

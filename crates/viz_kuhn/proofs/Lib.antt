@@ -1,0 +1,4 @@
+pub mod CubeLemmas
+pub mod PieceLemmas
+pub mod RowLemmas
+pub mod StandardFacts

@@ -1,0 +1,4 @@
+pub mod Corners
+pub mod Cubes
+pub mod Kuhn
+pub mod Places
