@@ -1,5 +1,5 @@
 #!/usr/bin/env python3
-"""Compares the documents with the code: crates, paths, `call · label`, definitions, the example."""
+"""Compares the documents with the code: crates, paths, `call · label`, definitions, the examples."""
 import glob
 import os
 import re
@@ -87,11 +87,38 @@ def check_example():
             errors.append("README.md: its example isn't the program's stored run:\n" + block)
 
 
+def constant(page, name):
+    """The text of a string constant."""
+    found = re.search(r'pub const %s: &str =\s*"((?:[^"\\]|\\.)*)";' % name, page)
+    if not found:
+        errors.append("no constant %s" % name)
+        return ""
+    return found.group(1).replace("\\n", "\n")
+
+
+def check_contour():
+    """The second example: the first row of the tests of contours."""
+    blocks = re.findall(r"```text\n(.*?)```", text("README.md"), re.S)
+    page = text("crates/viz_session/src/contour_texts.rt")
+    front, values, level, report, surface = (
+        constant(page, name) for name in
+        ("CUBE", "FIRST_VALUES", "FIRST_LEVEL", "FIRST_REPORT", "FIRST_SURFACE"))
+    if text("crates/viz_cli/data/c.vtk") != front + values:
+        errors.append("crates/viz_cli/data/c.vtk isn't the file of the first contour's test")
+    for block in [front + values, "$ vizrun once c.vtk o.vtk contour %s\n%s" % (level, report)]:
+        if block not in blocks:
+            errors.append("README.md: its contour isn't that of the test:\n" + block)
+    heads = surface.index("POINTS") if "POINTS" in surface else 0
+    if not any(surface.startswith(block) and len(block) > heads for block in blocks):
+        errors.append("README.md: no first lines of the contour:\n" + surface)
+
+
 known = labels()
 for page in PAGES:
     check_names(page, known)
 check_crates()
 check_example()
+check_contour()
 for error in errors:
     print("documents:", error)
 if errors:

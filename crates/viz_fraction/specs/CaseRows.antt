@@ -49,66 +49,66 @@ abbrev pub triangle : End → End → End → List End
 triangle p q r = p ∷ q ∷ r ∷ []
 
 -- the row of so many corners with these inside and these cells
-abbrev pub row : ℕ → List ℕ → List (List End) → Row
-row corners inside cells = record { corners = corners; inside = inside; cells = cells }
+abbrev pub case_row : ℕ → List ℕ → List (List End) → Row
+case_row corners inside cells = record { corners = corners; inside = inside; cells = cells }
 
 -- the rows of two corners
 abbrev pub rows_of_two : List Row
 rows_of_two =
     -- inside 0
-    row 2 (0 ∷ []) (point e01 ∷ [])
+    case_row 2 (0 ∷ []) (point e01 ∷ [])
     -- inside 1
-    ∷ row 2 (1 ∷ []) (point e01 ∷ [])
+    ∷ case_row 2 (1 ∷ []) (point e01 ∷ [])
     ∷ []
 
 -- the rows of three corners
 abbrev pub rows_of_three : List Row
 rows_of_three =
     -- inside 0
-    row 3 (0 ∷ []) (segment e01 e02 ∷ [])
+    case_row 3 (0 ∷ []) (segment e01 e02 ∷ [])
     -- inside 1
-    ∷ row 3 (1 ∷ []) (segment e12 e01 ∷ [])
+    ∷ case_row 3 (1 ∷ []) (segment e12 e01 ∷ [])
     -- inside 2
-    ∷ row 3 (2 ∷ []) (segment e02 e12 ∷ [])
+    ∷ case_row 3 (2 ∷ []) (segment e02 e12 ∷ [])
     -- inside 1 2
-    ∷ row 3 (1 ∷ 2 ∷ []) (segment e02 e01 ∷ [])
+    ∷ case_row 3 (1 ∷ 2 ∷ []) (segment e02 e01 ∷ [])
     -- inside 0 2
-    ∷ row 3 (0 ∷ 2 ∷ []) (segment e01 e12 ∷ [])
+    ∷ case_row 3 (0 ∷ 2 ∷ []) (segment e01 e12 ∷ [])
     -- inside 0 1
-    ∷ row 3 (0 ∷ 1 ∷ []) (segment e12 e02 ∷ [])
+    ∷ case_row 3 (0 ∷ 1 ∷ []) (segment e12 e02 ∷ [])
     ∷ []
 
 -- the rows of four corners
 abbrev pub rows_of_four : List Row
 rows_of_four =
     -- inside 0
-    row 4 (0 ∷ []) (triangle e01 e02 e03 ∷ [])
+    case_row 4 (0 ∷ []) (triangle e01 e02 e03 ∷ [])
     -- inside 1
-    ∷ row 4 (1 ∷ []) (triangle e12 e01 e13 ∷ [])
+    ∷ case_row 4 (1 ∷ []) (triangle e12 e01 e13 ∷ [])
     -- inside 2
-    ∷ row 4 (2 ∷ []) (triangle e02 e12 e23 ∷ [])
+    ∷ case_row 4 (2 ∷ []) (triangle e02 e12 e23 ∷ [])
     -- inside 3
-    ∷ row 4 (3 ∷ []) (triangle e13 e03 e23 ∷ [])
+    ∷ case_row 4 (3 ∷ []) (triangle e13 e03 e23 ∷ [])
     -- inside 1 2 3
-    ∷ row 4 (1 ∷ 2 ∷ 3 ∷ []) (triangle e02 e01 e03 ∷ [])
+    ∷ case_row 4 (1 ∷ 2 ∷ 3 ∷ []) (triangle e02 e01 e03 ∷ [])
     -- inside 0 2 3
-    ∷ row 4 (0 ∷ 2 ∷ 3 ∷ []) (triangle e01 e12 e13 ∷ [])
+    ∷ case_row 4 (0 ∷ 2 ∷ 3 ∷ []) (triangle e01 e12 e13 ∷ [])
     -- inside 0 1 3
-    ∷ row 4 (0 ∷ 1 ∷ 3 ∷ []) (triangle e12 e02 e23 ∷ [])
+    ∷ case_row 4 (0 ∷ 1 ∷ 3 ∷ []) (triangle e12 e02 e23 ∷ [])
     -- inside 0 1 2
-    ∷ row 4 (0 ∷ 1 ∷ 2 ∷ []) (triangle e03 e13 e23 ∷ [])
+    ∷ case_row 4 (0 ∷ 1 ∷ 2 ∷ []) (triangle e03 e13 e23 ∷ [])
     -- inside 0 1
-    ∷ row 4 (0 ∷ 1 ∷ []) (triangle e02 e03 e13 ∷ triangle e02 e13 e12 ∷ [])
+    ∷ case_row 4 (0 ∷ 1 ∷ []) (triangle e02 e03 e13 ∷ triangle e02 e13 e12 ∷ [])
     -- inside 0 2
-    ∷ row 4 (0 ∷ 2 ∷ []) (triangle e01 e12 e23 ∷ triangle e01 e23 e03 ∷ [])
+    ∷ case_row 4 (0 ∷ 2 ∷ []) (triangle e01 e12 e23 ∷ triangle e01 e23 e03 ∷ [])
     -- inside 0 3
-    ∷ row 4 (0 ∷ 3 ∷ []) (triangle e01 e02 e23 ∷ triangle e01 e23 e13 ∷ [])
+    ∷ case_row 4 (0 ∷ 3 ∷ []) (triangle e01 e02 e23 ∷ triangle e01 e23 e13 ∷ [])
     -- inside 1 2
-    ∷ row 4 (1 ∷ 2 ∷ []) (triangle e01 e13 e23 ∷ triangle e01 e23 e02 ∷ [])
+    ∷ case_row 4 (1 ∷ 2 ∷ []) (triangle e01 e13 e23 ∷ triangle e01 e23 e02 ∷ [])
     -- inside 1 3
-    ∷ row 4 (1 ∷ 3 ∷ []) (triangle e01 e03 e23 ∷ triangle e01 e23 e12 ∷ [])
+    ∷ case_row 4 (1 ∷ 3 ∷ []) (triangle e01 e03 e23 ∷ triangle e01 e23 e12 ∷ [])
     -- inside 2 3
-    ∷ row 4 (2 ∷ 3 ∷ []) (triangle e02 e12 e13 ∷ triangle e02 e13 e03 ∷ [])
+    ∷ case_row 4 (2 ∷ 3 ∷ []) (triangle e02 e12 e13 ∷ triangle e02 e13 e03 ∷ [])
     ∷ []
 
 -- the table (docs/FORMATS.md, "Cases of a section")

@@ -1,7 +1,7 @@
 //! Exact points: five whole numbers in lowest terms.
 ghost use Rattle.std.specs.Prelude.{◌≡◌, ℤ, pos, ◌<ℤ◌, ◌↔◌, IfOk, IsOk};
 ghost use Prim.Native.Nat.{◌∣◌};
-ghost use Rattle.viz_fraction.specs.Points.{Point, IsNarrowPoint, IsPoint, numbers, divisor_of, reduced};
+ghost use Rattle.viz_fraction.specs.Points.{Point, IsNarrow, IsNarrowPoint, IsPoint, numbers, divisor_of, reduced};
 ghost use Rattle.viz_fraction.specs.Numbers.{point_of};
 
 use crate::divisors::with_magnitude;
@@ -58,28 +58,32 @@ impl Model for Point5 {
 impl Point5 {
     /// The numerator of the place along x.
     pub fn x(&self) -> i128
-        ensures { result ≡ self.now.x }
+        ensures value { result ≡ self.now.x }
+        ensures narrow { IsNarrow result }
     {
         self.x
     }
 
     /// The numerator of the place along y.
     pub fn y(&self) -> i128
-        ensures { result ≡ self.now.y }
+        ensures value { result ≡ self.now.y }
+        ensures narrow { IsNarrow result }
     {
         self.y
     }
 
     /// The numerator of the place along z.
     pub fn z(&self) -> i128
-        ensures { result ≡ self.now.z }
+        ensures value { result ≡ self.now.z }
+        ensures narrow { IsNarrow result }
     {
         self.z
     }
 
     /// The numerator of the scalar.
     pub fn s(&self) -> i128
-        ensures { result ≡ self.now.s }
+        ensures value { result ≡ self.now.s }
+        ensures narrow { IsNarrow result }
     {
         self.s
     }
@@ -88,6 +92,7 @@ impl Point5 {
     pub fn w(&self) -> i128
         ensures value { result ≡ self.now.w }
         ensures positive { pos 0 <ℤ result }
+        ensures narrow { IsNarrow result }
     {
         self.w
     }

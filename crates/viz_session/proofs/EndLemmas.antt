@@ -2,12 +2,11 @@
 use Rattle.std.proofs.Common.{◌≡◌, ◌⊎◌, ℕ, List, ◌++◌, refl, sym, ◌∙◌, inl, inr}
 use Rattle.viz_base.specs.Faults.{Rose}
 use Rattle.viz_base.specs.Texts.{AppendsPrefix}
-use Rattle.viz_lex.specs.declared.fault.FileFault.{FileFault}
 use Rattle.viz_session.specs.declared.outcome.Outcome.{Outcome}
 use Rattle.viz_session.specs.declared.outcome.Outcome.TheVariants as outcome
 use Rattle.viz_session.specs.declared.outcome.Status.{Status}
 use Rattle.viz_session.specs.declared.outcome.Status.TheVariants as status
-use Rattle.viz_session.specs.Report.{line_of, file_line, bad_file_line, too_long_line}
+use Rattle.viz_session.specs.Report.{line_of, file_line}
 use Rattle.viz_session.specs.Account.{Settles, Tells}
 
 -- the outcome that is told is the one that was found, or want of memory
@@ -15,6 +14,8 @@ pub settled : (found o : Outcome) → Settles found o → (o ≡ found) ⊎ (o �
 settled (outcome.Written cells points) o h = h
 settled (outcome.BadFile fault) o h = inl h
 settled outcome.TooLong o h = inl h
+settled outcome.TooWide o h = inl h
+settled outcome.TooMany o h = inl h
 settled outcome.ReadFault o h = inl h
 settled outcome.WriteFault o h = inl h
 settled outcome.Memory o h = inl h
@@ -37,6 +38,10 @@ done_tells (outcome.BadFile fault) ended old new before after h is =
     elim h [ inl all ↦ absurd (let e : status.Refused ≡ status.Done = sym all.0 ∙ is in cc) | inr less ↦ elim less [ inl part ↦ absurd (let e : status.Fault ≡ status.Done = sym part.0 ∙ is in cc) | inr none ↦ absurd (let e : status.Memory ≡ status.Done = sym none.0 ∙ is in cc) ] ]
 done_tells outcome.TooLong ended old new before after h is =
     elim h [ inl all ↦ absurd (let e : status.Refused ≡ status.Done = sym all.0 ∙ is in cc) | inr less ↦ elim less [ inl part ↦ absurd (let e : status.Fault ≡ status.Done = sym part.0 ∙ is in cc) | inr none ↦ absurd (let e : status.Memory ≡ status.Done = sym none.0 ∙ is in cc) ] ]
+done_tells outcome.TooWide ended old new before after h is =
+    elim h [ inl all ↦ absurd (let e : status.Refused ≡ status.Done = sym all.0 ∙ is in cc) | inr less ↦ elim less [ inl part ↦ absurd (let e : status.Fault ≡ status.Done = sym part.0 ∙ is in cc) | inr none ↦ absurd (let e : status.Memory ≡ status.Done = sym none.0 ∙ is in cc) ] ]
+done_tells outcome.TooMany ended old new before after h is =
+    elim h [ inl all ↦ absurd (let e : status.Refused ≡ status.Done = sym all.0 ∙ is in cc) | inr less ↦ elim less [ inl part ↦ absurd (let e : status.Fault ≡ status.Done = sym part.0 ∙ is in cc) | inr none ↦ absurd (let e : status.Memory ≡ status.Done = sym none.0 ∙ is in cc) ] ]
 done_tells outcome.ReadFault ended old new before after h is =
     elim h [ inl all ↦ absurd (let e : status.Fault ≡ status.Done = sym all.0 ∙ is in cc) | inr less ↦ elim less [ inl part ↦ absurd (let e : status.Fault ≡ status.Done = sym part.0 ∙ is in cc) | inr none ↦ absurd (let e : status.Memory ≡ status.Done = sym none.0 ∙ is in cc) ] ]
 done_tells outcome.WriteFault ended old new before after h is =
@@ -48,18 +53,26 @@ done_tells outcome.Usage ended old new before after h is =
 done_tells outcome.NoPort ended old new before after h is =
     elim h [ inl all ↦ absurd (let e : status.Script ≡ status.Done = sym all.0 ∙ is in cc) | inr less ↦ elim less [ inl part ↦ absurd (let e : status.Script ≡ status.Done = sym part.0 ∙ is in cc) | inr none ↦ absurd (let e : status.Memory ≡ status.Done = sym none.0 ∙ is in cc) ] ]
 
--- a file that isn't of the first form, and its line; or one that is too long
-abbrev pub TellsRefused : Outcome → List ℕ → List ℕ → Type 0
-TellsRefused o old new = ((fault : FileFault) × (o ≡ outcome.BadFile fault) × (new ≡ old ++ bad_file_line)) ⊎ ((o ≡ outcome.TooLong) × (new ≡ old ++ too_long_line))
+-- a file or an image was refused
+abbrev pub IsRefusal : Outcome → Type 0
+IsRefusal (outcome.BadFile fault) = Unit {0}
+IsRefusal outcome.TooLong = Unit {0}
+IsRefusal outcome.TooWide = Unit {0}
+IsRefusal outcome.TooMany = Unit {0}
+IsRefusal o = ⊥
 
--- Refused is the status of these alone
-pub refused_tells : (o : Outcome) (ended : Status) (old new : List ℕ) (before after : ℕ) → Tells o ended old new before after → ended ≡ status.Refused → TellsRefused o old new
+-- Refused is the status of these alone, behind their whole line
+pub refused_tells : (o : Outcome) (ended : Status) (old new : List ℕ) (before after : ℕ) → Tells o ended old new before after → ended ≡ status.Refused → IsRefusal o × (new ≡ old ++ line_of o)
 refused_tells (outcome.Written cells points) ended old new before after h is =
     elim h [ inl all ↦ absurd (let e : status.Done ≡ status.Refused = sym all.0 ∙ is in cc) | inr less ↦ elim less [ inl part ↦ absurd (let e : status.Fault ≡ status.Refused = sym part.0 ∙ is in cc) | inr none ↦ absurd (let e : status.Memory ≡ status.Refused = sym none.0 ∙ is in cc) ] ]
 refused_tells (outcome.BadFile fault) ended old new before after h is =
-    elim h [ inl all ↦ inl (fault, refl, all.1) | inr less ↦ elim less [ inl part ↦ absurd (let e : status.Fault ≡ status.Refused = sym part.0 ∙ is in cc) | inr none ↦ absurd (let e : status.Memory ≡ status.Refused = sym none.0 ∙ is in cc) ] ]
+    elim h [ inl all ↦ (tt, all.1) | inr less ↦ elim less [ inl part ↦ absurd (let e : status.Fault ≡ status.Refused = sym part.0 ∙ is in cc) | inr none ↦ absurd (let e : status.Memory ≡ status.Refused = sym none.0 ∙ is in cc) ] ]
 refused_tells outcome.TooLong ended old new before after h is =
-    elim h [ inl all ↦ inr (refl, all.1) | inr less ↦ elim less [ inl part ↦ absurd (let e : status.Fault ≡ status.Refused = sym part.0 ∙ is in cc) | inr none ↦ absurd (let e : status.Memory ≡ status.Refused = sym none.0 ∙ is in cc) ] ]
+    elim h [ inl all ↦ (tt, all.1) | inr less ↦ elim less [ inl part ↦ absurd (let e : status.Fault ≡ status.Refused = sym part.0 ∙ is in cc) | inr none ↦ absurd (let e : status.Memory ≡ status.Refused = sym none.0 ∙ is in cc) ] ]
+refused_tells outcome.TooWide ended old new before after h is =
+    elim h [ inl all ↦ (tt, all.1) | inr less ↦ elim less [ inl part ↦ absurd (let e : status.Fault ≡ status.Refused = sym part.0 ∙ is in cc) | inr none ↦ absurd (let e : status.Memory ≡ status.Refused = sym none.0 ∙ is in cc) ] ]
+refused_tells outcome.TooMany ended old new before after h is =
+    elim h [ inl all ↦ (tt, all.1) | inr less ↦ elim less [ inl part ↦ absurd (let e : status.Fault ≡ status.Refused = sym part.0 ∙ is in cc) | inr none ↦ absurd (let e : status.Memory ≡ status.Refused = sym none.0 ∙ is in cc) ] ]
 refused_tells outcome.ReadFault ended old new before after h is =
     elim h [ inl all ↦ absurd (let e : status.Fault ≡ status.Refused = sym all.0 ∙ is in cc) | inr less ↦ elim less [ inl part ↦ absurd (let e : status.Fault ≡ status.Refused = sym part.0 ∙ is in cc) | inr none ↦ absurd (let e : status.Memory ≡ status.Refused = sym none.0 ∙ is in cc) ] ]
 refused_tells outcome.WriteFault ended old new before after h is =
@@ -83,6 +96,10 @@ fault_tells (outcome.Written cells points) ended old new before after h is =
 fault_tells (outcome.BadFile fault) ended old new before after h is =
     elim h [ inl all ↦ absurd (let e : status.Refused ≡ status.Fault = sym all.0 ∙ is in cc) | inr less ↦ elim less [ inl part ↦ inr (inr (part.1, part.2)) | inr none ↦ absurd (let e : status.Memory ≡ status.Fault = sym none.0 ∙ is in cc) ] ]
 fault_tells outcome.TooLong ended old new before after h is =
+    elim h [ inl all ↦ absurd (let e : status.Refused ≡ status.Fault = sym all.0 ∙ is in cc) | inr less ↦ elim less [ inl part ↦ inr (inr (part.1, part.2)) | inr none ↦ absurd (let e : status.Memory ≡ status.Fault = sym none.0 ∙ is in cc) ] ]
+fault_tells outcome.TooWide ended old new before after h is =
+    elim h [ inl all ↦ absurd (let e : status.Refused ≡ status.Fault = sym all.0 ∙ is in cc) | inr less ↦ elim less [ inl part ↦ inr (inr (part.1, part.2)) | inr none ↦ absurd (let e : status.Memory ≡ status.Fault = sym none.0 ∙ is in cc) ] ]
+fault_tells outcome.TooMany ended old new before after h is =
     elim h [ inl all ↦ absurd (let e : status.Refused ≡ status.Fault = sym all.0 ∙ is in cc) | inr less ↦ elim less [ inl part ↦ inr (inr (part.1, part.2)) | inr none ↦ absurd (let e : status.Memory ≡ status.Fault = sym none.0 ∙ is in cc) ] ]
 fault_tells outcome.ReadFault ended old new before after h is =
     elim h [ inl all ↦ inl (refl, all.1) | inr less ↦ elim less [ inl part ↦ inr (inr (part.1, part.2)) | inr none ↦ absurd (let e : status.Memory ≡ status.Fault = sym none.0 ∙ is in cc) ] ]

@@ -11,8 +11,10 @@ pub mod GrammarAccepts
 pub mod GrammarFinds
 pub mod GrammarFile
 pub mod PromiseLemmas
+pub mod OutputLemmas
 pub mod EndLemmas
 pub mod RunPromises
 pub mod RefusalPromises
 pub mod ExactPromises
 pub mod StandardFacts
+pub mod ContourLemmas

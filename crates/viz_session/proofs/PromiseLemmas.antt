@@ -26,11 +26,13 @@ OthersStay-Runs S (Some c) found (p ∷ ps) (q ∷ qs) h = h.1
 
 -- the calls of each outcome are at most a read and a write
 IsOnce-Gained : (c : Command) (K : List ℕ → Type 0) (found : Outcome) (calls : List Call) → Gained c K found calls → IsOnce c calls
-IsOnce-Gained c K (outcome.Written cells points) calls h = inr (inr (h.0, h.1, write.Written, image_of-Ok h.0 h.1 h.3, h.6))
+IsOnce-Gained c K (outcome.Written cells points) calls h = inr (inr (h.0, h.1, write.Written, image_of-Ok h.0 h.1 h.3, h.4, h.7))
 IsOnce-Gained c K (outcome.BadFile fault) calls h = inr (inl (read.Given h.0, h.3))
 IsOnce-Gained c K outcome.TooLong calls h = inr (inl (read.TooLong h.0, h.1))
+IsOnce-Gained c K outcome.TooWide calls h = inr (inl (read.Given h.0, h.5))
+IsOnce-Gained c K outcome.TooMany calls h = inr (inl (read.Given h.0, h.5))
 IsOnce-Gained c K outcome.ReadFault calls h = inr (inl (read.Failed, h))
-IsOnce-Gained c K outcome.WriteFault calls h = inr (inr (h.0, h.1, write.Failed, image_of-Ok h.0 h.1 h.3, h.4))
+IsOnce-Gained c K outcome.WriteFault calls h = inr (inr (h.0, h.1, write.Failed, image_of-Ok h.0 h.1 h.3, h.4, h.5))
 IsOnce-Gained c K outcome.Memory calls h = elim h [ inl none ↦ inl none | inr one ↦ inr (inl (read.Given one.0, one.2)) ]
 IsOnce-Gained c K outcome.Usage calls h = absurd h
 IsOnce-Gained c K outcome.NoPort calls h = absurd h
@@ -44,10 +46,12 @@ CallsOnce-Runs f t files calls faults (Some c) found (p ∷ ps) (q ∷ qs) told 
     ((g.0, g.1, IsOnce-Gained c _ found g.0 g.2), h.1)
 
 WritesOnly-Touches : (c : Command) (found : Outcome) (old new : Files) → Touches c found old new → WritesOnly c old new
-WritesOnly-Touches c (outcome.Written cells points) old new h = inr (h.0, h.1, h.2, image_of-Ok h.0 h.1 h.3, h.5, inl h.4)
-WritesOnly-Touches c outcome.WriteFault old new h = inr (h.0, h.1, h.2, image_of-Ok h.0 h.1 h.3, h.5, inr h.4)
+WritesOnly-Touches c (outcome.Written cells points) old new h = inr (h.0, h.1, h.2, image_of-Ok h.0 h.1 h.3, h.4, h.6, inl h.5)
+WritesOnly-Touches c outcome.WriteFault old new h = inr (h.0, h.1, h.2, image_of-Ok h.0 h.1 h.3, h.4, h.6, inr h.5)
 WritesOnly-Touches c (outcome.BadFile fault) old new h = inl h
 WritesOnly-Touches c outcome.TooLong old new h = inl h
+WritesOnly-Touches c outcome.TooWide old new h = inl h
+WritesOnly-Touches c outcome.TooMany old new h = inl h
 WritesOnly-Touches c outcome.ReadFault old new h = inl h
 WritesOnly-Touches c outcome.Memory old new h = inl h
 WritesOnly-Touches c outcome.Usage old new h = inl h
@@ -67,6 +71,8 @@ rose outcome.NoPort old new is cause = absurd is
 rose (outcome.Written cells points) old new is cause = absurd is
 rose (outcome.BadFile fault) old new is cause = absurd is
 rose outcome.TooLong old new is cause = absurd is
+rose outcome.TooWide old new is cause = absurd is
+rose outcome.TooMany old new is cause = absurd is
 rose outcome.Memory old new is cause = absurd is
 
 -- where the first port's call failed its count rose

@@ -1,55 +1,62 @@
 -- The promises of a run that refuses or fails, from its account.
 use Rattle.std.proofs.Common.{◌≡◌, ◌⊎◌, ℕ, Bool, List, [], ◌∷◌, ◌++◌, Option, Some, None, refl, sym, ap, subst, ◌∙◌, inl, inr}
 use Rattle.std.specs.Prelude.{IsTrue}
-use Rattle.viz_base.specs.Files.{Files}
+use Rattle.viz_base.specs.Files.{Files, SameFiles}
 use Rattle.viz_base.specs.declared.call.Call.{Call}
 use Rattle.viz_base.specs.declared.call.Call.TheVariants.{Read}
 use Rattle.viz_base.specs.declared.call.ReadAnswer.TheVariants as read
 use Rattle.viz_base.specs.declared.call.WriteAnswer.TheVariants as write
-use Rattle.viz_lex.specs.declared.fault.FileFault.{FileFault}
 use Rattle.viz_session.specs.declared.outcome.Outcome.{Outcome}
 use Rattle.viz_session.specs.declared.outcome.Outcome.TheVariants as outcome
 use Rattle.viz_session.specs.declared.outcome.Status.{Status}
 use Rattle.viz_session.specs.declared.outcome.Status.TheVariants as status
 use Rattle.viz_session.specs.Command.{Command}
-use Rattle.viz_session.specs.Report.{line_of, bad_file_line, too_long_line, read_fault_line, write_fault_line, no_port_line}
+use Rattle.viz_session.specs.Report.{line_of, read_fault_line, write_fault_line, no_port_line}
 use Rattle.viz_session.specs.Account.{IsServed, Runs, Settles, Tells, Touches}
-use Rattle.viz_session.specs.Promises.{IsRefused, IsFault, FirstKeeps, PutsLine, WantsPort, read_given, write_output}
-use Rattle.viz_session.proofs.EndLemmas.{settled, memory_ends, refused_tells, fault_tells}
+use Rattle.viz_session.specs.Refusals.{IsRefused}
+use Rattle.viz_session.specs.Promises.{IsFault, FirstKeeps, PutsLine, WantsPort, read_given, write_output}
+use Rattle.viz_session.proofs.GrammarFile.{image_of-Ok}
+use Rattle.viz_session.proofs.EndLemmas.{IsRefusal, settled, memory_ends, refused_tells, fault_tells}
 use Rattle.viz_session.proofs.RunPromises.{gains, refused_image}
 
 -- ---- Refused
 
-bad-Runs : {P : Type 0} (f t : Bool) (files : P → Files) (calls : P → List Call) (faults : P → ℕ) (words : Option Command) (fault : FileFault) (old new : List P) (a b : List ℕ)
-    → IsTrue t → Runs (IsServed f t files calls faults) words (outcome.BadFile fault) old new → b ≡ a ++ bad_file_line → IsRefused (IsTrue f) files calls words old new a b
-bad-Runs f t files calls faults None fault old new a b told h text = absurd (let e : outcome.BadFile fault ≡ outcome.Usage = h.0 in cc)
-bad-Runs f t files calls faults (Some c) fault [] new a b told h text = absurd (let e : outcome.BadFile fault ≡ outcome.NoPort = h.0 in cc)
-bad-Runs f t files calls faults (Some c) fault (p ∷ ps) [] a b told h text = absurd h
-bad-Runs f t files calls faults (Some c) fault (p ∷ ps) (q ∷ qs) a b told h text =
+-- what a refusal gained and put
+refusal-Runs : {P : Type 0} (f t : Bool) (files : P → Files) (calls : P → List Call) (faults : P → ℕ) (words : Option Command) (found : Outcome) (old new : List P) (a b : List ℕ)
+    → IsTrue t → Runs (IsServed f t files calls faults) words found old new → IsRefusal found → b ≡ a ++ line_of found → IsRefused (IsTrue f) files calls words old new a b
+refusal-Runs f t files calls faults None found old new a b told h is text = absurd (subst IsRefusal h.0 is)
+refusal-Runs f t files calls faults (Some c) found [] new a b told h is text = absurd (subst IsRefusal h.0 is)
+refusal-Runs f t files calls faults (Some c) found (p ∷ ps) [] a b told h is text = absurd h
+refusal-Runs f t files calls faults (Some c) (outcome.BadFile fault) (p ∷ ps) (q ∷ qs) a b told h is text =
     let g = h.0.told told in
     let m = g.2 in
     (c, refl, inl (m.0, refused_image m.0 fault m.2, ((m.1, gains (calls p) (calls q) g.0 (read_given c m.0 ∷ []) g.1 m.3), h.1), text))
-
-long-Runs : {P : Type 0} (f t : Bool) (files : P → Files) (calls : P → List Call) (faults : P → ℕ) (words : Option Command) (old new : List P) (a b : List ℕ)
-    → IsTrue t → Runs (IsServed f t files calls faults) words outcome.TooLong old new → b ≡ a ++ too_long_line → IsRefused (IsTrue f) files calls words old new a b
-long-Runs f t files calls faults None old new a b told h text = absurd (let e : outcome.TooLong ≡ outcome.Usage = h.0 in cc)
-long-Runs f t files calls faults (Some c) [] new a b told h text = absurd (let e : outcome.TooLong ≡ outcome.NoPort = h.0 in cc)
-long-Runs f t files calls faults (Some c) (p ∷ ps) [] a b told h text = absurd h
-long-Runs f t files calls faults (Some c) (p ∷ ps) (q ∷ qs) a b told h text =
+refusal-Runs f t files calls faults (Some c) outcome.TooLong (p ∷ ps) (q ∷ qs) a b told h is text =
     let g = h.0.told told in
     let m = g.2 in
-    (c, refl, inr (m.0, (gains (calls p) (calls q) g.0 (Read c.input (read.TooLong m.0) ∷ []) g.1 m.1, h.1), text))
+    (c, refl, inr (inl (m.0, (gains (calls p) (calls q) g.0 (Read c.input (read.TooLong m.0) ∷ []) g.1 m.1, h.1), text)))
+refusal-Runs f t files calls faults (Some c) outcome.TooWide (p ∷ ps) (q ∷ qs) a b told h is text =
+    let g = h.0.told told in
+    let m = g.2 in
+    (c, refl, inr (inr (inl (m.0, m.1, image_of-Ok m.0 m.1 m.3, m.4, ((m.2, gains (calls p) (calls q) g.0 (read_given c m.0 ∷ []) g.1 m.5), h.1), text))))
+refusal-Runs f t files calls faults (Some c) outcome.TooMany (p ∷ ps) (q ∷ qs) a b told h is text =
+    let g = h.0.told told in
+    let m = g.2 in
+    (c, refl, inr (inr (inr (m.0, m.1, image_of-Ok m.0 m.1 m.3, m.4, ((m.2, gains (calls p) (calls q) g.0 (read_given c m.0 ∷ []) g.1 m.5), h.1), text))))
+refusal-Runs f t files calls faults (Some c) (outcome.Written cells points) (p ∷ ps) (q ∷ qs) a b told h is text = absurd is
+refusal-Runs f t files calls faults (Some c) outcome.ReadFault (p ∷ ps) (q ∷ qs) a b told h is text = absurd is
+refusal-Runs f t files calls faults (Some c) outcome.WriteFault (p ∷ ps) (q ∷ qs) a b told h is text = absurd is
+refusal-Runs f t files calls faults (Some c) outcome.Memory (p ∷ ps) (q ∷ qs) a b told h is text = absurd is
+refusal-Runs f t files calls faults (Some c) outcome.Usage (p ∷ ps) (q ∷ qs) a b told h is text = absurd is
+refusal-Runs f t files calls faults (Some c) outcome.NoPort (p ∷ ps) (q ∷ qs) a b told h is text = absurd is
 
 pub IsRefused-Runs : {P : Type 0} (f t : Bool) (files : P → Files) (calls : P → List Call) (faults : P → ℕ) (words : Option Command) (found o : Outcome) (old new : List P) (ended : Status) (a b : List ℕ) (before after : ℕ)
     → IsTrue t → Runs (IsServed f t files calls faults) words found old new → Settles found o → Tells o ended a b before after → ended ≡ status.Refused → IsRefused (IsTrue f) files calls words old new a b
-IsRefused-Runs {P} f t files calls faults words found o old new ended a b before after told h settle tells is =
-    let S : Outcome → Type 0 = λ (x : Outcome). Runs (IsServed f t files calls faults) words x old new in
+IsRefused-Runs f t files calls faults words found o old new ended a b before after told h settle tells is =
+    let refused = refused_tells o ended a b before after tells is in
     elim (settled found o settle) [
-      | inl same ↦ elim (refused_tells o ended a b before after tells is) [
-        | inl bad ↦ bad-Runs f t files calls faults words bad.0 old new a b told (subst S (sym same ∙ bad.1) h) bad.2
-        | inr long ↦ long-Runs f t files calls faults words old new a b told (subst S (sym same ∙ long.0) h) long.1
-      ]
-      | inr memory ↦ absurd (let e : status.Memory ≡ status.Refused = sym (memory_ends ended a b before after (subst (λ (x : Outcome). Tells x ended a b before after) memory tells)) ∙ is in cc)
+      | inl same ↦ refusal-Runs f t files calls faults words found old new a b told h (subst IsRefusal same refused.0) (refused.1 ∙ ap (λ (x : Outcome). a ++ line_of x) same)
+      | inr memory ↦ absurd (subst IsRefusal memory refused.0)
     ]
 
 -- ---- Fault
@@ -71,7 +78,7 @@ write-Runs f t files calls faults (Some c) (p ∷ ps) [] a b before after told h
 write-Runs f t files calls faults (Some c) (p ∷ ps) (q ∷ qs) a b before after told h text =
     let g = h.0.told told in
     let m = g.2 in
-    inr (inl (c, m.0, m.1, refl, (gains (calls p) (calls q) g.0 (read_given c m.0 ∷ write_output c m.1 write.Failed ∷ []) g.1 m.4, h.1), text))
+    inr (inl (c, m.0, m.1, refl, (gains (calls p) (calls q) g.0 (read_given c m.0 ∷ write_output c m.1 write.Failed ∷ []) g.1 m.5, h.1), text))
 
 pub IsFault-Runs : {P : Type 0} (f t : Bool) (files : P → Files) (calls : P → List Call) (faults : P → ℕ) (words : Option Command) (found o : Outcome) (old new : List P) (ended : Status) (a b : List ℕ) (before after : ℕ)
     → IsTrue t → Runs (IsServed f t files calls faults) words found old new → Settles found o → Tells o ended a b before after → ended ≡ status.Fault → IsFault calls words old new a b before after
@@ -115,24 +122,30 @@ usage_told o ended a b before after is tells = told_line outcome.Usage ended a b
 
 -- ---- files
 
-keeps-Runs : {P : Type 0} (f t : Bool) (files : P → Files) (calls : P → List Call) (faults : P → ℕ) (words : Option Command) (o : Outcome) (old new : List P) → IsTrue f
-    → ((fault : FileFault) × (o ≡ outcome.BadFile fault)) ⊎ (o ≡ outcome.TooLong) → Runs (IsServed f t files calls faults) words o old new → FirstKeeps files old new
-keeps-Runs f t files calls faults None o old new told is h =
-    absurd (elim is [ inl bad ↦ (let e : outcome.BadFile bad.0 ≡ outcome.Usage = sym bad.1 ∙ h.0 in cc) | inr long ↦ (let e : outcome.TooLong ≡ outcome.Usage = sym long ∙ h.0 in cc) ])
-keeps-Runs f t files calls faults (Some c) o [] new told is h =
-    absurd (elim is [ inl bad ↦ (let e : outcome.BadFile bad.0 ≡ outcome.NoPort = sym bad.1 ∙ h.0 in cc) | inr long ↦ (let e : outcome.TooLong ≡ outcome.NoPort = sym long ∙ h.0 in cc) ])
-keeps-Runs f t files calls faults (Some c) o (p ∷ ps) [] told is h = absurd h
-keeps-Runs f t files calls faults (Some c) o (p ∷ ps) (q ∷ qs) told is h =
-    let T : Outcome → Type 0 = λ (x : Outcome). Touches c x (files p) (files q) in
-    (elim is [ inl bad ↦ subst T bad.1 (h.0.touched told) | inr long ↦ subst T long (h.0.touched told) ], h.1)
+-- a refusal touches no file
+keeps-Touches : (c : Command) (found : Outcome) (old new : Files) → IsRefusal found → Touches c found old new → SameFiles old new
+keeps-Touches c (outcome.BadFile fault) old new is h = h
+keeps-Touches c outcome.TooLong old new is h = h
+keeps-Touches c outcome.TooWide old new is h = h
+keeps-Touches c outcome.TooMany old new is h = h
+keeps-Touches c (outcome.Written cells points) old new is h = absurd is
+keeps-Touches c outcome.ReadFault old new is h = absurd is
+keeps-Touches c outcome.WriteFault old new is h = absurd is
+keeps-Touches c outcome.Memory old new is h = absurd is
+keeps-Touches c outcome.Usage old new is h = absurd is
+keeps-Touches c outcome.NoPort old new is h = absurd is
+
+keeps-Runs : {P : Type 0} (f t : Bool) (files : P → Files) (calls : P → List Call) (faults : P → ℕ) (words : Option Command) (found : Outcome) (old new : List P) → IsTrue f → IsRefusal found → Runs (IsServed f t files calls faults) words found old new → FirstKeeps files old new
+keeps-Runs f t files calls faults None found old new told is h = absurd (subst IsRefusal h.0 is)
+keeps-Runs f t files calls faults (Some c) found [] new told is h = absurd (subst IsRefusal h.0 is)
+keeps-Runs f t files calls faults (Some c) found (p ∷ ps) [] told is h = absurd h
+keeps-Runs f t files calls faults (Some c) found (p ∷ ps) (q ∷ qs) told is h = (keeps-Touches c found (files p) (files q) is (h.0.touched told), h.1)
 
 pub FirstKeeps-Runs : {P : Type 0} (f t : Bool) (files : P → Files) (calls : P → List Call) (faults : P → ℕ) (words : Option Command) (found o : Outcome) (old new : List P) (ended : Status) (a b : List ℕ) (before after : ℕ)
     → IsTrue f → Runs (IsServed f t files calls faults) words found old new → Settles found o → Tells o ended a b before after → ended ≡ status.Refused → FirstKeeps files old new
 FirstKeeps-Runs f t files calls faults words found o old new ended a b before after told h settle tells is =
+    let refused = refused_tells o ended a b before after tells is in
     elim (settled found o settle) [
-      | inl same ↦ elim (refused_tells o ended a b before after tells is) [
-        | inl bad ↦ keeps-Runs f t files calls faults words found old new told (inl (bad.0, sym same ∙ bad.1)) h
-        | inr long ↦ keeps-Runs f t files calls faults words found old new told (inr (sym same ∙ long.0)) h
-      ]
-      | inr memory ↦ absurd (let e : status.Memory ≡ status.Refused = sym (memory_ends ended a b before after (subst (λ (x : Outcome). Tells x ended a b before after) memory tells)) ∙ is in cc)
+      | inl same ↦ keeps-Runs f t files calls faults words found old new told (subst IsRefusal same refused.0) h
+      | inr memory ↦ absurd (subst IsRefusal memory refused.0)
     ]

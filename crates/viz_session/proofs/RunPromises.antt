@@ -11,10 +11,11 @@ use Rattle.viz_session.specs.declared.outcome.Outcome.{Outcome}
 use Rattle.viz_session.specs.declared.outcome.Outcome.TheVariants as outcome
 use Rattle.viz_session.specs.declared.outcome.Status.{Status}
 use Rattle.viz_session.specs.declared.outcome.Status.TheVariants as status
-use Rattle.viz_session.specs.Image.{Image, cell_count}
+use Rattle.viz_session.specs.Image.{Image}
 use Rattle.viz_session.specs.FirstForm.{image_of}
 use Rattle.viz_session.specs.Command.{Command}
 use Rattle.viz_session.specs.Report.{file_line}
+use Rattle.viz_session.specs.Outputs.{cells_made}
 use Rattle.viz_session.specs.Account.{IsServed, Runs, Settles, Tells}
 use Rattle.viz_session.specs.Promises.{IsNotFirstForm, IsDone, read_given, write_output}
 use Rattle.viz_session.proofs.GrammarFile.{image_of-Ok, image_of-next}
@@ -33,7 +34,7 @@ gains old new gained items e is = e ∙ ap (λ (calls : List Call). old ++ calls
 abbrev failed : FileFault → Result Image FileFault
 failed fault = Err fault
 
-abbrev imaged : Image → Result Image FileFault
+abbrev pub imaged : Image → Result Image FileFault
 imaged i = Ok i
 
 pub refused_image : (bytes : List ℕ) (fault : FileFault) → image_of bytes ≡ Err fault → IsNotFirstForm bytes
@@ -49,14 +50,15 @@ done-Runs f t files calls faults (Some c) cells points (p ∷ ps) [] a b told h 
 done-Runs f t files calls faults (Some c) cells points (p ∷ ps) (q ∷ qs) a b told h text =
     let g = h.0.told told in
     let m = g.2 in
-    let e = gains (calls p) (calls q) g.0 (read_given c m.0 ∷ write_output c m.1 write.Written ∷ []) g.1 m.6 in (
+    let e = gains (calls p) (calls q) g.0 (read_given c m.0 ∷ write_output c m.1 write.Written ∷ []) g.1 m.7 in (
       c,
       m.0,
       m.1,
       refl,
       image_of-Ok m.0 m.1 m.3,
+      m.4,
       ((m.2, e, ap writes_of e ∙ writes_of-append (calls p) _), h.1),
-      text ∙ ap (λ (n : ℕ). a ++ file_line n points) m.4 ∙ ap (λ (n : ℕ). a ++ file_line (cell_count m.1.sizes) n) m.5,
+      text ∙ ap (λ (n : ℕ). a ++ file_line n points) m.5 ∙ ap (λ (n : ℕ). a ++ file_line (cells_made c.filter m.1) n) m.6,
     )
 
 pub IsDone-Runs : {P : Type 0} (f t : Bool) (files : P → Files) (calls : P → List Call) (faults : P → ℕ) (words : Option Command) (found o : Outcome) (old new : List P) (ended : Status) (old_text new_text : List ℕ) (before after : ℕ)

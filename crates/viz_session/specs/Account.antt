@@ -7,26 +7,15 @@ use Rattle.viz_base.specs.declared.call.Call.{Call}
 use Rattle.viz_base.specs.declared.call.Call.TheVariants.{Read, Write}
 use Rattle.viz_base.specs.declared.call.ReadAnswer.TheVariants as read
 use Rattle.viz_base.specs.declared.call.WriteAnswer.TheVariants as write
-use Rattle.viz_session.specs.declared.command.Filter.{Filter}
-use Rattle.viz_session.specs.declared.command.Filter.TheVariants.{Threshold}
 use Rattle.viz_session.specs.declared.outcome.Outcome.{Outcome}
 use Rattle.viz_session.specs.declared.outcome.Outcome.TheVariants as outcome
 use Rattle.viz_session.specs.declared.outcome.Status.{Status}
 use Rattle.viz_session.specs.declared.outcome.Status.TheVariants as status
-use Rattle.viz_session.specs.Image.{Image, point_count, cell_count}
+use Rattle.viz_session.specs.Image.{Image}
 use Rattle.viz_session.specs.FirstForm.{image_of}
-use Rattle.viz_session.specs.Threshold.{thresholded}
-use Rattle.viz_session.specs.Written.{image_text}
+use Rattle.viz_session.specs.Outputs.{output_text, cells_made, points_made, Accepts, IsTooWide, IsTooMany}
 use Rattle.viz_session.specs.Command.{Command}
 use Rattle.viz_session.specs.Report.{line_of, status_of, status_at_fault, status_at_memory}
-
--- what a filter makes of an image
-abbrev pub filtered : Filter → Image → Image
-filtered (Threshold lo hi) i = thresholded lo hi i
-
--- the text that a filter's result is written as
-abbrev pub output_text : Filter → Image → List ℕ
-output_text filter i = image_text (filtered filter i)
 
 -- the bytes were read and are those of the file, where files are told
 abbrev pub Content : Type 0 → Files → List ℕ → List ℕ → Type 0
@@ -35,14 +24,19 @@ Content told files name bytes = told → files name ≡ Some bytes
 -- the calls that a command's outcome stands for
 abbrev pub Gained : Command → (List ℕ → Type 0) → Outcome → List Call → Type 0
 Gained c IsContent (outcome.Written cells points) calls =
-    (bytes : List ℕ) × (i : Image) × IsContent bytes × (image_of bytes ≡ Ok i) × (cells ≡ cell_count i.sizes) × (points ≡ point_count i.sizes)
+    (bytes : List ℕ) × (i : Image) × IsContent bytes × (image_of bytes ≡ Ok i) × Accepts c.filter i
+    × (cells ≡ cells_made c.filter i) × (points ≡ points_made c.filter i)
     × (calls ≡ Read c.input (read.Given bytes) ∷ Write c.output (output_text c.filter i) write.Written ∷ [])
 Gained c IsContent (outcome.BadFile fault) calls =
     (bytes : List ℕ) × IsContent bytes × (image_of bytes ≡ Err fault) × (calls ≡ Read c.input (read.Given bytes) ∷ [])
 Gained c IsContent outcome.TooLong calls = (taken : ℕ) × (calls ≡ Read c.input (read.TooLong taken) ∷ [])
+Gained c IsContent outcome.TooWide calls =
+    (bytes : List ℕ) × (i : Image) × IsContent bytes × (image_of bytes ≡ Ok i) × IsTooWide c.filter i × (calls ≡ Read c.input (read.Given bytes) ∷ [])
+Gained c IsContent outcome.TooMany calls =
+    (bytes : List ℕ) × (i : Image) × IsContent bytes × (image_of bytes ≡ Ok i) × IsTooMany c.filter i × (calls ≡ Read c.input (read.Given bytes) ∷ [])
 Gained c IsContent outcome.ReadFault calls = calls ≡ Read c.input read.Failed ∷ []
 Gained c IsContent outcome.WriteFault calls =
-    (bytes : List ℕ) × (i : Image) × IsContent bytes × (image_of bytes ≡ Ok i)
+    (bytes : List ℕ) × (i : Image) × IsContent bytes × (image_of bytes ≡ Ok i) × Accepts c.filter i
     × (calls ≡ Read c.input (read.Given bytes) ∷ Write c.output (output_text c.filter i) write.Failed ∷ [])
 Gained c IsContent outcome.Memory calls =
     (calls ≡ []) ⊎ ((bytes : List ℕ) × IsContent bytes × (calls ≡ Read c.input (read.Given bytes) ∷ []))
@@ -56,9 +50,9 @@ Serves c IsContent o old new = (calls : List Call) × (new ≡ old ++ calls) × 
 -- a written output has the text of its input; a failed write keeps first bytes of that text; all else stays
 abbrev pub Touches : Command → Outcome → Files → Files → Type 0
 Touches c (outcome.Written cells points) old new =
-    (bytes : List ℕ) × (i : Image) × (old c.input ≡ Some bytes) × (image_of bytes ≡ Ok i) × (new c.output ≡ Some (output_text c.filter i)) × SameOthers c.output old new
+    (bytes : List ℕ) × (i : Image) × (old c.input ≡ Some bytes) × (image_of bytes ≡ Ok i) × Accepts c.filter i × (new c.output ≡ Some (output_text c.filter i)) × SameOthers c.output old new
 Touches c outcome.WriteFault old new =
-    (bytes : List ℕ) × (i : Image) × (old c.input ≡ Some bytes) × (image_of bytes ≡ Ok i) × KeepsPrefix c.output (output_text c.filter i) new × SameOthers c.output old new
+    (bytes : List ℕ) × (i : Image) × (old c.input ≡ Some bytes) × (image_of bytes ≡ Ok i) × Accepts c.filter i × KeepsPrefix c.output (output_text c.filter i) new × SameOthers c.output old new
 Touches c o old new = SameFiles old new
 
 -- a fault is told only where the count rose

@@ -4,7 +4,7 @@ use Rattle.std.specs.List.{list_all}
 use Rattle.std.specs.Str.{bytes_eq}
 use Rattle.viz_lex.specs.Numbers.{is_digit, whole_of}
 use Rattle.viz_session.specs.declared.command.Filter.{Filter}
-use Rattle.viz_session.specs.declared.command.Filter.TheVariants.{Threshold}
+use Rattle.viz_session.specs.declared.command.Filter.TheVariants.{Threshold, Contour}
 
 -- what is read, what is written, and what is done
 pub record Command : Type 0 where
@@ -47,8 +47,13 @@ number_of word =
 unfoldable pub file_name_of : List ℕ → Option (List ℕ)
 file_name_of word = if is_file_name word then Some word else None
 
+-- the words of a contour
+abbrev pub contour_of : List ℕ → List ℕ → Option Filter
+contour_of name level = if bytes_eq name (codes "contour") then option_map (λ v. Contour v) (number_of level) else None
+
 -- the words of a filter
 unfoldable pub filter_of : List (List ℕ) → Option Filter
+filter_of (name ∷ level ∷ []) = contour_of name level
 filter_of (name ∷ lo ∷ hi ∷ []) =
     if bytes_eq name (codes "threshold")
     then option_and_then (λ l. option_map (λ h. Threshold l h) (number_of hi)) (number_of lo)

@@ -4,9 +4,11 @@ pub mod FirstForm
 pub mod Grammar
 pub mod Threshold
 pub mod Written
+pub mod Outputs
 pub mod Command
 pub mod Commands
 pub mod Report
 pub mod Account
 pub mod Promises
+pub mod Refusals
 pub mod Made

@@ -12,11 +12,12 @@ use Rattle.viz_base.specs.declared.call.WriteAnswer.{WriteAnswer}
 use Rattle.viz_base.specs.declared.call.WriteAnswer.TheVariants as write
 use Rattle.viz_session.specs.declared.outcome.Status.{Status}
 use Rattle.viz_session.specs.declared.outcome.Status.TheVariants as status
-use Rattle.viz_session.specs.Image.{Image, point_count, cell_count}
+use Rattle.viz_session.specs.Image.{Image}
 use Rattle.viz_session.specs.Grammar.{IsFirstForm}
 use Rattle.viz_session.specs.Command.{Command}
-use Rattle.viz_session.specs.Account.{Content, output_text}
-use Rattle.viz_session.specs.Report.{file_line, bad_file_line, too_long_line, read_fault_line, write_fault_line, no_port_line}
+use Rattle.viz_session.specs.Account.{Content}
+use Rattle.viz_session.specs.Outputs.{output_text, cells_made, points_made, Accepts}
+use Rattle.viz_session.specs.Report.{file_line, read_fault_line, write_fault_line, no_port_line}
 
 -- the first items are related, and the others are as before
 abbrev pub FirstOnly : {P : Type 0} → (P → P → Type 0) → List P → List P → Type 0
@@ -42,15 +43,15 @@ IsNotFirstForm bytes = (i : Image) → IsFirstForm bytes i → ⊥
 abbrev pub read_given : Command → List ℕ → Call
 read_given c bytes = Read c.input (read.Given bytes)
 
--- a write of the output: the text of the filtered image
+-- a write of the output: the text of what the filter makes of the image
 abbrev pub write_output : Command → Image → WriteAnswer → Call
 write_output c i answer = Write c.output (output_text c.filter i) answer
 
--- nothing; or a read of the input; or that, of the first form, and then a write of the output
+-- nothing; or a read of the input; or that, of an image that the filter accepts, and then a write of the output
 abbrev pub IsOnce : Command → List Call → Type 0
 IsOnce c calls =
     (calls ≡ []) ⊎ (((answer : ReadAnswer) × (calls ≡ Read c.input answer ∷ []))
-    ⊎ ((bytes : List ℕ) × (i : Image) × (answer : WriteAnswer) × IsFirstForm bytes i × (calls ≡ read_given c bytes ∷ write_output c i answer ∷ [])))
+    ⊎ ((bytes : List ℕ) × (i : Image) × (answer : WriteAnswer) × IsFirstForm bytes i × Accepts c.filter i × (calls ≡ read_given c bytes ∷ write_output c i answer ∷ [])))
 
 -- no call for other words or without a port; else at most these of the first port
 abbrev pub CallsOnce : {P : Type 0} → (P → List Call) → Option Command → List P → List P → Type 0
@@ -61,7 +62,7 @@ CallsOnce calls (Some c) (p ∷ ps) new = FirstOnly (λ p q. (gained : List Call
 -- the output has the text of its input, or first bytes of it, or all files are as before; no other file is changed
 abbrev pub WritesOnly : Command → Files → Files → Type 0
 WritesOnly c old new =
-    SameFiles old new ⊎ ((bytes : List ℕ) × (i : Image) × (old c.input ≡ Some bytes) × IsFirstForm bytes i × SameOthers c.output old new
+    SameFiles old new ⊎ ((bytes : List ℕ) × (i : Image) × (old c.input ≡ Some bytes) × IsFirstForm bytes i × Accepts c.filter i × SameOthers c.output old new
     × ((new c.output ≡ Some (output_text c.filter i)) ⊎ KeepsPrefix c.output (output_text c.filter i) new))
 
 -- what the first port's files show, where it served a command
@@ -70,44 +71,18 @@ FilesOnce files None old new = new ≡ old
 FilesOnce files (Some c) [] new = new ≡ []
 FilesOnce files (Some c) (p ∷ ps) new = FirstOnly (λ p q. WritesOnly c (files p) (files q)) (p ∷ ps) new
 
--- a run that answers Done read a file of the first form, and wrote the text of its filtered image
+-- a run that answers Done read an image that the filter accepts, and wrote the text of what is made of it
 abbrev pub IsDone : {P : Type 0} → Type 0 → (P → Files) → (P → List Call) → Option Command → List P → List P → List ℕ → List ℕ → Type 0
 IsDone told files calls words old new old_text new_text =
-    (c : Command) × (bytes : List ℕ) × (i : Image) × (words ≡ Some c) × IsFirstForm bytes i
+    (c : Command) × (bytes : List ℕ) × (i : Image) × (words ≡ Some c) × IsFirstForm bytes i × Accepts c.filter i
     × FirstOnly (λ p q. Content told (files p) c.input bytes × Gains calls (read_given c bytes ∷ write_output c i write.Written ∷ []) p q
     × (writes_of (calls q) ≡ writes_of (calls p) ++ (c.output, output_text c.filter i) ∷ [])) old new
-    × (new_text ≡ old_text ++ file_line (cell_count i.sizes) (point_count i.sizes))
-
--- a run that answers Refused read a file that isn't of the first form, or is too long, and nothing else
-abbrev pub IsRefused : {P : Type 0} → Type 0 → (P → Files) → (P → List Call) → Option Command → List P → List P → List ℕ → List ℕ → Type 0
-IsRefused told files calls words old new old_text new_text =
-    (c : Command) × (words ≡ Some c)
-    × (((bytes : List ℕ) × IsNotFirstForm bytes × FirstOnly (λ p q. Content told (files p) c.input bytes × Gains calls (read_given c bytes ∷ []) p q) old new
-    × (new_text ≡ old_text ++ bad_file_line))
-    ⊎ ((taken : ℕ) × FirstOnly (Gains calls (Read c.input (read.TooLong taken) ∷ [])) old new × (new_text ≡ old_text ++ too_long_line)))
-
--- the whole line was put with the status; or first bytes of it, and the count rose; or memory ran out
-abbrev pub Puts : Status → List ℕ → Status → List ℕ → List ℕ → ℕ → ℕ → Type 0
-Puts wanted line ended old_text new_text old_faults new_faults =
-    ((ended ≡ wanted) × (new_text ≡ old_text ++ line))
-    ⊎ (((ended ≡ status.Fault) × Rose old_faults new_faults × AppendsPrefix old_text line new_text) ⊎ (ended ≡ status.Memory))
+    × (new_text ≡ old_text ++ file_line (cells_made c.filter i) (points_made c.filter i))
 
 -- the whole line was put; or first bytes of it, and the count rose; or nothing
 abbrev pub PutsLine : List ℕ → List ℕ → List ℕ → ℕ → ℕ → Type 0
 PutsLine line old_text new_text old_faults new_faults =
     (new_text ≡ old_text ++ line) ⊎ ((Rose old_faults new_faults × AppendsPrefix old_text line new_text) ⊎ (new_text ≡ old_text))
-
--- where the first port gave bytes that aren't of the first form, that is put
-abbrev pub RefusesBadFiles : {P : Type 0} → (P → List Call) → Option Command → List P → List P → Status → List ℕ → List ℕ → ℕ → ℕ → Type 0
-RefusesBadFiles calls words old new ended old_text new_text old_faults new_faults =
-    (c : Command) (bytes : List ℕ) → words ≡ Some c → IsNotFirstForm bytes → FirstOnly (Gains calls (read_given c bytes ∷ [])) old new
-    → Puts status.Refused bad_file_line ended old_text new_text old_faults new_faults
-
--- where the first port's read answered that the file is too long, that is put
-abbrev pub RefusesLongFiles : {P : Type 0} → (P → List Call) → Option Command → List P → List P → Status → List ℕ → List ℕ → ℕ → ℕ → Type 0
-RefusesLongFiles calls words old new ended old_text new_text old_faults new_faults =
-    (c : Command) (taken : ℕ) → words ≡ Some c → FirstOnly (Gains calls (Read c.input (read.TooLong taken) ∷ [])) old new
-    → Puts status.Refused too_long_line ended old_text new_text old_faults new_faults
 
 -- without a port that is put, and the status is Script unless memory ran out
 abbrev pub WantsPort : {P : Type 0} → Option Command → List P → Status → List ℕ → List ℕ → ℕ → ℕ → Type 0

@@ -26,6 +26,14 @@ bad_file_line = codes "refused fault:src:BadFile(Unsupported,0)\n"
 unfoldable pub too_long_line : List ℕ
 too_long_line = codes "refused TooLong\n"
 
+-- a number of the result is too wide
+unfoldable pub too_wide_line : List ℕ
+too_wide_line = codes "refused fault:op:TooWide\n"
+
+-- the result has too many points or cells
+unfoldable pub too_many_line : List ℕ
+too_many_line = codes "refused fault:op:TooMany\n"
+
 -- the read failed
 unfoldable pub read_fault_line : List ℕ
 read_fault_line = codes "fault read\n"
@@ -45,6 +53,8 @@ line_of outcome.NoPort = no_port_line
 line_of (outcome.Written cells points) = file_line cells points
 line_of (outcome.BadFile fault) = bad_file_line
 line_of outcome.TooLong = too_long_line
+line_of outcome.TooWide = too_wide_line
+line_of outcome.TooMany = too_many_line
 line_of outcome.ReadFault = read_fault_line
 line_of outcome.WriteFault = write_fault_line
 line_of outcome.Memory = memory_line
@@ -56,6 +66,8 @@ status_of outcome.NoPort = status.Script
 status_of (outcome.Written cells points) = status.Done
 status_of (outcome.BadFile fault) = status.Refused
 status_of outcome.TooLong = status.Refused
+status_of outcome.TooWide = status.Refused
+status_of outcome.TooMany = status.Refused
 status_of outcome.ReadFault = status.Fault
 status_of outcome.WriteFault = status.Fault
 status_of outcome.Memory = status.Memory

@@ -1,7 +1,7 @@
 //! Commands, read by hand from their words (docs/FORMATS.md, "Words of a command").
 
 ghost use Rattle.std.specs.Prelude.{◌≡◌, option_map, if◌then◌else◌};
-ghost use Rattle.viz_session.specs.Command.{is_name_byte, is_file_byte, begins_name, is_file_name, file_name_of, is_number_byte, fits_i64, number_of, filter_of, command_of};
+ghost use Rattle.viz_session.specs.Command.{is_name_byte, is_file_byte, begins_name, is_file_name, file_name_of, is_number_byte, fits_i64, number_of, contour_of, filter_of, command_of};
 ghost use Rattle.viz_session.specs.Commands.{command_view};
 ghost use Rattle.std.specs.List.{list_all};
 
@@ -13,6 +13,8 @@ use viz_lex::Lexer;
 pub enum Filter {
     /// Keeps the values from `lo` to `hi`, and makes every other 0.
     Threshold { lo: i64, hi: i64 },
+    /// Cuts the image where its values are `level`.
+    Contour { level: i64 },
 }
 
 /// The words `once IN OUT` and a filter: one file is read, and one is written.
@@ -100,11 +102,25 @@ fn number(word: &[u8]) -> Option<i64>
     }
 }
 
+/// The contour of its words.
+fn read_contour(name: &[u8], level: &[u8]) -> Option<Filter>
+    ensures { result ≡ contour_of name.now level.now }
+{
+    if name != b"contour".as_slice() {
+        return None;
+    }
+    let level = number(level)?;
+    Some(Filter::Contour { level })
+}
+
 /// The filter of its words.
 #[tactic(auto, unfolding(crate::specs::Command::filter_of))]
 fn read_filter(words: &[Bytes]) -> Option<Filter>
     ensures { result ≡ filter_of words.now }
 {
+    if let [name, level] = words {
+        return read_contour(name.list(), level.list());
+    }
     let [name, lo, hi] = words else {
         return None;
     };

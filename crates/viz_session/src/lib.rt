@@ -2,8 +2,10 @@
 #![tactic(auto)]
 
 mod command;
+mod contour;
 mod image;
 mod laws;
+mod made;
 mod once;
 mod outcome;
 mod read;
@@ -17,5 +19,11 @@ pub use laws::first_form_is_read;
 pub use outcome::Status;
 pub use session::run;
 
+#[cfg(test)]
+mod contour_tests;
+#[cfg(test)]
+mod contour_texts;
+#[cfg(test)]
+mod runs;
 #[cfg(test)]
 mod tests;

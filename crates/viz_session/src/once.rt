@@ -2,37 +2,23 @@
 
 ghost use Rattle.std.specs.Prelude.{◌≡◌, ◌≤◌, IsTrue, Ok};
 ghost use Rattle.viz_session.specs.FirstForm.{image_of};
-ghost use Rattle.viz_session.specs.Account.{Content, filtered, IsOfPort, Serves, Touches, HasCause};
+ghost use Rattle.viz_session.specs.Account.{Content, IsOfPort, Serves, Touches, HasCause};
 ghost use Rattle.viz_session.specs.Commands.{command_view};
 ghost use Rattle.viz_session.specs.Reads.{Gives, image_view};
-ghost use Rattle.viz_session.specs.Made.{Makes};
+ghost use Rattle.viz_session.specs.Made.{Makes, MakesOf};
+ghost use Rattle.viz_session.specs.declared.command.Filter.TheVariants.{Threshold};
 
 use crate::command::{Filter, Once};
+use crate::contour::contour;
 use crate::image::IntImage;
+use crate::made::Made;
 use crate::outcome::Outcome;
 use crate::read::read;
-use crate::stop::ReadStop;
+use crate::stop::{MakeStop, ReadStop};
 use crate::threshold::threshold;
 use crate::write::image_text;
 use std::alloc::Global;
 use viz_base::{Bytes, Port, ReadRefusal, WriteRefusal};
-
-/// The text of a result, and its numbers.
-#[derive(Debug, Drop)]
-pub struct Made {
-    pub text: Vec<u8>,
-    pub cells: u64,
-    pub points: u64,
-}
-
-/// What a filter makes of an image.
-fn filtered(filter: &Filter, image: IntImage) -> IntImage
-    ensures { image_view result ≡ filtered filter.now (image_view image) }
-{
-    match filter {
-        Filter::Threshold { lo, hi } => threshold(image, lo, hi),
-    }
-}
 
 /// The image of a file; the bytes are given up.
 fn image_of(alloc: Global, bytes: Bytes) -> Result<IntImage, ReadStop>
@@ -41,13 +27,11 @@ fn image_of(alloc: Global, bytes: Bytes) -> Result<IntImage, ReadStop>
     read(alloc, bytes.list())
 }
 
-/// The written text of a file's image behind a filter. The file's bytes are given up before the
-/// text is made.
-fn make(alloc: Global, filter: &Filter, bytes: Bytes) -> Result<Made, ReadStop>
-    ensures { Makes filter.now bytes result }
+/// The text and the numbers of a thresholded image.
+fn thresholded(alloc: Global, image: IntImage, lo: &i64, hi: &i64) -> Result<Made, MakeStop>
+    ensures { MakesOf (Threshold lo.now hi.now) (image_view image) result }
 {
-    let image = image_of(alloc, bytes)?;
-    let image = filtered(filter, image);
+    let image = threshold(image, lo, hi);
     let cells = u64::from(image.sizes.cell_count());
     let points = u64::from(image.sizes.point_count());
     let text = image_text(alloc, &image)?;
@@ -58,7 +42,26 @@ fn make(alloc: Global, filter: &Filter, bytes: Bytes) -> Result<Made, ReadStop>
     })
 }
 
-/// Reads the command's input, and writes its output where the input is of the first form.
+/// What a filter makes of an image.
+fn made_of(alloc: Global, filter: &Filter, image: IntImage) -> Result<Made, MakeStop>
+    ensures { MakesOf filter.now (image_view image) result }
+{
+    match filter {
+        Filter::Threshold { lo, hi } => thresholded(alloc, image, lo, hi),
+        Filter::Contour { level } => contour(alloc, &image, level),
+    }
+}
+
+/// What a filter makes of a file's image. The file's bytes are given up before the text is made.
+fn make(alloc: Global, filter: &Filter, bytes: Bytes) -> Result<Made, MakeStop>
+    ensures { Makes filter.now bytes result }
+{
+    let image = image_of(alloc, bytes)?;
+    made_of(alloc, filter, image)
+}
+
+/// Reads the command's input, and writes its output where the input is of the first form and
+/// the filter accepts its image.
 pub fn serve<P: Port>(alloc: Global, command: &Once<'_>, port: &mut P) -> Outcome
     ensures served { IsOfPort result }
     ensures calls { IsTrue P.tells_calls
@@ -78,8 +81,10 @@ pub fn serve<P: Port>(alloc: Global, command: &Once<'_>, port: &mut P) -> Outcom
     };
     let made = match make(alloc, &command.filter, bytes) {
         Ok(made) => made,
-        Err(ReadStop::File(fault)) => return Outcome::BadFile(fault),
-        Err(ReadStop::Memory) => return Outcome::Memory,
+        Err(MakeStop::File(fault)) => return Outcome::BadFile(fault),
+        Err(MakeStop::TooWide) => return Outcome::TooWide,
+        Err(MakeStop::TooMany) => return Outcome::TooMany,
+        Err(MakeStop::Memory) => return Outcome::Memory,
     };
     match port.write(alloc, command.output, &made.text) {
         Ok(()) => Outcome::Written {

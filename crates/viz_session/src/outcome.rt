@@ -32,6 +32,10 @@ pub enum Outcome {
     BadFile(FileFault),
     /// The file that was to be read is too long.
     TooLong,
+    /// A number of the result is too wide.
+    TooWide,
+    /// The result has too many points or cells.
+    TooMany,
     /// The read failed.
     ReadFault,
     /// The write failed.

@@ -18,7 +18,9 @@ fn status_of(outcome: &Outcome) -> Status
         Outcome::Usage => Status::Usage,
         Outcome::NoPort => Status::Script,
         Outcome::Written { .. } => Status::Done,
-        Outcome::BadFile(_) | Outcome::TooLong => Status::Refused,
+        Outcome::BadFile(_) | Outcome::TooLong | Outcome::TooWide | Outcome::TooMany => {
+            Status::Refused
+        }
         Outcome::ReadFault | Outcome::WriteFault => Status::Fault,
         Outcome::Memory => Status::Memory,
     }
@@ -47,7 +49,7 @@ fn status_at_memory(outcome: &Outcome) -> Status
 }
 
 /// The line of an outcome without numbers; of a written file, that memory ran out.
-#[tactic(auto, unfolding(crate::specs::Report::usage_line, crate::specs::Report::no_port_line, crate::specs::Report::bad_file_line, crate::specs::Report::too_long_line, crate::specs::Report::read_fault_line, crate::specs::Report::write_fault_line, crate::specs::Report::memory_line))]
+#[tactic(auto, unfolding(crate::specs::Report::usage_line, crate::specs::Report::no_port_line, crate::specs::Report::bad_file_line, crate::specs::Report::too_long_line, crate::specs::Report::too_wide_line, crate::specs::Report::too_many_line, crate::specs::Report::read_fault_line, crate::specs::Report::write_fault_line, crate::specs::Report::memory_line))]
 fn fixed_line(outcome: &Outcome) -> &'static [u8]
     ensures { IsFixed outcome.now → result.now ≡ line_of outcome.now }
 {
@@ -56,6 +58,8 @@ fn fixed_line(outcome: &Outcome) -> &'static [u8]
         Outcome::NoPort => b"script line 0 ActorRange\n",
         Outcome::BadFile(_) => b"refused fault:src:BadFile(Unsupported,0)\n",
         Outcome::TooLong => b"refused TooLong\n",
+        Outcome::TooWide => b"refused fault:op:TooWide\n",
+        Outcome::TooMany => b"refused fault:op:TooMany\n",
         Outcome::ReadFault => b"fault read\n",
         Outcome::WriteFault => b"fault write\n",
         Outcome::Memory | Outcome::Written { .. } => b"memory\n",

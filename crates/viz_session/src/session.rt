@@ -5,8 +5,10 @@ ghost use Rattle.viz_base.specs.Faults.{Rose};
 ghost use Rattle.viz_session.specs.declared.outcome.Outcome.{Outcome as Ended};
 ghost use Rattle.viz_session.specs.Account.{Runs, IsServed, IsReported};
 ghost use Rattle.viz_session.specs.Command.{command_of};
-ghost use Rattle.viz_session.specs.Promises.{PutsLine, WantsPort, OthersStay, CallsOnce, FilesOnce, IsDone, IsRefused, RefusesBadFiles, RefusesLongFiles, IsFault, FirstKeeps, FirstRose};
-ghost use Rattle.viz_session.specs.Report.{usage_line};
+ghost use Rattle.viz_session.specs.Promises.{PutsLine, WantsPort, OthersStay, CallsOnce, FilesOnce, IsDone, IsFault, FirstKeeps, FirstRose};
+ghost use Rattle.viz_session.specs.Outputs.{IsTooWide, IsTooMany};
+ghost use Rattle.viz_session.specs.Refusals.{IsRefused, RefusesBadFiles, RefusesLongFiles, RefusesImages};
+ghost use Rattle.viz_session.specs.Report.{usage_line, too_wide_line, too_many_line};
 
 use crate::command::command;
 use crate::once::serve;
@@ -83,6 +85,14 @@ pub fn run<R: Threads + Wait + Sync, P: Port + Send + Drop, O: Out, G: Gate + Sy
         (O.text out.old) (O.text out.new) (O.faults out.old) (O.faults out.new) }
     ensures too_long { IsTrue P.tells_calls → IsTrue O.tells_text
         → RefusesLongFiles P.calls (command_of words.now) ports.old.items ports.new.items result
+        (O.text out.old) (O.text out.new) (O.faults out.old) (O.faults out.new) }
+    ensures too_wide { IsTrue P.tells_calls → IsTrue O.tells_text
+        → RefusesImages IsTooWide too_wide_line
+        P.calls (command_of words.now) ports.old.items ports.new.items result
+        (O.text out.old) (O.text out.new) (O.faults out.old) (O.faults out.new) }
+    ensures too_many { IsTrue P.tells_calls → IsTrue O.tells_text
+        → RefusesImages IsTooMany too_many_line
+        P.calls (command_of words.now) ports.old.items ports.new.items result
         (O.text out.old) (O.text out.new) (O.faults out.old) (O.faults out.new) }
     ensures fault { result ≡ Status.Fault → IsTrue P.tells_calls → IsTrue O.tells_text
         → IsFault P.calls (command_of words.now) ports.old.items ports.new.items

@@ -1,15 +1,12 @@
 //! Worked values, counted by hand: runs over files in memory, and first faults with their places.
 
 use crate::read::read;
+use crate::runs::{desk, files, output_of, ran, replaced, words};
 use crate::stop::ReadStop;
 use crate::{Status, run};
 use std::alloc::Global;
-use std::sync::Wait;
 use std::test::Fail;
-use std::thread::Threads;
-use viz_base::{
-    Bytes, FILE_LIMIT, FailAt, FileEntry, MemoryOut, MemoryPort, NeverFails, OpenGate, Port, Word,
-};
+use viz_base::{FILE_LIMIT, FailAt, MemoryOut, MemoryPort, NeverFails, OpenGate};
 use viz_lex::{FileFault, FileKind};
 
 // The lines in front of the values of an image of 2 x 2 points: 168 bytes.
@@ -19,55 +16,6 @@ const HEADER: &str =
 // The lines in front of the values of the image that is written for it.
 const WRITTEN: &str =
     "# vtk DataFile Version 3.0\nvizrun image\nASCII\nDATASET STRUCTURED_POINTS\nDIMENSIONS 2 2 1\nORIGIN 0 0 0\nSPACING 1 1 1\nPOINT_DATA 4\nSCALARS scalars int 1\nLOOKUP_TABLE default\n";
-
-fn words(alloc: Global, line: &str) -> Result<Vec<Bytes>, Fail> {
-    let mut words = Vec::new(alloc);
-    for word in line.split_whitespace() {
-        words.push(Bytes::new(word.as_bytes().to_vec(alloc)?))?;
-    }
-    Ok(words)
-}
-
-// `b.vtk` with this text, and `o.vtk` with the text `old`.
-fn files(alloc: Global, text: &str) -> Result<Vec<FileEntry>, Fail> {
-    let mut files = Vec::new(alloc);
-    for (name, text) in [("b.vtk", text), ("o.vtk", "old")] {
-        files.push(FileEntry {
-            name: Word::new(name.as_bytes()).ok_or("no name")?,
-            bytes: Bytes::new(text.as_bytes().to_vec(alloc)?),
-        })?;
-    }
-    Ok(files)
-}
-
-// Runs the line over one port, and gives the status, the text put and the port.
-fn ran<R: Threads + Wait + Sync, P: Port + Send + Drop>(
-    rt: &R,
-    alloc: Global,
-    line: &str,
-    desk: &mut P,
-    port: P,
-    failing_puts: Vec<u64>,
-) -> Result<(Status, String, Vec<P>), Fail> {
-    let words = words(alloc, line)?;
-    let mut ports = Vec::new(alloc);
-    ports.push(port).ok().ok_or("no room")?;
-    let mut out = MemoryOut::new(alloc, failing_puts);
-    let status = run(rt, alloc, &words, desk, &mut ports, &mut out, &OpenGate);
-    let text = String::from_utf8(out.text().to_vec(alloc)?)?;
-    Ok((status, text, ports))
-}
-
-fn output_of(ports: &Vec<MemoryPort>) -> Option<&[u8]> {
-    match ports.first()?.file("o.vtk") {
-        Some(bytes) => Some(bytes.list()),
-        None => None,
-    }
-}
-
-fn desk(alloc: Global) -> MemoryPort {
-    MemoryPort::new(alloc, Vec::new(alloc), FILE_LIMIT, Vec::new(alloc))
-}
 
 #[test]
 fn values_outside_the_bounds_become_0(rt: HostRuntime) -> Result<(), Fail> {
@@ -93,7 +41,7 @@ fn values_outside_the_bounds_become_0(rt: HostRuntime) -> Result<(), Fail> {
         let text = format!(in alloc; "{HEADER}{values}")?;
         let port = MemoryPort::new(
             alloc,
-            files(alloc, text.as_str())?,
+            files(alloc, "b.vtk", text.as_str())?,
             FILE_LIMIT,
             Vec::new(alloc),
         );
@@ -114,7 +62,7 @@ fn nothing_fails_over_a_port_that_never_does(rt: HostRuntime) -> Result<(), Fail
     let alloc = rt.alloc();
     let text = format!(in alloc; "{HEADER}1 2 3 4")?;
     let line = "once b.vtk o.vtk threshold 2 3";
-    let port = NeverFails::new(alloc, files(alloc, text.as_str())?, FILE_LIMIT);
+    let port = NeverFails::new(alloc, files(alloc, "b.vtk", text.as_str())?, FILE_LIMIT);
     let mut desk = NeverFails::new(alloc, Vec::new(alloc), FILE_LIMIT);
     let (status, told, ports) = ran(&rt, alloc, line, &mut desk, port, Vec::new(alloc))?;
     assert!(rt; status == Status::Done);
@@ -137,8 +85,7 @@ fn fault_of(alloc: Global, text: &str) -> Option<FileFault> {
 // The small file with `new` in place of the first `old`.
 fn edited(alloc: Global, old: &str, new: &str) -> Result<String, Fail> {
     let whole = format!(in alloc; "{HEADER}1 2\n3 4\n")?;
-    let (front, behind) = whole.as_str().split_once(old).ok_or("no such words")?;
-    Ok(format!(in alloc; "{front}{new}{behind}")?)
+    replaced(alloc, whole.as_str(), old, new)
 }
 
 // Places are counted in the edited file's bytes, from 0.
@@ -255,6 +202,56 @@ fn refusals_leave_the_output(rt: HostRuntime) -> Result<(), Fail> {
             Status::Usage,
             "vizrun: usage\n",
         ),
+        // A contour takes one number.
+        (
+            "once b.vtk o.vtk contour",
+            "",
+            161,
+            9,
+            Status::Usage,
+            "vizrun: usage\n",
+        ),
+        (
+            "once b.vtk o.vtk contour 2 3",
+            "",
+            161,
+            9,
+            Status::Usage,
+            "vizrun: usage\n",
+        ),
+        (
+            "once b.vtk o.vtk contour 9223372036854775808",
+            "",
+            161,
+            9,
+            Status::Usage,
+            "vizrun: usage\n",
+        ),
+        (
+            "once b.vtk o.vtk contour -9223372036854775809",
+            "",
+            161,
+            9,
+            Status::Usage,
+            "vizrun: usage\n",
+        ),
+        (
+            "once b.vtk o.vtk contour +2",
+            "",
+            161,
+            9,
+            Status::Usage,
+            "vizrun: usage\n",
+        ),
+        (
+            "once b.vtk o.vtk Contour 2",
+            "",
+            161,
+            9,
+            Status::Usage,
+            "vizrun: usage\n",
+        ),
+        // Names and the verb.
         (
             "once b.vtk .o.vtk threshold 2 3",
             "",
@@ -281,7 +278,7 @@ fn refusals_leave_the_output(rt: HostRuntime) -> Result<(), Fail> {
         ),
     ] {
         let failing = vec![in alloc; FailAt { call, kept: 0 }]?;
-        let port = MemoryPort::new(alloc, files(alloc, file)?, limit, failing);
+        let port = MemoryPort::new(alloc, files(alloc, "b.vtk", file)?, limit, failing);
         let (ended, told, ports) = ran(&rt, alloc, line, &mut desk(alloc), port, Vec::new(alloc))?;
         assert!(rt; ended == status, "{line}: {told}");
         assert_eq!(rt; told.as_str(), want, "{line}");
@@ -300,7 +297,12 @@ fn a_failed_write_keeps_some_bytes_and_a_failed_put_none(rt: HostRuntime) -> Res
         (9, 1, Status::Fault, "", WRITTEN),
     ] {
         let failing = vec![in alloc; FailAt { call, kept: 4 }]?;
-        let port = MemoryPort::new(alloc, files(alloc, good.as_str())?, FILE_LIMIT, failing);
+        let port = MemoryPort::new(
+            alloc,
+            files(alloc, "b.vtk", good.as_str())?,
+            FILE_LIMIT,
+            failing,
+        );
         let puts = vec![in alloc; put]?;
         let (ended, told, ports) = ran(&rt, alloc, once, &mut desk(alloc), port, puts)?;
         assert!(rt; ended == status, "{told}");
@@ -324,7 +326,7 @@ fn the_first_port_alone_is_called(rt: HostRuntime) -> Result<(), Fail> {
         for _ in 0..count {
             let port = MemoryPort::new(
                 alloc,
-                files(alloc, good.as_str())?,
+                files(alloc, "b.vtk", good.as_str())?,
                 FILE_LIMIT,
                 Vec::new(alloc),
             );

@@ -3,7 +3,7 @@ use Rattle.viz_session.proofs.RunLemmas.{usage-Runs}
 use Rattle.viz_session.proofs.PromiseLemmas.{OthersStay-Runs, CallsOnce-Runs, FilesOnce-Runs, FirstRose-Runs}
 use Rattle.viz_session.proofs.RunPromises.{IsDone-Runs}
 use Rattle.viz_session.proofs.RefusalPromises.{IsRefused-Runs, IsFault-Runs, WantsPort-Runs, FirstKeeps-Runs}
-use Rattle.viz_session.proofs.ExactPromises.{RefusesBadFiles-Runs, RefusesLongFiles-Runs}
+use Rattle.viz_session.proofs.ExactPromises.{RefusesBadFiles-Runs, RefusesLongFiles-Runs, RefusesWide-Runs, RefusesMany-Runs}
 use Rattle.viz_session.proofs.session.run.Goals as goal
 
 pub returns-clause-usage : goal.returns-clause-usage
@@ -43,6 +43,16 @@ pub returns-clause-too_long : goal.returns-clause-too_long
 returns-clause-too_long g c =
     λ told text. let r = c.report.ensures.told text in
     RefusesLongFiles-Runs g.P.Port.tells_files g.P.Port.tells_calls g.P.Port.files g.P.Port.calls g.P.Port.faults _ _ r.0 _ _ _ _ _ _ _ told c.serve_words-outcome.ensures r.1 r.2
+
+pub returns-clause-too_wide : goal.returns-clause-too_wide
+returns-clause-too_wide g c =
+    λ told text. let r = c.report.ensures.told text in
+    RefusesWide-Runs g.P.Port.tells_files g.P.Port.tells_calls g.P.Port.files g.P.Port.calls g.P.Port.faults _ _ r.0 _ _ _ _ _ _ _ told c.serve_words-outcome.ensures r.1 r.2
+
+pub returns-clause-too_many : goal.returns-clause-too_many
+returns-clause-too_many g c =
+    λ told text. let r = c.report.ensures.told text in
+    RefusesMany-Runs g.P.Port.tells_files g.P.Port.tells_calls g.P.Port.files g.P.Port.calls g.P.Port.faults _ _ r.0 _ _ _ _ _ _ _ told c.serve_words-outcome.ensures r.1 r.2
 
 pub returns-clause-no_port : goal.returns-clause-no_port
 returns-clause-no_port g c =

@@ -1,0 +1,10 @@
+pub mod TetrahedraLemmas
+pub mod NameOrder
+pub mod NameSets
+pub mod NameRanks
+pub mod MembersLemmas
+pub mod WholeLemmas
+pub mod NarrowLemmas
+pub mod CellLemmas
+pub mod SectionLemmas
+pub mod CutLemmas

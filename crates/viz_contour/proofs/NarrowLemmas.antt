@@ -1,0 +1,54 @@
+-- Which ends are inside, and the crossing of a name by the values at its ends.
+use Rattle.std.proofs.Common.{◌≡◌, ℕ, ◌<◌, Bool, true, false, ℤ, pos, List, length, slice_index_or, refl, sym, ap, subst, ◌∙◌, arith}
+use Rattle.std.specs.Prelude.{◌-ℤ◌, int_le}
+use Rattle.std.proofs.lemmas.Int.{ints}
+use borrow.Author.Differences.{le-true, le-false, true_is_le, false_is_le}
+use Rattle.viz_fraction.specs.declared.forms.Form.{Form}
+use Rattle.viz_fraction.specs.Points.{Point}
+use Rattle.viz_fraction.specs.Forms.{value_of}
+use Rattle.viz_fraction.specs.Crossings.{edge_crossing}
+use Rattle.viz_contour.specs.declared.names.EdgeName.{EdgeName}
+use Rattle.viz_contour.specs.Contour.{insides}
+use Rattle.viz_contour.specs.Points.{either_crossing, IsNarrowEither, IsNarrowName}
+use Rattle.viz_contour.proofs.MembersLemmas.{get_or-map_of}
+
+-- a point is inside where its value is at least the level
+pub inside_at : (level : ℤ) (values : List ℤ) (leaf : ℕ) → leaf < length values
+    → slice_index_or (insides level values) leaf false ≡ int_le level (slice_index_or values leaf (pos 0))
+inside_at level values leaf within = get_or-map_of (λ n. int_le level n) values leaf (pos 0) false within
+
+-- a value is at least the level where it is at least 0 above it
+pub above_le : (level s : ℤ) → int_le (pos 0) (s -ℤ level) ≡ int_le level s
+above_le level s = cases (int_le level s) refl
+  where
+    cases : (b : Bool) → int_le level s ≡ b → int_le (pos 0) (s -ℤ level) ≡ int_le level s
+    cases true holds = sym (true_is_le (pos 0) (s -ℤ level) (omega (arith, ints, le-true level s holds))) ∙ sym holds
+    cases false fails = sym (false_is_le (pos 0) (s -ℤ level) (omega (arith, ints, le-false level s fails))) ∙ sym fails
+
+-- the crossing by values is that of the form
+pub either-edge : (f : Form) (p q a b : Point) (la lb : ℤ) → la ≡ value_of f p → lb ≡ value_of f q → a ≡ p → b ≡ q
+    → either_crossing la a lb b ≡ edge_crossing f p q
+either-edge f p q a b la lb is_la is_lb is_a is_b =
+    ap (λ n. either_crossing n a lb b) is_la
+    ∙ ap (λ n. either_crossing (value_of f p) a n b) is_lb
+    ∙ ap (λ r. either_crossing (value_of f p) r (value_of f q) b) is_a
+    ∙ ap (λ r. either_crossing (value_of f p) p (value_of f q) r) is_b
+
+-- and so is whether it is wide
+pub narrow_either : (f : Form) (at : ℕ → Point) (n : EdgeName) (a b : Point) (la lb : ℤ)
+    → la ≡ value_of f (at n.low) → lb ≡ value_of f (at n.high) → a ≡ at n.low → b ≡ at n.high
+    → (IsNarrowEither la a lb b → IsNarrowName f at n) × (IsNarrowName f at n → IsNarrowEither la a lb b)
+narrow_either f at n a b la lb is_la is_lb is_a is_b =
+    let p = at n.low in
+    let q = at n.high in
+    let A : ℤ → Type 0 = λ z. IsNarrowEither z a lb b in
+    let B : ℤ → Type 0 = λ z. IsNarrowEither (value_of f p) a z b in
+    let C : Point → Type 0 = λ r. IsNarrowEither (value_of f p) r (value_of f q) b in
+    let D : Point → Type 0 = λ r. IsNarrowEither (value_of f p) p (value_of f q) r in (
+      λ h.
+          let at_ends = subst D is_b (subst C is_a (subst B is_lb (subst A is_la h))) in
+          record { up = at_ends.up; down = at_ends.down },
+      λ h.
+          let at_ends : IsNarrowEither (value_of f p) p (value_of f q) q = record { up = h.up; down = h.down } in
+          subst A (sym is_la) (subst B (sym is_lb) (subst C (sym is_a) (subst D (sym is_b) at_ends))),
+    )

@@ -1,0 +1,10 @@
+use Rattle.std.proofs.Common.{◌≡◌, map, take}
+use Rattle.viz_contour.specs.Contour.{point_of_name}
+use Rattle.viz_contour.specs.Points.{AreNarrow}
+use Rattle.viz_contour.proofs.crossings.points.Given as goal
+
+abbrev pub invariant-loop-name : goal.invariant-loop-name
+invariant-loop-name l = record {
+  made : l.points.items ≡ map (point_of_name l.level l.lattice l.values) (take l.name-index l.names);
+  narrow : AreNarrow l.level l.lattice l.values (take l.name-index l.names);
+}
