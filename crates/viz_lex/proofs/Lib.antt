@@ -1,5 +1,11 @@
+pub mod AllLemmas
+pub mod DecidedLemmas
+pub mod FoldLemmas
+pub mod ItemLemmas
+pub mod KnownLemmas
 pub mod LineLemmas
 pub mod NumberLemmas
 pub mod ReadingLemmas
+pub mod RuleLemmas
 mod StandardFacts
 pub mod WordLemmas

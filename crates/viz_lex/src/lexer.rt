@@ -83,9 +83,9 @@ impl<'a> Lexer<'a> {
         Some(span)
     }
 
-    // The word that `word` finds.
+    /// The word that `word` finds: it isn't passed over.
     #[tactic(auto, unfolding(crate::specs::Words::word_at))]
-    fn ahead(&self) -> Option<Span>
+    pub fn ahead(&self) -> Option<Span>
         ensures value { result ≡ option_map (λ found. found.0) (word_at self.now) }
         ensures none { IsNone result ↔ IsBlank (rest_of self.now) }
         ensures ahead { IfSome result (λ span. self.now.place ≤ span.start) }

@@ -10,8 +10,10 @@ mod laws;
 mod lexer;
 mod number;
 mod put;
+mod rule_laws;
 mod scan;
 mod span;
+mod steps;
 
 pub use fault::{FileFault, FileKind};
 pub use laws::{
@@ -20,7 +22,13 @@ pub use laws::{
 };
 pub use lexer::Lexer;
 pub use put::put_whole;
+pub use rule_laws::{
+    AnyRule, RuleAmong, RuleKnowing, choices_are_decided, decided_rules_are_definite,
+    following_rules_are_decided, items_are_decided, knowing_rules_are_decided,
+    repeated_rules_are_decided, rules_to_the_end_are_decided, tests_are_decided,
+};
 pub use span::Span;
+pub use steps::{is_word, keyword_fault};
 
 #[cfg(test)]
 mod tests;
