@@ -4,7 +4,9 @@ pub mod FoldLemmas
 pub mod ItemLemmas
 pub mod KnownLemmas
 pub mod LineLemmas
+pub mod MetadataLemmas
 pub mod NumberLemmas
+pub mod PassLemmas
 pub mod ReadingLemmas
 pub mod RuleLemmas
 mod StandardFacts

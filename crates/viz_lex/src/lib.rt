@@ -8,7 +8,9 @@
 mod fault;
 mod laws;
 mod lexer;
+mod metadata;
 mod number;
+mod pass;
 mod put;
 mod rule_laws;
 mod scan;
