@@ -7,6 +7,7 @@ pub mod LineLemmas
 pub mod MetadataLemmas
 pub mod NumberLemmas
 pub mod PassLemmas
+pub mod PassRules
 pub mod ReadingLemmas
 pub mod RuleLemmas
 mod StandardFacts

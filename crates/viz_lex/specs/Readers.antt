@@ -1,9 +1,11 @@
 -- The readers of what stands one behind the other, which proofs compare with the rules (docs/FORMATS.md, "Reading").
-use Rattle.std.specs.Prelude.{ℕ, zero, suc, List, [], ◌∷◌, ◌++◌, Result, Ok, if◌then◌else◌}
+use Rattle.std.specs.Prelude.{ℕ, zero, suc, List, [], ◌∷◌, ◌++◌, codes, Result, Ok, if◌then◌else◌}
 use Rattle.viz_lex.specs.declared.fault.FileFault.{FileFault}
 use Rattle.viz_lex.specs.Reading.{Reading, ◌>>=◌}
-use Rattle.viz_lex.specs.Words.{word_at}
-use Rattle.viz_lex.specs.Steps.{has}
+use Rattle.viz_lex.specs.Words.{word_at, text_of}
+use Rattle.viz_lex.specs.Blocks.{block_at}
+use Rattle.viz_lex.specs.Passing.{metadata_at}
+use Rattle.viz_lex.specs.Steps.{has, due_word, is_next}
 
 -- so many are read
 abbrev pub times_at : {V : Type 0} → (Reading → Result (V × Reading) FileFault) → ℕ → Reading → Result (List V × Reading) FileFault
@@ -29,3 +31,11 @@ folded_at add read (suc n) s r = read s r >>= λ x. folded_at add read n (add s 
 unfoldable pub all_folded_at : {S V : Type 0} → (S → V → S) → (S → Reading → Result (V × Reading) FileFault) → ℕ → S → Reading → Result (S × Reading) FileFault
 all_folded_at add read zero s r = Ok (s, r)
 all_folded_at add read (suc n) s r = if has (word_at r) then (read s r >>= λ x. all_folded_at add read n (add s x.0) x.1) else Ok (s, r)
+
+-- the bytes of a block
+unfoldable pub bytes_at : ℕ → Reading → Result (List ℕ × Reading) FileFault
+bytes_at n r = block_at n r >>= λ b. Ok (text_of r b.0, b.1)
+
+-- METADATA is passed over where it stands next
+unfoldable pub any_metadata_at : Reading → Result (Unit {0} × Reading) FileFault
+any_metadata_at r = if is_next (codes "METADATA") r then (due_word r >>= λ w. metadata_at w.1) else Ok (tt, r)

@@ -9,8 +9,10 @@ ghost use Rattle.viz_lex.specs.Reading.{Reading, fault_at, ◌>>=◌ as after};
 ghost use Rattle.viz_lex.specs.Steps.{guard, due_word, due_number, keyword_at};
 ghost use Rattle.viz_lex.specs.Rules.{Rule, Decides, IsDefinite, gives, refuses, demand, choose, beside, follow};
 ghost use Rattle.viz_lex.specs.Repeats.{times, times_knowing, to_the_end, Moves};
-ghost use Rattle.viz_lex.specs.Readers.{times_at, known_at, all_at};
-ghost use Rattle.viz_lex.specs.Items.{word, number, keyword};
+ghost use Rattle.viz_lex.specs.Readers.{times_at, known_at, all_at, bytes_at, any_metadata_at};
+ghost use Rattle.viz_lex.specs.Items.{word, number, keyword, line_end, block, words, metadata};
+ghost use Rattle.viz_lex.specs.Words.{line_end_at};
+ghost use Rattle.viz_lex.specs.Passing.{words_at};
 
 /// A rule, and a reader beside it.
 pub trait AnyRule {
@@ -51,11 +53,16 @@ pub fn decided_rules_are_definite<R: AnyRule>()
     ensures { IsDefinite (record { is = R.is; isnt = R.isnt }) }
 {}
 
-/// Words, whole numbers and keywords are decided by their readers.
+/// Words, whole numbers, keywords, the end of a line, blocks of bytes and what is passed over are
+/// decided by their readers.
 pub fn items_are_decided()
     ensures word { Decides word due_word }
     ensures number { Decides number due_number }
     ensures keyword { (text : List ℕ) → Decides (keyword text) (keyword_at text) }
+    ensures line_end { Decides line_end line_end_at }
+    ensures block { (n : ℕ) → Decides (block n) (bytes_at n) }
+    ensures words { (n : ℕ) → Decides (words n) (words_at n) }
+    ensures metadata { Decides metadata any_metadata_at }
 {}
 
 /// A value that is given, a fault that is met in any case, and a demand in front of a rule.

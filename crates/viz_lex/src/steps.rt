@@ -3,6 +3,7 @@
 ghost use Rattle.std.specs.Prelude.{◌≡◌, ◌≤◌, not, length, OnErr};
 ghost use Rattle.viz_lex.specs.Reading.{fault_at, rest_of, Reads};
 ghost use Rattle.viz_lex.specs.Words.{word_at};
+ghost use Rattle.viz_lex.specs.Readers.{any_metadata_at};
 ghost use Rattle.viz_lex.specs.Steps.{has, same_word, due_word, due_number, is_left_out, keyword_kind, keyword_at, is_next, continues, is_beside};
 
 use crate::fault::{FileFault, FileKind};
@@ -99,6 +100,18 @@ impl<'a> Lexer<'a> {
             Some(span) => is_word(self.text(&span), keyword),
             None => false,
         }
+    }
+
+    /// Passes METADATA over, with its lines, where that word stands next, in any case of letters.
+    #[tactic(auto, unfolding(crate::specs::Readers::any_metadata_at))]
+    pub fn any_metadata(&mut self) -> Result<(), FileFault>
+        ensures { Reads (λ done. done) result self.new (any_metadata_at self.old) }
+    {
+        if self.is_next(b"METADATA") {
+            self.due_word()?;
+            self.pass_metadata();
+        }
+        Ok(())
     }
 
     /// Whether only blanks are left.
