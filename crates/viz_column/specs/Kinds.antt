@@ -1,6 +1,5 @@
 -- The eight types of whole numbers that an array may have (VTK User's Guide, "Simple legacy formats").
 use Rattle.std.specs.Prelude.{ℕ, ℤ, pos, negsuc, ◌^◌, Bool, false, nat_lt}
-use Rattle.std.specs.Int.{Width, w8, w16, w32, w64}
 use Rattle.viz_column.specs.declared.kind.Kind8.{Kind8}
 use Rattle.viz_column.specs.declared.kind.Kind8.TheVariants.{I8, U8, I16, U16, I32, U32, I64, U64}
 
@@ -14,17 +13,6 @@ size_of I32 = 4
 size_of U32 = 4
 size_of I64 = 8
 size_of U64 = 8
-
--- how many bits it has
-abbrev pub width_of : Kind8 → Width
-width_of I8 = w8
-width_of U8 = w8
-width_of I16 = w16
-width_of U16 = w16
-width_of I32 = w32
-width_of U32 = w32
-width_of I64 = w64
-width_of U64 = w64
 
 -- n is at least -2 ^ bits and below 2 ^ bits
 abbrev pub fits_signed : ℕ → ℤ → Bool

@@ -69,6 +69,7 @@ impl Column {
     pub fn of<T: Number>(numbers: Vec<T>) -> Column
         ensures { result ≡ record { kind = T.kind; items = map T.value numbers.items } }
     {
+        show_range(&numbers);
         let typed = T::typed(numbers);
         Column { typed }
     }
@@ -121,17 +122,17 @@ impl Column {
         requires { length bytes.now % size_of kind ≡ 0 }
         ensures { IfOk result (λ c. c ≡ record { kind = kind; items = numbers_in kind bytes.now }) }
     {
-        let typed = match kind {
-            Kind8::I8 => Typed::I8(i8::from_block(alloc, bytes)?),
-            Kind8::U8 => Typed::U8(u8::from_block(alloc, bytes)?),
-            Kind8::I16 => Typed::I16(i16::from_block(alloc, bytes)?),
-            Kind8::U16 => Typed::U16(u16::from_block(alloc, bytes)?),
-            Kind8::I32 => Typed::I32(i32::from_block(alloc, bytes)?),
-            Kind8::U32 => Typed::U32(u32::from_block(alloc, bytes)?),
-            Kind8::I64 => Typed::I64(i64::from_block(alloc, bytes)?),
-            Kind8::U64 => Typed::U64(u64::from_block(alloc, bytes)?),
+        let column = match kind {
+            Kind8::I8 => Column::of(i8::from_block(alloc, bytes)?),
+            Kind8::U8 => Column::of(u8::from_block(alloc, bytes)?),
+            Kind8::I16 => Column::of(i16::from_block(alloc, bytes)?),
+            Kind8::U16 => Column::of(u16::from_block(alloc, bytes)?),
+            Kind8::I32 => Column::of(i32::from_block(alloc, bytes)?),
+            Kind8::U32 => Column::of(u32::from_block(alloc, bytes)?),
+            Kind8::I64 => Column::of(i64::from_block(alloc, bytes)?),
+            Kind8::U64 => Column::of(u64::from_block(alloc, bytes)?),
         };
-        Ok(Column { typed })
+        Ok(column)
     }
 
     /// The bytes of the numbers, the highest byte of each first.
@@ -164,6 +165,15 @@ impl Column {
         ensures value { IfSome result (λ s. map T.value s.now ≡ self.now.items) }
     {
         T::lent(self.slice())
+    }
+}
+
+// Each number of a type lies in its range. Nothing is done: the loop is there for its proof.
+fn show_range<T: Number>(numbers: &[T])
+    ensures { AreInRange (record { kind = T.kind; items = map T.value numbers.now }) }
+{
+    for n in numbers {
+        let _whole = n.whole();
     }
 }
 

@@ -7,14 +7,16 @@
 
 mod column;
 mod kind;
+mod laws;
 mod lent;
 mod number;
 mod signed;
 mod typed;
 mod unsigned;
-mod zeros;
+mod vectors;
 
 pub use column::Column;
 pub use kind::Kind8;
+pub use laws::{reads_what_is_written, writes_what_is_read};
 pub use lent::Lent;
 pub use number::Number;

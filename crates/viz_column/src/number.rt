@@ -3,7 +3,6 @@
 ghost use Rattle.std.specs.Prelude.{◌≡◌, ◌↔◌, ◌%◌, ℤ, true, length, map, IsSome, IfSome, IfOk};
 ghost use Rattle.viz_column.specs.declared.kind.Kind8.{Kind8};
 ghost use Rattle.viz_column.specs.Kinds.{size_of, fits};
-ghost use Rattle.viz_column.specs.Numbers.{AreInRange};
 ghost use Rattle.viz_column.specs.Bytes.{block_of, numbers_in};
 ghost use Rattle.viz_column.specs.Vectors.{held_by};
 ghost use Rattle.viz_column.specs.Slices.{lent_by};
@@ -37,9 +36,7 @@ pub trait Number: Copy {
     /// The numbers in these bytes, the highest byte of each first.
     fn from_block(alloc: Global, bytes: &[u8]) -> Result<Vec<Self>, AllocError>
         requires { length bytes.now % size_of kind ≡ 0 }
-        ensures value { IfOk result (λ v. map value v.items ≡ numbers_in kind bytes.now) }
-        ensures within { IfOk result (λ v.
-            AreInRange (record { kind = kind; items = map value v.items })) };
+        ensures { IfOk result (λ v. map value v.items ≡ numbers_in kind bytes.now) };
 
     /// The bytes of these numbers, the highest byte of each first.
     fn to_block(alloc: Global, numbers: &[Self]) -> Result<Vec<u8>, AllocError>
@@ -48,8 +45,7 @@ pub trait Number: Copy {
 
     /// These numbers, as a column keeps them: call `Column::of`.
     fn typed(numbers: Vec<Self>) -> Typed
-        ensures value { held_by result ≡ record { kind = kind; items = map value numbers.items } }
-        ensures within { AreInRange (held_by result) };
+        ensures { held_by result ≡ record { kind = kind; items = map value numbers.items } };
 
     /// What a column lends, where it is of this type: call `Column::numbers`.
     fn lent(lent: Lent<'_>) -> Option<&[Self]>

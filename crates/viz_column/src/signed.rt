@@ -2,14 +2,13 @@
 
 ghost use Rattle.std.specs.Prelude.{◌≡◌, map};
 ghost use Rattle.viz_column.specs.declared.kind.Kind8.TheVariants.{I8, I16, I32, I64};
-ghost use Rattle.viz_column.specs.Numbers.{AreInRange};
 ghost use Rattle.viz_column.specs.Vectors.{held_by};
 
 use crate::kind::Kind8;
 use crate::lent::Lent;
 use crate::number::Number;
 use crate::typed::Typed;
-use crate::zeros::zeros;
+use crate::vectors::{filled, signed_bytes};
 use byteorder::{BigEndian, ByteOrder};
 use std::alloc::{AllocError, Global};
 
@@ -31,16 +30,17 @@ impl Number for i8 {
     }
 
     fn from_block(alloc: Global, bytes: &[u8]) -> Result<Vec<i8>, AllocError> {
-        bytes.iter().map(|b| b.cast_signed()).collect(alloc)
+        signed_bytes(alloc, bytes)
     }
 
     fn to_block(alloc: Global, numbers: &[i8]) -> Result<Vec<u8>, AllocError> {
-        numbers.iter().map(|n| n.cast_unsigned()).collect(alloc)
+        let mut bytes = filled(alloc, 0, numbers.len())?;
+        BigEndian::write_i8_into(numbers, &mut bytes);
+        Ok(bytes)
     }
 
     fn typed(numbers: Vec<i8>) -> Typed
-        ensures value { held_by result ≡ record { kind = I8; items = map (λ n. n) numbers.items } }
-        ensures within { AreInRange (held_by result) }
+        ensures { held_by result ≡ record { kind = I8; items = map (λ n. n) numbers.items } }
     {
         Typed::I8(numbers)
     }
@@ -71,20 +71,19 @@ impl Number for i16 {
     }
 
     fn from_block(alloc: Global, bytes: &[u8]) -> Result<Vec<i16>, AllocError> {
-        let mut numbers = zeros(alloc, 0, bytes.len() / 2)?;
+        let mut numbers = filled(alloc, 0, bytes.len() / 2)?;
         BigEndian::read_i16_into(bytes, &mut numbers);
         Ok(numbers)
     }
 
     fn to_block(alloc: Global, numbers: &[i16]) -> Result<Vec<u8>, AllocError> {
-        let mut bytes = zeros(alloc, 0, 2 * numbers.len())?;
+        let mut bytes = filled(alloc, 0, 2 * numbers.len())?;
         BigEndian::write_i16_into(numbers, &mut bytes);
         Ok(bytes)
     }
 
     fn typed(numbers: Vec<i16>) -> Typed
-        ensures value { held_by result ≡ record { kind = I16; items = map (λ n. n) numbers.items } }
-        ensures within { AreInRange (held_by result) }
+        ensures { held_by result ≡ record { kind = I16; items = map (λ n. n) numbers.items } }
     {
         Typed::I16(numbers)
     }
@@ -115,20 +114,19 @@ impl Number for i32 {
     }
 
     fn from_block(alloc: Global, bytes: &[u8]) -> Result<Vec<i32>, AllocError> {
-        let mut numbers = zeros(alloc, 0, bytes.len() / 4)?;
+        let mut numbers = filled(alloc, 0, bytes.len() / 4)?;
         BigEndian::read_i32_into(bytes, &mut numbers);
         Ok(numbers)
     }
 
     fn to_block(alloc: Global, numbers: &[i32]) -> Result<Vec<u8>, AllocError> {
-        let mut bytes = zeros(alloc, 0, 4 * numbers.len())?;
+        let mut bytes = filled(alloc, 0, 4 * numbers.len())?;
         BigEndian::write_i32_into(numbers, &mut bytes);
         Ok(bytes)
     }
 
     fn typed(numbers: Vec<i32>) -> Typed
-        ensures value { held_by result ≡ record { kind = I32; items = map (λ n. n) numbers.items } }
-        ensures within { AreInRange (held_by result) }
+        ensures { held_by result ≡ record { kind = I32; items = map (λ n. n) numbers.items } }
     {
         Typed::I32(numbers)
     }
@@ -159,20 +157,19 @@ impl Number for i64 {
     }
 
     fn from_block(alloc: Global, bytes: &[u8]) -> Result<Vec<i64>, AllocError> {
-        let mut numbers = zeros(alloc, 0, bytes.len() / 8)?;
+        let mut numbers = filled(alloc, 0, bytes.len() / 8)?;
         BigEndian::read_i64_into(bytes, &mut numbers);
         Ok(numbers)
     }
 
     fn to_block(alloc: Global, numbers: &[i64]) -> Result<Vec<u8>, AllocError> {
-        let mut bytes = zeros(alloc, 0, 8 * numbers.len())?;
+        let mut bytes = filled(alloc, 0, 8 * numbers.len())?;
         BigEndian::write_i64_into(numbers, &mut bytes);
         Ok(bytes)
     }
 
     fn typed(numbers: Vec<i64>) -> Typed
-        ensures value { held_by result ≡ record { kind = I64; items = map (λ n. n) numbers.items } }
-        ensures within { AreInRange (held_by result) }
+        ensures { held_by result ≡ record { kind = I64; items = map (λ n. n) numbers.items } }
     {
         Typed::I64(numbers)
     }

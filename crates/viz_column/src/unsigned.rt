@@ -2,14 +2,13 @@
 
 ghost use Rattle.std.specs.Prelude.{◌≡◌, pos, map};
 ghost use Rattle.viz_column.specs.declared.kind.Kind8.TheVariants.{U8, U16, U32, U64};
-ghost use Rattle.viz_column.specs.Numbers.{AreInRange};
 ghost use Rattle.viz_column.specs.Vectors.{held_by};
 
 use crate::kind::Kind8;
 use crate::lent::Lent;
 use crate::number::Number;
 use crate::typed::Typed;
-use crate::zeros::zeros;
+use crate::vectors::{copied, filled};
 use byteorder::{BigEndian, ByteOrder};
 use std::alloc::{AllocError, Global};
 
@@ -31,16 +30,15 @@ impl Number for u8 {
     }
 
     fn from_block(alloc: Global, bytes: &[u8]) -> Result<Vec<u8>, AllocError> {
-        bytes.to_vec(alloc)
+        copied(alloc, bytes)
     }
 
     fn to_block(alloc: Global, numbers: &[u8]) -> Result<Vec<u8>, AllocError> {
-        numbers.to_vec(alloc)
+        copied(alloc, numbers)
     }
 
     fn typed(numbers: Vec<u8>) -> Typed
-        ensures value { held_by result ≡ record { kind = U8; items = map (λ n. pos n) numbers.items } }
-        ensures within { AreInRange (held_by result) }
+        ensures { held_by result ≡ record { kind = U8; items = map (λ n. pos n) numbers.items } }
     {
         Typed::U8(numbers)
     }
@@ -71,20 +69,19 @@ impl Number for u16 {
     }
 
     fn from_block(alloc: Global, bytes: &[u8]) -> Result<Vec<u16>, AllocError> {
-        let mut numbers = zeros(alloc, 0, bytes.len() / 2)?;
+        let mut numbers = filled(alloc, 0, bytes.len() / 2)?;
         BigEndian::read_u16_into(bytes, &mut numbers);
         Ok(numbers)
     }
 
     fn to_block(alloc: Global, numbers: &[u16]) -> Result<Vec<u8>, AllocError> {
-        let mut bytes = zeros(alloc, 0, 2 * numbers.len())?;
+        let mut bytes = filled(alloc, 0, 2 * numbers.len())?;
         BigEndian::write_u16_into(numbers, &mut bytes);
         Ok(bytes)
     }
 
     fn typed(numbers: Vec<u16>) -> Typed
-        ensures value { held_by result ≡ record { kind = U16; items = map (λ n. pos n) numbers.items } }
-        ensures within { AreInRange (held_by result) }
+        ensures { held_by result ≡ record { kind = U16; items = map (λ n. pos n) numbers.items } }
     {
         Typed::U16(numbers)
     }
@@ -115,20 +112,19 @@ impl Number for u32 {
     }
 
     fn from_block(alloc: Global, bytes: &[u8]) -> Result<Vec<u32>, AllocError> {
-        let mut numbers = zeros(alloc, 0, bytes.len() / 4)?;
+        let mut numbers = filled(alloc, 0, bytes.len() / 4)?;
         BigEndian::read_u32_into(bytes, &mut numbers);
         Ok(numbers)
     }
 
     fn to_block(alloc: Global, numbers: &[u32]) -> Result<Vec<u8>, AllocError> {
-        let mut bytes = zeros(alloc, 0, 4 * numbers.len())?;
+        let mut bytes = filled(alloc, 0, 4 * numbers.len())?;
         BigEndian::write_u32_into(numbers, &mut bytes);
         Ok(bytes)
     }
 
     fn typed(numbers: Vec<u32>) -> Typed
-        ensures value { held_by result ≡ record { kind = U32; items = map (λ n. pos n) numbers.items } }
-        ensures within { AreInRange (held_by result) }
+        ensures { held_by result ≡ record { kind = U32; items = map (λ n. pos n) numbers.items } }
     {
         Typed::U32(numbers)
     }
@@ -159,20 +155,19 @@ impl Number for u64 {
     }
 
     fn from_block(alloc: Global, bytes: &[u8]) -> Result<Vec<u64>, AllocError> {
-        let mut numbers = zeros(alloc, 0, bytes.len() / 8)?;
+        let mut numbers = filled(alloc, 0, bytes.len() / 8)?;
         BigEndian::read_u64_into(bytes, &mut numbers);
         Ok(numbers)
     }
 
     fn to_block(alloc: Global, numbers: &[u64]) -> Result<Vec<u8>, AllocError> {
-        let mut bytes = zeros(alloc, 0, 8 * numbers.len())?;
+        let mut bytes = filled(alloc, 0, 8 * numbers.len())?;
         BigEndian::write_u64_into(numbers, &mut bytes);
         Ok(bytes)
     }
 
     fn typed(numbers: Vec<u64>) -> Typed
-        ensures value { held_by result ≡ record { kind = U64; items = map (λ n. pos n) numbers.items } }
-        ensures within { AreInRange (held_by result) }
+        ensures { held_by result ≡ record { kind = U64; items = map (λ n. pos n) numbers.items } }
     {
         Typed::U64(numbers)
     }
