@@ -1,9 +1,9 @@
 -- Numbers and their bytes, both ways.
-use Rattle.std.proofs.Common.{◌≡◌, ◌/◌, ◌%◌, ℕ, ℤ, pos, negsuc, zero, suc, ◌+◌, ◌-◌, ◌*◌, ◌^◌, ◌<◌, ◌≤◌, Bool, true, List, [], ◌∷◌, ◌++◌, length, map, take, drop, slice_index, refl, sym, ap, ◌∙◌, arith}
-use Rattle.std.specs.Int.{Width, w8, w16, w32, w64, cast_signed, cast_unsigned, byte_at, bytes_high_first}
-use Rattle.std.proofs.Math.Nat.{add-zero, div-mul-add, mod-eq_of_lt, mul-add-div_right, mul-add-mod_self_right, mul_assoc, one-le-pow, pow-suc}
-use Rattle.std.proofs.lemmas.Nat.{pow-add}
-use Rattle.byteorder.specs.Endian.{big_from, big_bytes, big_number}
+use Rattle.std.proofs.Common.{◌≡◌, ◌/◌, ◌%◌, ℕ, zero, suc, ◌+◌, ◌*◌, ◌^◌, ◌<◌, ◌≤◌, List, [], ◌∷◌, length, take, slice_index, refl, sym, ap, ◌∙◌, arith}
+use Rattle.std.specs.Int.{byte_at, bytes_high_first}
+use Rattle.std.proofs.Math.Nat.{add-zero, div-one, mod-eq_of_lt, mul-add-div_right, mul-add-mod_self_right, one-le-pow, pow-suc}
+use Rattle.std.proofs.lemmas.Nat.{div-mul-add, pow-add}
+use Rattle.byteorder.specs.Endian.{big_from}
 use Rattle.byteorder.specs.Numbers.{big_from-cons, big_from-lt}
 
 -- a byte of a number, by its place
@@ -42,6 +42,7 @@ bytes_again (suc n) (x ∷ xs) long small =
     let byte : x < 256 = small 0 in
     let first : byte_at n (x * 256 ^ n + big_from 0 n xs) ≡ x =
     byte_at-place n (x * 256 ^ n + big_from 0 n xs) ∙ ap (λ (y : ℕ). y % 256) (div-mul-add x (256 ^ n) (big_from 0 n xs) below) ∙ mod-eq_of_lt byte in
-    let above : bytes_high_first n (x * 256 ^ (n + 0) + big_from 0 n xs) ≡ bytes_high_first n (big_from 0 n xs) = bytes-above n 0 x (big_from 0 n xs) in
+    let above : bytes_high_first n (x * 256 ^ n + big_from 0 n xs) ≡ bytes_high_first n (big_from 0 n xs) =
+    rw add-zero at (bytes-above n 0 x (big_from 0 n xs)) in
     let rest = bytes_again n xs (omega arith) later in
-    rw (moved, first, ← add-zero n) (rw (above, rest) refl)
+    rw (moved, first, above, rest) refl

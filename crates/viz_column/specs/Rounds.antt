@@ -1,9 +1,9 @@
 -- What holds of numbers and their bytes, both ways.
-use Rattle.std.specs.Prelude.{◌≡◌, ◌*◌, ◌<◌, ◌%◌, ℕ, List, length, slice_index}
+use Rattle.std.specs.Prelude.{◌≡◌, ◌<◌, ◌%◌, ℕ, List, length, slice_index}
 use Rattle.viz_column.specs.declared.kind.Kind8.{Kind8}
 use Rattle.viz_column.specs.Kinds.{size_of}
 use Rattle.viz_column.specs.Numbers.{Numbers}
-use Rattle.viz_column.specs.Bytes.{block_of, numbers_in}
+use Rattle.viz_column.specs.Bytes.{numbers_in}
 
 -- each number is that of a byte
 abbrev pub AreBytes : List ℕ → Type 0
