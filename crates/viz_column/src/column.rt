@@ -15,7 +15,7 @@ use std::alloc::{AllocError, Global};
 use std::marker::Model;
 
 /// Whole numbers of one of eight types, in one vector of that type.
-#[derive(Drop)]
+#[derive(Debug, Drop)]
 pub struct Column {
     typed: Typed,
 }
@@ -63,6 +63,23 @@ impl Column {
             Kind8::U64 => Typed::U64(Vec::new(alloc)),
         };
         Column { typed }
+    }
+
+    /// No number yet, with room for so many: `push` takes no memory for them.
+    pub fn with_room(alloc: Global, kind: Kind8, room: usize) -> Result<Column, AllocError>
+        ensures { IfOk result (λ c. c ≡ record { kind = kind; items = [] }) }
+    {
+        let typed = match kind {
+            Kind8::I8 => Typed::I8(Vec::with_capacity(alloc, room)?),
+            Kind8::U8 => Typed::U8(Vec::with_capacity(alloc, room)?),
+            Kind8::I16 => Typed::I16(Vec::with_capacity(alloc, room)?),
+            Kind8::U16 => Typed::U16(Vec::with_capacity(alloc, room)?),
+            Kind8::I32 => Typed::I32(Vec::with_capacity(alloc, room)?),
+            Kind8::U32 => Typed::U32(Vec::with_capacity(alloc, room)?),
+            Kind8::I64 => Typed::I64(Vec::with_capacity(alloc, room)?),
+            Kind8::U64 => Typed::U64(Vec::with_capacity(alloc, room)?),
+        };
+        Ok(Column { typed })
     }
 
     /// The column of these numbers, which it takes over as they stand.

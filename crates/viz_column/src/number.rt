@@ -1,6 +1,6 @@
 //! The eight types, as one to a generic function.
 
-ghost use Rattle.std.specs.Prelude.{◌≡◌, ◌↔◌, ◌%◌, ℤ, true, length, map, IsSome, IfSome, IfOk};
+ghost use Rattle.std.specs.Prelude.{◌≡◌, ◌↔◌, ◌%◌, ℤ, pos, true, length, map, IsSome, IfSome, IfOk};
 ghost use Rattle.viz_column.specs.declared.kind.Kind8.{Kind8};
 ghost use Rattle.viz_column.specs.Kinds.{size_of, fits};
 ghost use Rattle.viz_column.specs.Bytes.{block_of, numbers_in};
@@ -22,6 +22,10 @@ pub trait Number: Copy {
     /// The kind of a column of these numbers.
     fn kind() -> Kind8
         ensures { result ≡ kind };
+
+    /// The number 0.
+    fn zero() -> Self
+        ensures { value result ≡ pos 0 };
 
     /// The number n, where it lies in the range of the type.
     fn of_whole(n: i128) -> Option<Self>

@@ -21,6 +21,10 @@ impl Number for i8 {
         Kind8::I8
     }
 
+    fn zero() -> i8 {
+        0
+    }
+
     fn of_whole(n: i128) -> Option<i8> {
         i8::try_from(n).ok()
     }
@@ -60,6 +64,10 @@ impl Number for i16 {
 
     fn kind() -> Kind8 {
         Kind8::I16
+    }
+
+    fn zero() -> i16 {
+        0
     }
 
     fn of_whole(n: i128) -> Option<i16> {
@@ -105,6 +113,10 @@ impl Number for i32 {
         Kind8::I32
     }
 
+    fn zero() -> i32 {
+        0
+    }
+
     fn of_whole(n: i128) -> Option<i32> {
         i32::try_from(n).ok()
     }
@@ -146,6 +158,10 @@ impl Number for i64 {
 
     fn kind() -> Kind8 {
         Kind8::I64
+    }
+
+    fn zero() -> i64 {
+        0
     }
 
     fn of_whole(n: i128) -> Option<i64> {

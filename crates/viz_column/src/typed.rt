@@ -1,7 +1,7 @@
 //! How a column is kept: one vector of numbers of its type.
 
 /// A vector of numbers of one of the eight types.
-#[derive(Drop)]
+#[derive(Debug, Drop)]
 pub enum Typed {
     I8(Vec<i8>),
     U8(Vec<u8>),

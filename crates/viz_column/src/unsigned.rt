@@ -21,6 +21,10 @@ impl Number for u8 {
         Kind8::U8
     }
 
+    fn zero() -> u8 {
+        0
+    }
+
     fn of_whole(n: i128) -> Option<u8> {
         u8::try_from(n).ok()
     }
@@ -58,6 +62,10 @@ impl Number for u16 {
 
     fn kind() -> Kind8 {
         Kind8::U16
+    }
+
+    fn zero() -> u16 {
+        0
     }
 
     fn of_whole(n: i128) -> Option<u16> {
@@ -103,6 +111,10 @@ impl Number for u32 {
         Kind8::U32
     }
 
+    fn zero() -> u32 {
+        0
+    }
+
     fn of_whole(n: i128) -> Option<u32> {
         u32::try_from(n).ok()
     }
@@ -144,6 +156,10 @@ impl Number for u64 {
 
     fn kind() -> Kind8 {
         Kind8::U64
+    }
+
+    fn zero() -> u64 {
+        0
     }
 
     fn of_whole(n: i128) -> Option<u64> {
