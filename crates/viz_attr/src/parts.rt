@@ -1,0 +1,51 @@
+//! What stands in attribute parts, and what is known of those before.
+
+ghost use Rattle.std.specs.Prelude.{◌≡◌, None, false};
+
+use viz_base::Pick;
+use viz_column::Column;
+
+/// Whose attributes these are.
+#[derive(Clone, Copy, PartialEq, Eq, Debug)]
+pub enum Section {
+    /// Behind POINT_DATA.
+    Points,
+    /// Behind CELL_DATA.
+    Cells,
+}
+
+/// Which arrays a pick may name.
+#[derive(Clone, Copy, PartialEq, Eq, Debug)]
+pub enum Sort {
+    /// An array of SCALARS.
+    Scalars,
+    /// An array of a FIELD.
+    Field,
+    /// Any other array.
+    Other,
+}
+
+/// What is known of a file in front of its attribute parts, and which array is asked for.
+pub(crate) struct Files<'a> {
+    pub binary: bool,
+    pub points: u64,
+    pub cells: u64,
+    pub pick: &'a Pick,
+}
+
+/// What stands in front of an array's values.
+pub(crate) struct Named<'a> {
+    pub section: Section,
+    pub sort: Sort,
+    pub name: &'a [u8],
+    pub tuples: u64,
+}
+
+/// What is known of the parts before: the section that was begun last, whether an array fitted the
+/// pick, and the numbers of the first that did.
+#[derive(Drop)]
+pub(crate) struct Progress {
+    pub section: Option<Section>,
+    pub found: bool,
+    pub picked: Option<Column>,
+}
