@@ -1,3 +1,5 @@
 pub mod CountLemmas
 pub mod FirstsLemmas
+pub mod KnownLemmas
+pub mod PartLoops
 pub mod ValueLoops

@@ -78,12 +78,16 @@ colors g before which = do
   c ← count_from 1
   array g before (head_in g which name.1) (Whole U8) (count_of g which) c
 
+-- the head of a lookup table, which has as many tuples as colours
+abbrev pub table_head : Section → List ℕ → ℕ → Head
+table_head which name size = record { section = which; sort = Other; name = name; tuples = size }
+
 -- LOOKUP_TABLE name size, of four bytes each
 abbrev pub table : Given → List Part → Section → Rule Part
 table g before which = do
   name ← word
   size ← count_from 0
-  array g before (head_in g which name.1) (Whole U8) size 4
+  array g before (table_head which name.1 size) (Whole U8) size 4
 
 -- no array stands before
 abbrev pub is_first : List Part → Bool

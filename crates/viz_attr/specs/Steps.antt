@@ -9,11 +9,11 @@ use Rattle.viz_lex.specs.declared.fault.FileKind.{FileKind}
 use Rattle.viz_lex.specs.declared.fault.FileKind.TheVariants.{Keyword, ValueRange, Count, FloatArray, NoArray, TooMany, Unsupported}
 use Rattle.viz_lex.specs.declared.fault.FileFault.{FileFault}
 use Rattle.viz_lex.specs.Reading.{Reading, fault_at, ◌>>=◌}
-use Rattle.viz_lex.specs.Words.{line_end_at}
+use Rattle.viz_lex.specs.Words.{word_at, line_end_at}
 use Rattle.viz_lex.specs.Passing.{words_at}
 use Rattle.viz_lex.specs.Numbers.{whole_at}
 use Rattle.viz_lex.specs.Steps.{guard, has, same_word, start_at, due_word, due_number, keyword_kind, keyword_at, is_beside}
-use Rattle.viz_lex.specs.Readers.{times_at, folded_at, all_folded_at, bytes_at, any_metadata_at}
+use Rattle.viz_lex.specs.Readers.{times_at, bytes_at, any_metadata_at}
 use Rattle.viz_attr.specs.declared.parts.Section.{Section}
 use Rattle.viz_attr.specs.declared.parts.Section.TheVariants.{Points, Cells}
 use Rattle.viz_attr.specs.declared.parts.Sort.TheVariants.{Scalars, Field, Other}
@@ -23,7 +23,7 @@ use Rattle.viz_attr.specs.Types.{stored_of, is_left_out_type, is_real, bytes_of,
 use Rattle.viz_attr.specs.Counts.{is_number, is_at_least, is_below}
 use Rattle.viz_attr.specs.Picks.{Given, Head, Part, Begins, Holds, fits_pick, has_fit, picked_of, section_of, count_of}
 use Rattle.viz_attr.specs.Values.{kind_of, block_numbers}
-use Rattle.viz_attr.specs.Grammar.{head_in, scalars_head, field_head, is_zero}
+use Rattle.viz_attr.specs.Grammar.{head_in, scalars_head, table_head, field_head, is_zero}
 
 -- ---- what is known of the parts before
 
@@ -43,7 +43,7 @@ with_part g k (Begins section) = record { section = Some section; found = k.foun
 with_part g k (Holds head column) = record {
   section = k.section;
   found = k.found || fits_pick g head;
-  picked = if k.found then k.picked else (if fits_pick g head then column else None);
+  picked = if fits_pick g head && not k.found then column else k.picked;
 }
 
 -- with all of these more
@@ -198,7 +198,12 @@ unfoldable pub table_at : Given → Known → Section → Reading → Result (Pa
 table_at g k which r = do
   name ← due_word r
   size ← count_from_at 0 name.1
-  array_at g k (head_in g which name.0.1) (Whole U8) size.0 4 size.1
+  array_at g k (table_head which name.0.1 size.0) (Whole U8) size.0 4 size.1
+
+-- what is known behind a part
+abbrev pub behind_part : Given → Known → Result (Part × Reading) FileFault → Result (Known × Reading) FileFault
+behind_part g k (Ok x) = Ok (with_part g k x.0, x.1)
+behind_part g k (Err f) = Err f
 
 -- behind the name of an array of a FIELD
 unfoldable pub field_values_at : Given → Known → Section → List ℕ → Reading → Result (Part × Reading) FileFault
@@ -209,28 +214,23 @@ field_values_at g k which name r = do
   array_at g k (field_head which name t.0) stored.0 t.0 c.0 stored.1
 
 -- an array of a FIELD, which is the first or not
-unfoldable pub field_array_at : Given → Section → Bool × Known → Reading → Result (Part × Reading) FileFault
-field_array_at g which s r = do
+unfoldable pub field_array_at : Given → Known → Section → Bool → Reading → Result (Part × Reading) FileFault
+field_array_at g k which first r = do
   name ← due_word r
-  is ← guard (s.0 || not (same_word name.0.1 (codes "METADATA"))) Keyword name.0.0
-  field_values_at g s.1 which name.0.1 name.1
+  is ← guard (first || not (same_word name.0.1 (codes "METADATA"))) Keyword name.0.0
+  field_values_at g k which name.0.1 name.1
 
--- with one array of a FIELD more: the next isn't the first
-abbrev pub with_array : Given → Bool × Known → Part → Bool × Known
-with_array g s part = (false, with_part g s.1 part)
-
--- what is known behind a part
-abbrev pub behind_part : Given → Known → Result (Part × Reading) FileFault → Result (Known × Reading) FileFault
-behind_part g k (Ok x) = Ok (with_part g k x.0, x.1)
-behind_part g k (Err f) = Err f
+-- so many arrays of a FIELD, the first of them or not
+unfoldable pub field_arrays_at : Given → Known → Section → Bool → ℕ → Reading → Result (Known × Reading) FileFault
+field_arrays_at g k which first zero r = Ok (k, r)
+field_arrays_at g k which first (suc n) r = behind_part g k (field_array_at g k which first r) >>= λ x. field_arrays_at g x.0 which false n x.1
 
 -- FIELD
 unfoldable pub field_at : Given → Known → Section → Reading → Result (Known × Reading) FileFault
 field_at g k which r = do
   name ← due_word r
   n ← count_from_at 0 name.1
-  all ← folded_at (with_array g) (field_array_at g which) n.0 (true, k) n.1
-  Ok (all.0.1, all.1)
+  field_arrays_at g k which true n.0 n.1
 
 -- what stands behind the keyword of an array
 unfoldable pub arrays_at : Given → Known → Section → ℕ × List ℕ → Reading → Result (Known × Reading) FileFault
@@ -261,3 +261,16 @@ unfoldable pub part_at : Given → Known → Reading → Result (Known × Readin
 part_at g k r = do
   key ← due_word r
   behind_at g k key.0 key.1
+
+-- all parts, in at most so many steps
+unfoldable pub parts_at : Given → Known → ℕ → Reading → Result (Known × Reading) FileFault
+parts_at g k zero r = Ok (k, r)
+parts_at g k (suc n) r = if has (word_at r) then (part_at g k r >>= λ x. parts_at g x.0 n x.1) else Ok (k, r)
+
+-- the numbers of the first array that fits the pick
+unfoldable pub picked_at : Given → Known → Reading → Result (Option Numbers × Reading) FileFault
+picked_at g k r = if is_zero g.pick || k.found then Ok (k.picked, r) else Err (fault_at NoArray (length r.bytes))
+
+-- the attributes
+unfoldable pub attributes_at : Given → Reading → Result (Option Numbers × Reading) FileFault
+attributes_at g r = parts_at g start (length r.bytes + 1) r >>= λ all. picked_at g all.0 all.1

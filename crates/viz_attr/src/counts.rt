@@ -32,6 +32,7 @@ fn is_below_most(n: &i128) -> bool
 #[tactic(auto, unfolding(crate::specs::Steps::count_from_at))]
 pub(crate) fn count_from(lexer: &mut Lexer<'_>, least: u64) -> Result<u64, FileFault>
     ensures read { Reads (λ n. n) result lexer.new (count_from_at least lexer.old) }
+    ensures some { IfOk result (λ n. least ≤ n) }
     ensures few { IfOk result (λ n. n < 2 ^ 31) }
 {
     let (place, n) = lexer.due_number()?;
@@ -60,6 +61,7 @@ fn is_dimension(n: &i128) -> bool
 #[tactic(auto, unfolding(crate::specs::Steps::dimension_at))]
 pub(crate) fn dimension(lexer: &mut Lexer<'_>) -> Result<u64, FileFault>
     ensures read { Reads (λ n. n) result lexer.new (dimension_at lexer.old) }
+    ensures some { IfOk result (λ n. 1 ≤ n) }
     ensures few { IfOk result (λ n. n < 2 ^ 31) }
 {
     let (place, n) = lexer.due_number()?;
@@ -91,6 +93,7 @@ pub(crate) fn same_count(lexer: &mut Lexer<'_>, count: u64) -> Result<(), FileFa
 #[tactic(auto, unfolding(crate::specs::Steps::components_at))]
 pub(crate) fn components(lexer: &mut Lexer<'_>) -> Result<u64, FileFault>
     ensures read { Reads (λ n. n) result lexer.new (components_at lexer.old) }
+    ensures some { IfOk result (λ n. 1 ≤ n) }
     ensures few { IfOk result (λ n. n < 2 ^ 31) }
 {
     if lexer.is_beside() {

@@ -6,7 +6,9 @@
 #![tactic(auto)]
 
 mod arrays;
+mod attributes;
 mod counts;
+mod field;
 mod parts;
 mod picks;
 mod stop;

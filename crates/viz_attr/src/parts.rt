@@ -26,6 +26,7 @@ pub enum Sort {
 }
 
 /// What is known of a file in front of its attribute parts, and which array is asked for.
+#[derive(Drop)]
 pub(crate) struct Files<'a> {
     pub binary: bool,
     pub points: u64,
@@ -34,6 +35,7 @@ pub(crate) struct Files<'a> {
 }
 
 /// What stands in front of an array's values.
+#[derive(Drop)]
 pub(crate) struct Named<'a> {
     pub section: Section,
     pub sort: Sort,

@@ -1,0 +1,169 @@
+//! All attribute parts.
+
+ghost use Rattle.std.specs.Prelude.{◌≡◌, ◌+◌, ◌||◌, ℕ, List, length, None};
+ghost use Rattle.viz_attr.specs.Grammar.{is_zero};
+ghost use Rattle.viz_attr.specs.Steps.{arrays_at, arrays_in_at, behind_at, part_at, parts_at, picked_at, attributes_at, start};
+ghost use Rattle.viz_attr.specs.Reads.{known_of, given_of, Adds, Knows, ReadsUnlessMemory};
+
+use crate::arrays::{colors, scalars, section, table, texture, vectors};
+use crate::field::field;
+use crate::parts::{Files, Progress, Section};
+use crate::stop::AttrStop;
+use std::alloc::Global;
+use viz_base::Pick;
+use viz_column::Column;
+use viz_lex::{FileFault, FileKind, Lexer, is_word, keyword_fault};
+
+/// What stands behind the keyword of an array.
+#[tactic(auto, unfolding(crate::specs::Steps::arrays_at))]
+fn arrays(
+    alloc: Global,
+    lexer: &mut Lexer<'_>,
+    files: &Files<'_>,
+    progress: &mut Progress,
+    section: Section,
+    place: u64,
+    key: &[u8],
+) -> Result<(), AttrStop>
+    ensures { Knows result progress.new lexer.new
+        (arrays_at (given_of files.now) (known_of progress.old) section (place, key.now) lexer.old) }
+{
+    if is_word(key, b"SCALARS") {
+        return scalars(alloc, lexer, files, progress, section);
+    }
+    if is_word(key, b"VECTORS") || is_word(key, b"NORMALS") {
+        return vectors(alloc, lexer, files, progress, section, 3);
+    }
+    if is_word(key, b"TENSORS") {
+        return vectors(alloc, lexer, files, progress, section, 9);
+    }
+    if is_word(key, b"TEXTURE_COORDINATES") {
+        return texture(alloc, lexer, files, progress, section);
+    }
+    if is_word(key, b"COLOR_SCALARS") {
+        return colors(alloc, lexer, files, progress, section);
+    }
+    if is_word(key, b"LOOKUP_TABLE") {
+        return table(alloc, lexer, files, progress, section);
+    }
+    if is_word(key, b"FIELD") {
+        return field(alloc, lexer, files, progress, section);
+    }
+    Err(AttrStop::File(keyword_fault(place, key)))
+}
+
+/// An array stands in a section alone.
+#[tactic(auto, unfolding(crate::specs::Steps::arrays_in_at))]
+fn arrays_in(
+    alloc: Global,
+    lexer: &mut Lexer<'_>,
+    files: &Files<'_>,
+    progress: &mut Progress,
+    place: u64,
+    key: &[u8],
+) -> Result<(), AttrStop>
+    ensures { Knows result progress.new lexer.new
+        (arrays_in_at (given_of files.now) (known_of progress.old) progress.old.section
+            (place, key.now) lexer.old) }
+{
+    match progress.section {
+        Some(section) => arrays(alloc, lexer, files, progress, section, place, key),
+        None => Err(AttrStop::File(keyword_fault(place, key))),
+    }
+}
+
+/// What stands behind a keyword.
+#[tactic(auto, unfolding(crate::specs::Steps::behind_at))]
+fn behind(
+    alloc: Global,
+    lexer: &mut Lexer<'_>,
+    files: &Files<'_>,
+    progress: &mut Progress,
+    place: u64,
+    key: &[u8],
+) -> Result<(), AttrStop>
+    ensures { Knows result progress.new lexer.new
+        (behind_at (given_of files.now) (known_of progress.old) (place, key.now) lexer.old) }
+{
+    if is_word(key, b"POINT_DATA") {
+        return section(lexer, files, progress, Section::Points);
+    }
+    if is_word(key, b"CELL_DATA") {
+        return section(lexer, files, progress, Section::Cells);
+    }
+    arrays_in(alloc, lexer, files, progress, place, key)
+}
+
+/// One part.
+#[tactic(auto, unfolding(crate::specs::Steps::part_at))]
+fn part(
+    alloc: Global,
+    lexer: &mut Lexer<'_>,
+    files: &Files<'_>,
+    progress: &mut Progress,
+) -> Result<(), AttrStop>
+    ensures { Knows result progress.new lexer.new
+        (part_at (given_of files.now) (known_of progress.old) lexer.old) }
+{
+    let (place, key) = lexer.due_word()?;
+    behind(alloc, lexer, files, progress, place, key)
+}
+
+/// All parts to the end, at most so many: each takes a byte at least.
+fn parts(
+    alloc: Global,
+    lexer: &mut Lexer<'_>,
+    files: &Files<'_>,
+    progress: &mut Progress,
+    most: u64,
+) -> Result<(), AttrStop>
+    ensures { Knows result progress.new lexer.new
+        (parts_at (given_of files.now) (known_of progress.old) most lexer.old) }
+{
+    for _ in 0..most {
+        if lexer.is_done() {
+            return Ok(());
+        }
+        part(alloc, lexer, files, progress)?;
+    }
+    Ok(())
+}
+
+/// The picked array, behind all parts.
+#[tactic(auto, unfolding(crate::specs::Steps::picked_at))]
+fn picked(
+    lexer: &Lexer<'_>,
+    files: &Files<'_>,
+    progress: Progress,
+) -> Result<Option<Column>, AttrStop>
+    ensures { ReadsUnlessMemory (λ c. c) result lexer.now
+        (picked_at (given_of files.now) (known_of progress) lexer.now) }
+{
+    if matches!(files.pick, Pick::Zero) || progress.found {
+        return Ok(progress.picked);
+    }
+    Err(AttrStop::File(FileFault {
+        kind: FileKind::NoArray,
+        place: lexer.bytes().len() as u64,
+    }))
+}
+
+/// The attributes, by steps.
+#[tactic(auto, unfolding(crate::specs::Steps::attributes_at))]
+fn all(
+    alloc: Global,
+    lexer: &mut Lexer<'_>,
+    files: &Files<'_>,
+) -> Result<Option<Column>, AttrStop>
+    ensures { ReadsUnlessMemory (λ c. c) result lexer.new
+        (attributes_at (given_of files.now) lexer.old) }
+{
+    let mut progress = Progress {
+        section: None,
+        found: false,
+        picked: None,
+    };
+    let most = lexer.bytes().len() as u64 + 1;
+    parts(alloc, lexer, files, &mut progress, most)?;
+    picked(lexer, files, progress)
+}
