@@ -1,5 +1,6 @@
 pub mod CountLemmas
 pub mod FirstsLemmas
 pub mod KnownLemmas
+pub mod ListReaders
 pub mod PartLoops
 pub mod ValueLoops
