@@ -1,11 +1,11 @@
 //! A column.
 
-ghost use Rattle.std.specs.Prelude.{◌≡◌, ◌↔◌, ◌<◌, ◌%◌, ◌++◌, ◌∷◌, [], length, true, map, get_or, pos, IsSome, IfSome, IfOk, OnOk, OnErr};
-ghost use Rattle.viz_column.specs.Kinds.{size_of, fits};
+ghost use Rattle.std.specs.Prelude.{◌≡◌, ◌↔◌, ◌<◌, ◌++◌, ◌∷◌, [], length, true, map, get_or, pos, IsSome, IfSome, IfOk, OnOk, OnErr};
+ghost use Rattle.viz_column.specs.Kinds.{fits};
 ghost use Rattle.viz_column.specs.Numbers.{AreInRange};
-ghost use Rattle.viz_column.specs.Bytes.{block_of, numbers_in};
-ghost use Rattle.viz_column.specs.Vectors.{held_by};
-ghost use Rattle.viz_column.specs.Slices.{lent_by};
+ghost use Rattle.viz_column.specs.Bytes.{block_of, IsBlock, numbers_of};
+ghost use Rattle.viz_column.specs.Typed.{held_by};
+ghost use Rattle.viz_column.specs.Lent.{lent_by};
 
 use crate::kind::Kind8;
 use crate::lent::Lent;
@@ -25,7 +25,7 @@ impl Model for Column {
 
     ghost Value = { Numbers };
 
-    ghost use Rattle.viz_column.specs.Vectors.{held_by};
+    ghost use Rattle.viz_column.specs.Typed.{held_by};
 
     ghost view = { λ c. held_by c.typed };
 
@@ -136,8 +136,8 @@ impl Column {
 
     /// The numbers in these bytes, the highest byte of each first: a block of a file.
     pub fn from_be(alloc: Global, kind: Kind8, bytes: &[u8]) -> Result<Column, AllocError>
-        requires { length bytes.now % size_of kind ≡ 0 }
-        ensures { IfOk result (λ c. c ≡ record { kind = kind; items = numbers_in kind bytes.now }) }
+        requires { IsBlock kind bytes.now }
+        ensures { IfOk result (λ c. c ≡ numbers_of kind bytes.now) }
     {
         let column = match kind {
             Kind8::I8 => Column::of(i8::from_block(alloc, bytes)?),
