@@ -1,4 +1,4 @@
--- Numbers as bytes (VTK User's Guide, "Simple legacy formats": binary data is big endian), in two's complement.
+-- Numbers as bytes, big endian, in two's complement (VTK User's Guide, "Simple legacy formats").
 use Rattle.std.specs.Prelude.{◌≡◌, ◌<◌, ℕ, ℤ, pos, zero, suc, ◌/◌, ◌%◌, List, [], ◌∷◌, length, drop, slice_index}
 use Rattle.std.specs.Int.{w8, w16, w32, w64, cast_signed, cast_unsigned}
 use Rattle.std.specs.List.{flat_map}
@@ -37,7 +37,8 @@ number_in U64 bytes = pos (big_number 8 bytes)
 -- so many numbers, one after the other
 abbrev pub first_numbers : ℕ → Kind8 → List ℕ → List ℤ
 first_numbers zero kind bytes = []
-first_numbers (suc n) kind bytes = number_in kind bytes ∷ first_numbers n kind (drop (size_of kind) bytes)
+first_numbers (suc n) kind bytes =
+    number_in kind bytes ∷ first_numbers n kind (drop (size_of kind) bytes)
 
 -- the numbers in all the bytes
 abbrev pub numbers_in : Kind8 → List ℕ → List ℤ

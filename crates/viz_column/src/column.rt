@@ -1,6 +1,6 @@
 //! A column.
 
-ghost use Rattle.std.specs.Prelude.{◌≡◌, ◌↔◌, ◌<◌, ◌++◌, ◌∷◌, [], length, true, map, get_or, pos, IsSome, IfSome, IfOk, OnOk, OnErr};
+ghost use Rattle.std.specs.Prelude.{◌≡◌, ◌↔◌, ◌<◌, ◌++◌, ◌∷◌, [], length, true, map, slice_index_or, pos, IsSome, IfSome, IfOk, OnOk, OnErr};
 ghost use Rattle.viz_column.specs.Kinds.{fits};
 ghost use Rattle.viz_column.specs.Numbers.{AreInRange};
 ghost use Rattle.viz_column.specs.Bytes.{block_of, IsBlock, numbers_of};
@@ -118,7 +118,7 @@ impl Column {
     /// The number at an index from 0 on. For many of them, `slice` or `numbers` is faster.
     pub fn get(&self, i: u64) -> i128
         requires { i < length self.now.items }
-        ensures value { result ≡ get_or self.now.items i (pos 0) }
+        ensures value { result ≡ slice_index_or self.now.items i (pos 0) }
         ensures within { fits self.now.kind result ≡ true }
     {
         each!(&self.typed, numbers => number_at(numbers, i))
@@ -197,7 +197,7 @@ fn show_range<T: Number>(numbers: &[T])
 // The number at an index.
 fn number_at<T: Number>(numbers: &[T], i: u64) -> i128
     requires { i < length numbers.now }
-    ensures value { result ≡ get_or (map T.value numbers.now) i (pos 0) }
+    ensures value { result ≡ slice_index_or (map T.value numbers.now) i (pos 0) }
     ensures within { fits T.kind result ≡ true }
 {
     numbers[i as usize].whole()
@@ -207,7 +207,8 @@ fn number_at<T: Number>(numbers: &[T], i: u64) -> i128
 fn push_to<T: Number>(numbers: &mut Vec<T>, n: i128) -> Result<(), AllocError>
     requires fits { fits T.kind n ≡ true }
     requires within { AreInRange (record { kind = T.kind; items = map T.value numbers.old.items }) }
-    ensures ok { OnOk result (map T.value numbers.new.items ≡ map T.value numbers.old.items ++ n ∷ []) }
+    ensures ok { OnOk result (
+        map T.value numbers.new.items ≡ map T.value numbers.old.items ++ n ∷ []) }
     ensures err { OnErr result (numbers.new.items ≡ numbers.old.items) }
     ensures within { AreInRange (record { kind = T.kind; items = map T.value numbers.new.items }) }
 {
