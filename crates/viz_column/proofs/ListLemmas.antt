@@ -8,8 +8,7 @@ use Rattle.std.proofs.lemmas.Bool.{cases_lt}
 use Rattle.std.proofs.lemmas.List.{get_or-drop, length-append, length-drop, nil_from_length, take-append-drop}
 use Rattle.viz_column.specs.declared.kind.Kind8.{Kind8}
 use Rattle.viz_column.specs.Kinds.{size_of, fits}
-use Rattle.viz_column.specs.Bytes.{bytes_of, first_numbers, numbers_in}
-use Rattle.viz_column.specs.Rounds.{AreBytes, IsBlock}
+use Rattle.viz_column.specs.Bytes.{bytes_of, first_numbers, numbers_in, AreBytes, IsBlock}
 use Rattle.viz_column.proofs.KindLemmas.{size_above, length-bytes_of, number_again, bytes_of_again, fits-number_in}
 
 -- what two tests say that both pass

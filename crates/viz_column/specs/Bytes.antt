@@ -1,5 +1,5 @@
--- Numbers as bytes (VTK User's Guide, "Simple legacy formats": binary data is big endian), in two's complement.
-use Rattle.std.specs.Prelude.{ℕ, ℤ, pos, zero, suc, ◌/◌, List, [], ◌∷◌, length, drop, slice_index}
+-- Numbers as bytes, big endian, in two's complement (VTK User's Guide, "Simple legacy formats").
+use Rattle.std.specs.Prelude.{◌≡◌, ◌<◌, ℕ, ℤ, pos, zero, suc, ◌/◌, ◌%◌, List, [], ◌∷◌, length, drop, slice_index}
 use Rattle.std.specs.Int.{w8, w16, w32, w64, cast_signed, cast_unsigned}
 use Rattle.std.specs.List.{flat_map}
 use Rattle.byteorder.specs.Endian.{big_bytes, big_number}
@@ -37,8 +37,21 @@ number_in U64 bytes = pos (big_number 8 bytes)
 -- so many numbers, one after the other
 abbrev pub first_numbers : ℕ → Kind8 → List ℕ → List ℤ
 first_numbers zero kind bytes = []
-first_numbers (suc n) kind bytes = number_in kind bytes ∷ first_numbers n kind (drop (size_of kind) bytes)
+first_numbers (suc n) kind bytes =
+    number_in kind bytes ∷ first_numbers n kind (drop (size_of kind) bytes)
 
 -- the numbers in all the bytes
 abbrev pub numbers_in : Kind8 → List ℕ → List ℤ
 numbers_in kind bytes = first_numbers (length bytes / size_of kind) kind bytes
+
+-- each number is that of a byte
+abbrev pub AreBytes : List ℕ → Type 0
+AreBytes bytes = (i : ℕ) → i < length bytes → slice_index bytes i < 256
+
+-- the bytes are those of whole numbers, with none left over
+abbrev pub IsBlock : Kind8 → List ℕ → Type 0
+IsBlock kind bytes = length bytes % size_of kind ≡ 0
+
+-- the kind, and the numbers in all the bytes
+abbrev pub numbers_of : Kind8 → List ℕ → Numbers
+numbers_of kind bytes = record { kind = kind; items = numbers_in kind bytes }

@@ -1,4 +1,4 @@
--- The eight types of whole numbers that an array may have (VTK User's Guide, "Simple legacy formats").
+-- The types of whole numbers that an array may have (VTK User's Guide, "Simple legacy formats").
 use Rattle.std.specs.Prelude.{ℕ, ℤ, pos, negsuc, ◌^◌, Bool, false, nat_lt}
 use Rattle.viz_column.specs.declared.kind.Kind8.{Kind8}
 use Rattle.viz_column.specs.declared.kind.Kind8.TheVariants.{I8, U8, I16, U16, I32, U32, I64, U64}

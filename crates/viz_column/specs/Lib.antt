@@ -1,6 +1,5 @@
 pub mod Numbers
 pub mod Kinds
 pub mod Bytes
-pub mod Rounds
-pub mod Vectors
-pub mod Slices
+pub mod Lent
+pub mod Typed

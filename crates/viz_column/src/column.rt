@@ -1,11 +1,11 @@
 //! A column.
 
-ghost use Rattle.std.specs.Prelude.{◌≡◌, ◌↔◌, ◌<◌, ◌%◌, ◌++◌, ◌∷◌, [], length, true, map, get_or, pos, IsSome, IfSome, IfOk, OnOk, OnErr};
-ghost use Rattle.viz_column.specs.Kinds.{size_of, fits};
+ghost use Rattle.std.specs.Prelude.{◌≡◌, ◌↔◌, ◌<◌, ◌++◌, ◌∷◌, [], length, true, map, slice_index_or, pos, IsSome, IfSome, IfOk, OnOk, OnErr};
+ghost use Rattle.viz_column.specs.Kinds.{fits};
 ghost use Rattle.viz_column.specs.Numbers.{AreInRange};
-ghost use Rattle.viz_column.specs.Bytes.{block_of, numbers_in};
-ghost use Rattle.viz_column.specs.Vectors.{held_by};
-ghost use Rattle.viz_column.specs.Slices.{lent_by};
+ghost use Rattle.viz_column.specs.Bytes.{block_of, IsBlock, numbers_of};
+ghost use Rattle.viz_column.specs.Typed.{held_by};
+ghost use Rattle.viz_column.specs.Lent.{lent_by};
 
 use crate::kind::Kind8;
 use crate::lent::Lent;
@@ -25,7 +25,7 @@ impl Model for Column {
 
     ghost Value = { Numbers };
 
-    ghost use Rattle.viz_column.specs.Vectors.{held_by};
+    ghost use Rattle.viz_column.specs.Typed.{held_by};
 
     ghost view = { λ c. held_by c.typed };
 
@@ -118,7 +118,7 @@ impl Column {
     /// The number at an index from 0 on. For many of them, `slice` or `numbers` is faster.
     pub fn get(&self, i: u64) -> i128
         requires { i < length self.now.items }
-        ensures value { result ≡ get_or self.now.items i (pos 0) }
+        ensures value { result ≡ slice_index_or self.now.items i (pos 0) }
         ensures within { fits self.now.kind result ≡ true }
     {
         each!(&self.typed, numbers => number_at(numbers, i))
@@ -136,8 +136,8 @@ impl Column {
 
     /// The numbers in these bytes, the highest byte of each first: a block of a file.
     pub fn from_be(alloc: Global, kind: Kind8, bytes: &[u8]) -> Result<Column, AllocError>
-        requires { length bytes.now % size_of kind ≡ 0 }
-        ensures { IfOk result (λ c. c ≡ record { kind = kind; items = numbers_in kind bytes.now }) }
+        requires { IsBlock kind bytes.now }
+        ensures { IfOk result (λ c. c ≡ numbers_of kind bytes.now) }
     {
         let column = match kind {
             Kind8::I8 => Column::of(i8::from_block(alloc, bytes)?),
@@ -197,7 +197,7 @@ fn show_range<T: Number>(numbers: &[T])
 // The number at an index.
 fn number_at<T: Number>(numbers: &[T], i: u64) -> i128
     requires { i < length numbers.now }
-    ensures value { result ≡ get_or (map T.value numbers.now) i (pos 0) }
+    ensures value { result ≡ slice_index_or (map T.value numbers.now) i (pos 0) }
     ensures within { fits T.kind result ≡ true }
 {
     numbers[i as usize].whole()
@@ -207,7 +207,8 @@ fn number_at<T: Number>(numbers: &[T], i: u64) -> i128
 fn push_to<T: Number>(numbers: &mut Vec<T>, n: i128) -> Result<(), AllocError>
     requires fits { fits T.kind n ≡ true }
     requires within { AreInRange (record { kind = T.kind; items = map T.value numbers.old.items }) }
-    ensures ok { OnOk result (map T.value numbers.new.items ≡ map T.value numbers.old.items ++ n ∷ []) }
+    ensures ok { OnOk result (
+        map T.value numbers.new.items ≡ map T.value numbers.old.items ++ n ∷ []) }
     ensures err { OnErr result (numbers.new.items ≡ numbers.old.items) }
     ensures within { AreInRange (record { kind = T.kind; items = map T.value numbers.new.items }) }
 {

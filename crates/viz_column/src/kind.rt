@@ -1,6 +1,6 @@
 //! The type of the numbers of a column.
 
-ghost use Rattle.std.specs.Prelude.{◌≡◌, ◌↔◌, true, IsTrue};
+ghost use Rattle.std.specs.Prelude.{◌≡◌, ◌↔◌, ◌<◌, ◌≤◌, true, IsTrue};
 ghost use Rattle.viz_column.specs.Kinds.{size_of, fits};
 
 /// The type of the numbers of a column: signed or unsigned, of 8 to 64 bits.
@@ -19,7 +19,9 @@ pub enum Kind8 {
 impl Kind8 {
     /// How many bytes a number has.
     pub fn size(self) -> usize
-        ensures { result ≡ size_of self }
+        ensures value { result ≡ size_of self }
+        ensures some { 0 < result }
+        ensures few { result ≤ 8 }
     {
         match self {
             Kind8::I8 | Kind8::U8 => 1,

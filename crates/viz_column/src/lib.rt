@@ -17,6 +17,9 @@ mod vectors;
 
 pub use column::Column;
 pub use kind::Kind8;
-pub use laws::{reads_what_is_written, writes_what_is_read};
+pub use laws::{blocks_are_read_again, blocks_are_written_again};
 pub use lent::Lent;
 pub use number::Number;
+
+#[cfg(test)]
+mod tests;

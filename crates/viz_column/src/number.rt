@@ -1,11 +1,11 @@
 //! The eight types, as one to a generic function.
 
-ghost use Rattle.std.specs.Prelude.{◌≡◌, ◌↔◌, ◌%◌, ℤ, pos, true, length, map, IsSome, IfSome, IfOk};
+ghost use Rattle.std.specs.Prelude.{◌≡◌, ◌↔◌, ℤ, pos, true, map, IsSome, IfSome, IfOk};
 ghost use Rattle.viz_column.specs.declared.kind.Kind8.{Kind8};
-ghost use Rattle.viz_column.specs.Kinds.{size_of, fits};
-ghost use Rattle.viz_column.specs.Bytes.{block_of, numbers_in};
-ghost use Rattle.viz_column.specs.Vectors.{held_by};
-ghost use Rattle.viz_column.specs.Slices.{lent_by};
+ghost use Rattle.viz_column.specs.Kinds.{fits};
+ghost use Rattle.viz_column.specs.Bytes.{block_of, numbers_in, IsBlock};
+ghost use Rattle.viz_column.specs.Typed.{held_by};
+ghost use Rattle.viz_column.specs.Lent.{lent_by};
 
 use crate::kind::Kind8;
 use crate::lent::Lent;
@@ -39,7 +39,7 @@ pub trait Number: Copy {
 
     /// The numbers in these bytes, the highest byte of each first.
     fn from_block(alloc: Global, bytes: &[u8]) -> Result<Vec<Self>, AllocError>
-        requires { length bytes.now % size_of kind ≡ 0 }
+        requires { IsBlock kind bytes.now }
         ensures { IfOk result (λ v. map value v.items ≡ numbers_in kind bytes.now) };
 
     /// The bytes of these numbers, the highest byte of each first.

@@ -2,7 +2,7 @@
 
 ghost use Rattle.std.specs.Prelude.{◌≡◌, map};
 ghost use Rattle.viz_column.specs.declared.kind.Kind8.TheVariants.{I8, I16, I32, I64};
-ghost use Rattle.viz_column.specs.Vectors.{held_by};
+ghost use Rattle.viz_column.specs.Typed.{held_by};
 
 use crate::kind::Kind8;
 use crate::lent::Lent;

@@ -2,7 +2,7 @@
 
 ghost use Rattle.std.specs.Prelude.{◌≡◌, pos, map};
 ghost use Rattle.viz_column.specs.declared.kind.Kind8.TheVariants.{U8, U16, U32, U64};
-ghost use Rattle.viz_column.specs.Vectors.{held_by};
+ghost use Rattle.viz_column.specs.Typed.{held_by};
 
 use crate::kind::Kind8;
 use crate::lent::Lent;

@@ -1,13 +1,14 @@
 //! Vectors that are made at once.
 
-ghost use Rattle.std.specs.Prelude.{◌≡◌, map, vec_len, IfOk};
+ghost use Rattle.std.specs.Prelude.{◌≡◌, map, replicate, vec_len, IfOk};
 ghost use Rattle.std.specs.Int.{w8, cast_signed};
 
 use std::alloc::{AllocError, Global};
 
 /// So many values, all the same.
 pub fn filled<T: Copy>(alloc: Global, value: T, count: usize) -> Result<Vec<T>, AllocError>
-    ensures { IfOk result (λ v. vec_len v ≡ count) }
+    ensures value { IfOk result (λ v. v.items ≡ replicate count value) }
+    ensures long { IfOk result (λ v. vec_len v ≡ count) }
 {
     let mut values = Vec::new(alloc);
     values.resize(count, value)?;

@@ -1,5 +1,5 @@
 use Rattle.viz_column.proofs.ListLemmas.{length-block, numbers_again}
-use Rattle.viz_column.proofs.laws.reads_what_is_written.Goals as goal
+use Rattle.viz_column.proofs.laws.blocks_are_read_again.Goals as goal
 
 pub returns-clause-long : goal.returns-clause-long
 returns-clause-long c = λ n. length-block n.kind n.items

@@ -1,7 +1,7 @@
 use Rattle.std.proofs.Common.{◌/◌, length, ap, ◌∙◌, ◌*◌, ℕ}
 use Rattle.viz_column.specs.Kinds.{size_of}
 use Rattle.viz_column.proofs.ListLemmas.{length-first, size_again, fits-numbers_in, block_again}
-use Rattle.viz_column.proofs.laws.writes_what_is_read.Goals as goal
+use Rattle.viz_column.proofs.laws.blocks_are_written_again.Goals as goal
 
 pub returns-clause-long : goal.returns-clause-long
 returns-clause-long c = λ kind bytes whole.
