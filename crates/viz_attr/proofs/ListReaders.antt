@@ -138,11 +138,11 @@ part_list_at g k r = due_word r >>= λ key. behind_list_at g k key.0 key.1
 abbrev pub settled : Given → Known → Result (List Part × Reading) FileFault → Result (Known × Reading) FileFault
 settled g k read = read >>= λ x. Ok (with_parts g k x.0, x.1)
 
-settled-alone : (g : Given) (k : Known) (read : Result (Part × Reading) FileFault) → behind_part g k read ≡ settled g k (read >>= λ x. Ok (x.0 ∷ [], x.1))
+pub settled-alone : (g : Given) (k : Known) (read : Result (Part × Reading) FileFault) → behind_part g k read ≡ settled g k (read >>= λ x. Ok (x.0 ∷ [], x.1))
 settled-alone g k (Ok x) = refl
 settled-alone g k (Err f) = refl
 
-settled-if : (g : Given) (k : Known) (b : Bool) (p q : Result (Known × Reading) FileFault) (x y : Result (List Part × Reading) FileFault)
+pub settled-if : (g : Given) (k : Known) (b : Bool) (p q : Result (Known × Reading) FileFault) (x y : Result (List Part × Reading) FileFault)
     → p ≡ settled g k x → q ≡ settled g k y → (if b then p else q) ≡ settled g k (if b then x else y)
 settled-if g k true p q x y e f = e
 settled-if g k false p q x y e f = f
@@ -164,7 +164,7 @@ field_step g k which n inner (Ok x) later =
     rw (← with_parts-more g k inner x.0, ← is_first-more inner x.0) here
 field_step g k which n inner (Err f) later = refl
 
-fields-settled : (g : Given) (k : Known) (which : Section) (n : ℕ) (inner : List Part) (r : Reading)
+pub fields-settled : (g : Given) (k : Known) (which : Section) (n : ℕ) (inner : List Part) (r : Reading)
     → field_arrays_at g (with_parts g k inner) which (is_first inner) n r ≡ settled g k (known_at (λ i. field_array_at g (with_parts g k i) which (is_first i)) n inner r)
 unfolding field_arrays_at
 fields-settled g k which zero inner r = refl
