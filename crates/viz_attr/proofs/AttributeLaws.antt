@@ -15,6 +15,10 @@ use Rattle.viz_lex.proofs.RuleLemmas.{decides-gives, decides-follow, decides-cho
 use Rattle.viz_lex.proofs.PassRules.{decides-same}
 use Rattle.viz_lex.proofs.DecidedLemmas.{IsDefinite-decided}
 use Rattle.viz_attr.specs.declared.parts.Section.{Section}
+use Rattle.viz_attr.specs.declared.stop.AttrStop.{AttrStop}
+use Rattle.viz_attr.specs.declared.stop.AttrStop.TheVariants.{File, Memory}
+use Rattle.viz_attr.specs.Attributes.{Meets}
+use Rattle.viz_attr.specs.Reads.{ReadsUnlessMemory}
 use Rattle.viz_attr.specs.declared.parts.Section.TheVariants.{Points, Cells}
 use Rattle.viz_attr.specs.Picks.{Given, Part, has_fit, picked_of}
 use Rattle.viz_attr.specs.Grammar.{is_first, joined, parts, is_zero, no_array, attributes}
@@ -137,3 +141,9 @@ decides-attributes g =
 -- each text has exactly one answer
 pub definite-attributes : (g : Given) → IsDefinite (attributes g)
 definite-attributes g = IsDefinite-decided (attributes g) (attributes_at g) (decides-attributes g)
+
+-- what was read by steps is what stands by the rule
+pub meets-attributes : (g : Given) (result : Result (Option Numbers) AttrStop) (old new : Reading) → ReadsUnlessMemory (λ column. column) result new (attributes_at g old) → Meets (attributes g) result old new
+meets-attributes g (Ok x) old new h = (decides-attributes g).found old (x, new) h
+meets-attributes g (Err (File f)) old new h = (decides-attributes g).stops old f h
+meets-attributes g (Err Memory) old new h = tt

@@ -1,5 +1,6 @@
 pub mod AttributeLaws
 pub mod CountLemmas
+pub mod FirstLaws
 pub mod FirstsLemmas
 pub mod KnownLemmas
 pub mod ListReaders

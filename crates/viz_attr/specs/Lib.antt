@@ -1,3 +1,4 @@
+pub mod Attributes
 pub mod Grammar
 pub mod Picks
 pub mod Types

@@ -5,15 +5,20 @@
 //! "Attribute parts".
 #![tactic(auto)]
 
+mod all_parts;
 mod arrays;
-mod attributes;
 mod counts;
 mod field;
+mod laws;
 mod parts;
 mod picks;
 mod stop;
 mod types;
 mod values;
 
+pub use all_parts::attributes;
+pub use laws::{
+    attributes_are_definite, other_arrays_are_counted, the_first_that_fits_is_picked,
+};
 pub use stop::AttrStop;
 pub use types::{Stored, type_word};

@@ -5,7 +5,7 @@ use Rattle.viz_lex.specs.Words.{word_at}
 use Rattle.viz_lex.specs.Steps.{has}
 use Rattle.viz_attr.specs.Reads.{known_of, given_of}
 use Rattle.viz_attr.proofs.PartLoops.{parts-on, parts-fault, parts-end, parts-done}
-use Rattle.viz_attr.proofs.attributes.parts.Goals as goal
+use Rattle.viz_attr.proofs.all_parts.parts.Goals as goal
 
 pub returns-then-is_done : goal.returns-then-is_done
 returns-then-is_done c =

@@ -1,7 +1,8 @@
 //! All attribute parts.
 
 ghost use Rattle.std.specs.Prelude.{◌≡◌, ◌+◌, ◌||◌, ℕ, List, length, None};
-ghost use Rattle.viz_attr.specs.Grammar.{is_zero};
+ghost use Rattle.viz_attr.specs.Attributes.{Meets};
+ghost use Rattle.viz_attr.specs.Grammar.{is_zero, attributes};
 ghost use Rattle.viz_attr.specs.Steps.{arrays_at, arrays_in_at, behind_at, part_at, parts_at, picked_at, attributes_at, start};
 ghost use Rattle.viz_attr.specs.Reads.{known_of, given_of, Adds, Knows, ReadsUnlessMemory};
 
@@ -166,4 +167,34 @@ fn all(
     let most = lexer.bytes().len() as u64 + 1;
     parts(alloc, lexer, files, &mut progress, most)?;
     picked(lexer, files, progress)
+}
+
+/// Reads all attribute parts to the end of the bytes, and gives the numbers of the picked array: of
+/// several components the first. The place is in front of the first part.
+///
+/// `points` and `cells` are how many of them the file has, `binary` is the form of its values. None
+/// comes exactly for `Pick::Zero`. File has the first fault and its place: NoArray, at the length,
+/// where all is well formed and no array fits the pick.
+pub fn attributes(
+    alloc: Global,
+    lexer: &mut Lexer<'_>,
+    binary: bool,
+    points: u64,
+    cells: u64,
+    pick: &Pick,
+) -> Result<Option<Column>, AttrStop>
+    ensures rules { Meets
+        (attributes (record { binary = binary; points = points; cells = cells; pick = pick.now }))
+        result lexer.old lexer.new }
+    ensures exact { ReadsUnlessMemory (λ column. column) result lexer.new
+        (attributes_at (record { binary = binary; points = points; cells = cells; pick = pick.now })
+            lexer.old) }
+{
+    let files = Files {
+        binary,
+        points,
+        cells,
+        pick,
+    };
+    all(alloc, lexer, &files)
 }

@@ -1,7 +1,7 @@
 use Rattle.std.proofs.Common.{◌≡◌, ◌-◌}
 use Rattle.viz_attr.specs.Steps.{parts_at}
 use Rattle.viz_attr.specs.Reads.{known_of, given_of}
-use Rattle.viz_attr.proofs.attributes.parts.Given as goal
+use Rattle.viz_attr.proofs.all_parts.parts.Given as goal
 
 -- what comes of the parts that are left is what comes of all
 abbrev pub invariant-loop : goal.invariant-loop
