@@ -5,6 +5,7 @@
 //! docs/FORMATS.md, "Reading".
 #![tactic(auto)]
 
+mod decimal;
 mod fault;
 mod laws;
 mod lexer;
