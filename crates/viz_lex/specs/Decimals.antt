@@ -68,16 +68,16 @@ decimal_of word = if nat_le (length word) 64 then signed_of word else None
 abbrev pub in_limit : ℤ → Bool
 in_limit z = nat_le (unsigned_abs z) (10 ^ 27)
 
--- a decimal within the limit, or what is wrong with the word at a place
-abbrev pub within_limit : Option ℤ → ℕ → Result ℤ FileFault
-within_limit None place = Err (fault_at HeaderNumber place)
-within_limit (Some z) place = if in_limit z then Ok z else Err (fault_at HeaderNumber place)
+-- a decimal, if it is within the limit
+abbrev pub limited : Option ℤ → Option ℤ
+limited None = None
+limited (Some z) = if in_limit z then Some z else None
 
 -- the next word as a decimal, in billionths
 unfoldable pub decimal_at : Reading → Result (ℤ × Reading) FileFault
 decimal_at r = do
   found ← ok_or (word_at r) (fault_at Truncated (length r.bytes))
-  z ← within_limit (decimal_of (text_of r found.0)) found.0.start
+  z ← ok_or (limited (decimal_of (text_of r found.0))) (fault_at HeaderNumber found.0.start)
   Ok (z, found.1)
 
 -- a sign, or none for a decimal that isn't negative

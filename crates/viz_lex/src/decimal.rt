@@ -3,10 +3,9 @@
 ghost use Rattle.std.specs.Prelude.{◌≡◌, ◌+◌, ◌-◌, ◌^◌, ◌≤◌, ◌++◌, pos, neg_ℤ, true, min, length, take, drop, option_map, Some, IfSome};
 ghost use Rattle.std.specs.List.{list_all};
 ghost use Rattle.viz_lex.specs.Numbers.{is_digit, digits_value, natural_of};
-ghost use Rattle.viz_lex.specs.Decimals.{is_point, is_letter, first_at, in_front, behind_point, exponent_of, magnitude_of, decimal_of, within_limit};
+ghost use Rattle.viz_lex.specs.Decimals.{is_point, is_letter, first_at, in_front, behind_point, exponent_of, magnitude_of, decimal_of, limited};
 ghost use Rattle.viz_lex.specs.Scaled.{small, scaled, clipped, more_digits};
 
-use crate::fault::{FileFault, FileKind};
 use crate::number::{is_digit, natural, negated};
 
 /// No decimal has more bytes.
@@ -63,6 +62,12 @@ fn all_digits(text: &[u8]) -> bool
         }
     }
     true
+}
+
+fn are_digits(front: &[u8], back: &[u8]) -> bool
+    ensures { result ≡ list_all is_digit (front.now ++ back.now) }
+{
+    all_digits(front) && all_digits(back)
 }
 
 /// The number n with further digits behind its own, but at most the largest that 128 bits have.
@@ -150,7 +155,7 @@ fn mantissa(text: &[u8], up: usize, down: usize) -> Option<u128>
     if front.len() + back.len() == 0 {
         return None;
     }
-    if !all_digits(front) || !all_digits(back) {
+    if !are_digits(front, back) {
         return None;
     }
     scaled(front, back, 9 + up, back.len() + down)
@@ -169,7 +174,7 @@ fn magnitude(text: &[u8]) -> Option<u128>
 
 fn negative(text: &[u8]) -> Option<i128>
     requires { length text.now ≤ LONGEST }
-    ensures { result ≡ option_map (λ n. neg_ℤ (pos n)) (small (magnitude_of text.now)) }
+    ensures { result ≡ limited (option_map (λ n. neg_ℤ (pos n)) (magnitude_of text.now)) }
 {
     let n = magnitude(text)?;
     Some(negated(n))
@@ -177,24 +182,22 @@ fn negative(text: &[u8]) -> Option<i128>
 
 fn positive(text: &[u8]) -> Option<i128>
     requires { length text.now ≤ LONGEST }
-    ensures { result ≡ option_map (λ n. pos n) (small (magnitude_of text.now)) }
+    ensures { result ≡ limited (option_map (λ n. pos n) (magnitude_of text.now)) }
 {
     let n = magnitude(text)?;
     Some(n as i128)
 }
 
-/// The decimal of a word that starts at `place`.
-pub(crate) fn decimal(word: &[u8], place: u64) -> Result<i128, FileFault>
-    ensures { result ≡ within_limit (decimal_of word.now) place }
+/// The decimal of a word, where it is one and lies within the limit.
+pub(crate) fn decimal(word: &[u8]) -> Option<i128>
+    ensures { result ≡ limited (decimal_of word.now) }
 {
-    let kind = FileKind::HeaderNumber;
     if word.len() > LONGEST {
-        return Err(FileFault { kind, place });
+        return None;
     }
-    let found = match word {
+    match word {
         [b'-', rest @ ..] => negative(rest),
         [b'+', rest @ ..] => positive(rest),
         _ => positive(word),
-    };
-    found.ok_or(FileFault { kind, place })
+    }
 }

@@ -180,7 +180,12 @@ impl<'a> Lexer<'a> {
                 place: self.bytes.len() as u64,
             });
         };
-        let n = decimal(self.text(&span), span.start)?;
+        let Some(n) = decimal(self.text(&span)) else {
+            return Err(FileFault {
+                kind: FileKind::HeaderNumber,
+                place: span.start,
+            });
+        };
         self.place = span.end as usize;
         Ok(n)
     }
