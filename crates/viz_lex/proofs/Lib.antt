@@ -1,3 +1,4 @@
+pub mod BlockLemmas
 pub mod DecimalLemmas
 pub mod LineLemmas
 pub mod MetadataLemmas
@@ -7,3 +8,4 @@ pub mod ReadingLemmas
 pub mod ScaleLemmas
 mod StandardFacts
 pub mod WordLemmas
+pub mod WrittenLemmas

@@ -163,7 +163,7 @@ digit_solid b digit =
     let within = digit_is b digit in
     or_from _ _ (and_right _ _ (lt-leb b 13 (omega arith))) (ne_eqb b 32 (λ e. omega arith))
 
-digits_solid : (ds : List ℕ) → list_all is_digit ds ≡ true → All (λ b. is_blank b ≡ false) ds
+pub digits_solid : (ds : List ℕ) → list_all is_digit ds ≡ true → All (λ b. is_blank b ≡ false) ds
 digits_solid ds digits = All-weaker (λ b. is_digit b ≡ true) (λ b. is_blank b ≡ false) digit_solid ds (AllPass-from_list_all is_digit ds digits)
 
 -- digits are a number
@@ -174,12 +174,12 @@ whole_of-digits (b ∷ bs) some digits =
     rw (ne_eqb b 45 (λ e. omega arith), ne_eqb b 43 (λ e. omega arith), natural_of-digits (b ∷ bs) some digits) refl
 
 -- what is written of a natural number
-record IsWritten (n : ℕ) (ds : List ℕ) : Type 0 where
-  some : 0 < length ds
-  digits : list_all is_digit ds ≡ true
-  value : digits_value ds ≡ n
+pub record IsWritten (n : ℕ) (ds : List ℕ) : Type 0 where
+  pub some : 0 < length ds
+  pub digits : list_all is_digit ds ≡ true
+  pub value : digits_value ds ≡ n
 
-IsWritten-decimal : (n : ℕ) → n ≤ 2 ^ 127 → IsWritten n (decimal n)
+pub IsWritten-decimal : (n : ℕ) → n ≤ 2 ^ 127 → IsWritten n (decimal n)
 IsWritten-decimal n h =
     let known = decimal_is_IsNumeral_wide n (omega arith) in record {
       some = known.0.0;

@@ -42,7 +42,7 @@ leading_is top keep a b =
     let back = take (keep - min keep (length a)) b in
     more_min top (more_digits 0 front) back ∙ ap (λ n. min n top) (sym (fold-append (λ n b. n * 10 + (b - 48)) 0 front back)) ∙ ap (λ t. min (digits_value t) top) (sym (take_two keep a b))
 
-power_some : (k : ℕ) → 0 < 10 ^ k
+pub power_some : (k : ℕ) → 0 < 10 ^ k
 power_some k = omega (arith, one-le-pow k 10 (omega arith))
 
 -- one digit more
@@ -52,7 +52,7 @@ digit_step n d p q v e = rw e (omega arith)
 digit_below : (d p q v : ℕ) → d ≤ 9 → v < p → q ≡ p * 10 → (0 * 10 + d) * p + v < q
 digit_below d p q v h below e = rw e (omega (arith, mul-le-mul_right p h))
 
-more_value : (n : ℕ) (ds : List ℕ) → more_digits n ds ≡ n * 10 ^ length ds + digits_value ds
+pub more_value : (n : ℕ) (ds : List ℕ) → more_digits n ds ≡ n * 10 ^ length ds + digits_value ds
 more_value n [] = omega arith
 more_value n (b ∷ bs) =
     let p = 10 ^ length bs in

@@ -1,5 +1,5 @@
 -- Decimals as they are written (docs/FORMATS.md, "Written files"), from billionths: a minus sign, the whole part, the fraction.
-use Rattle.std.specs.Prelude.{ℕ, ℤ, pos, negsuc, zero, suc, ◌+◌, ◌/◌, ◌%◌, ◌^◌, ◌==◌, List, [], ◌∷◌, ◌++◌, if◌then◌else◌}
+use Rattle.std.specs.Prelude.{◌≡◌, ℕ, ℤ, pos, negsuc, zero, suc, ◌+◌, ◌/◌, ◌%◌, ◌^◌, ◌==◌, List, [], ◌∷◌, ◌++◌, if◌then◌else◌}
 use Rattle.std.specs.Fmt.{decimal}
 
 -- the digits of a fraction of so many places, without zeros at the end
@@ -19,3 +19,7 @@ magnitude_text n = decimal (n / 10 ^ 9) ++ fraction_text (n % 10 ^ 9)
 abbrev pub decimal_text : ℤ → List ℕ
 decimal_text (pos n) = magnitude_text n
 decimal_text (negsuc n) = 45 ∷ magnitude_text (suc n)
+
+-- a text with further bytes behind it, or none
+abbrev pub IsBegun : List ℕ → List ℕ → Type 0
+IsBegun text longer = (added : List ℕ) × (longer ≡ text ++ added)

@@ -8,6 +8,8 @@
 mod decimal;
 mod fault;
 mod laws;
+mod laws_decimal;
+mod laws_pass;
 mod lexer;
 mod metadata;
 mod number;
@@ -15,14 +17,18 @@ mod pass;
 mod put;
 mod scan;
 mod span;
+mod written;
 
 pub use fault::{FileFault, FileKind};
 pub use laws::{
     ends_lines_only, finds_each_line, finds_each_word, finds_lines_only, finds_words_only,
     reads_each_number, reads_what_is_written,
 };
+pub use laws_decimal::reads_each_decimal;
+pub use laws_pass::{finds_each_block, passes_over_metadata, passes_over_words};
 pub use lexer::Lexer;
 pub use put::put_whole;
+pub use written::put_decimal;
 pub use span::Span;
 
 #[cfg(test)]
