@@ -24,7 +24,7 @@ pub use laws::{
     ends_lines_only, finds_each_line, finds_each_word, finds_lines_only, finds_words_only,
     reads_each_number, reads_what_is_written,
 };
-pub use laws_decimal::reads_each_decimal;
+pub use laws_decimal::{reads_each_decimal, reads_written_decimals, writes_each_fraction};
 pub use laws_pass::{finds_each_block, passes_over_metadata, passes_over_words};
 pub use lexer::Lexer;
 pub use put::put_whole;
