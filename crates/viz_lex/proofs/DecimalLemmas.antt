@@ -1,19 +1,19 @@
 -- Decimals: what is spelled so is found, what is found is spelled so, and each fault exactly where.
-use Rattle.std.proofs.Common.{◌≡◌, ◌≢◌, ◌⊎◌, ◌↔◌, ℕ, ℤ, pos, neg_ℤ, zero, suc, ◌+◌, ◌-◌, ◌<◌, ◌≤◌, true, false, cond, leb, eqb, Bool, List, [], ◌∷◌, ◌++◌, length, take, drop, All, Option, Some, None, Result, Ok, Err, refl, sym, ap, subst, ◌∙◌, inl, inr, arith}
-use Rattle.std.specs.Prelude.{ok_or, option_map, not, ◌&&◌}
+use Rattle.std.proofs.Common.{◌≡◌, ◌≢◌, ◌⊎◌, ◌↔◌, ℕ, ℤ, pos, neg_ℤ, suc, ◌+◌, ◌<◌, ◌≤◌, true, false, cond, leb, eqb, Bool, List, [], ◌∷◌, ◌++◌, length, take, drop, Option, Some, None, Result, Ok, Err, refl, sym, ap, subst, ◌∙◌, inl, inr, arith}
+use Rattle.std.specs.Prelude.{ok_or, option_map, not}
 use Rattle.std.specs.List.{list_all}
 use Rattle.std.proofs.lemmas.Option.{none-some, same_Some}
-use Rattle.std.proofs.lemmas.Bool.{cases_Bool, cond_both, cond-true, cond-false, eqb-true, eqb-false, ne_eqb, and_parts, leb-true, le-leb, lt-leb, or_from, not-true}
-use Rattle.std.proofs.lemmas.List.{take-append-drop, take_at, drop_at, drop_all, take_all, drop-drop, append-nil, length-append}
+use Rattle.std.proofs.lemmas.Bool.{cases_Bool, cond_both, cond-true, cond-false, eqb-true, ne_eqb, and_parts, leb-true, le-leb, not-true}
+use Rattle.std.proofs.lemmas.List.{take-append-drop, take_at, drop_at, drop_all, take_all, drop-drop, append-nil}
 use Rattle.std.proofs.lemmas.List.Folds.{list_all-append}
 use Rattle.viz_lex.specs.declared.fault.FileFault.{FileFault}
 use Rattle.viz_lex.specs.declared.fault.FileKind.TheVariants.{HeaderNumber, Truncated}
 use Rattle.viz_lex.specs.declared.span.Span.{Span}
 use Rattle.viz_lex.specs.Reading.{Reading, rest_of, advanced, fault_at, ◌>>=◌}
 use Rattle.viz_lex.specs.Words.{text_of, word_at, IsBlank, IsNextWord}
-use Rattle.viz_lex.specs.Numbers.{is_digit, digits_value, natural_of, whole_of}
+use Rattle.viz_lex.specs.Numbers.{is_digit, digits_value, natural_of}
 use Rattle.viz_lex.specs.Decimals.{is_point, is_letter, first_at, billionths, exponent_of, in_front, behind_point, scaled_of, magnitude_by, magnitude_of, signed_of, decimal_of, in_limit, limited, decimal_at, IsSign, IsMantissa, IsExponent, Spelling, IsSpelled, worth, IsDecimal, IsDecimalAt}
-use Rattle.viz_lex.proofs.ReadingLemmas.{done, failed, done_is, fault_is, bind_ok, bind_err}
+use Rattle.viz_lex.proofs.ReadingLemmas.{done, failed, done_is, bind_ok, bind_err}
 use Rattle.viz_lex.proofs.WordLemmas.{word_at-next, text_of-next, word_at-blank, word_at-Some, word_at-None}
 use Rattle.viz_lex.proofs.LineLemmas.{some_map}
 use Rattle.viz_lex.proofs.NumberLemmas.{digit_is, natural_of-digits, some_from_ok, none_from_err}
@@ -84,7 +84,7 @@ behind_point_is text front back m h =
 
 IsMantissa-byte : (b : ℕ) (bs front back : List ℕ) → IsMantissa bs front back → IsMantissa (b ∷ bs) (b ∷ front) back
 IsMantissa-byte b bs front back m =
-    elim m [ | inl e ↦ inl (ap (λ t. b ∷ t) e) | inr e ↦ inr (ap (λ t. b ∷ t) e.0, e.1) ]
+    elim m [ inl e ↦ inl (ap (λ t. b ∷ t) e) | inr e ↦ inr (ap (λ t. b ∷ t) e.0, e.1) ]
 
 IsMantissa-split : (text : List ℕ) → IsMantissa text (in_front text) (behind_point text)
 IsMantissa-split [] = inr (refl, refl)
@@ -105,11 +105,11 @@ letter_is mantissa tail front back e m digits ten =
       | inl is ↦ ap (list_all (λ b. not (is_letter b))) is ∙ list_all-append (λ b. not (is_letter b)) front (46 ∷ back) ∙ rw (front_none, back_none) refl
       | inr is ↦ ap (list_all (λ b. not (is_letter b))) is.0 ∙ front_none
     ] in
-    let first : first_at is_letter tail ≡ 0 = elim ten [ | inl x ↦ ap (first_at is_letter) x.2 ∙ rw x.3 refl | inr x ↦ ap (first_at is_letter) x.0 ] in
+    let first : first_at is_letter tail ≡ 0 = elim ten [ inl x ↦ ap (first_at is_letter) x.2 ∙ rw x.3 refl | inr x ↦ ap (first_at is_letter) x.0 ] in
     first_at-append is_letter mantissa tail none first
 
 exponent_is : (tail : List ℕ) (e : ℤ) → IsExponent tail e → exponent_of tail ≡ Some e
-exponent_is tail e ten = elim ten [ | inl x ↦ ap exponent_of x.2 ∙ x.4 | inr x ↦ ap exponent_of x.0 ∙ ap Some (sym x.1) ]
+exponent_is tail e ten = elim ten [ inl x ↦ ap exponent_of x.2 ∙ x.4 | inr x ↦ ap exponent_of x.0 ∙ ap Some (sym x.1) ]
 
 some_length : (text : List ℕ) → text ≢ [] → 0 < length text
 some_length [] h = absurd (h refl)
@@ -175,7 +175,7 @@ Magnitude-from text n h =
 -- the first byte of a mantissa is no sign
 first_byte : (mantissa front back : List ℕ) → IsMantissa mantissa front back → list_all is_digit (front ++ back) ≡ true → front ++ back ≢ [] → (b : ℕ) × (bs : List ℕ) × (mantissa ≡ b ∷ bs) × (b ≢ 45) × (b ≢ 43)
 first_byte mantissa [] back m digits some =
-    elim m [ | inl e ↦ (46, back, e, (λ x. omega arith), (λ x. omega arith)) | inr e ↦ absurd (some e.1) ]
+    elim m [ inl e ↦ (46, back, e, (λ x. omega arith), (λ x. omega arith)) | inr e ↦ absurd (some e.1) ]
 first_byte mantissa (b ∷ bs) back m digits some =
     let within = digit_is b (and_parts _ _ digits).0 in
     elim m [

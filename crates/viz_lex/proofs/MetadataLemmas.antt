@@ -1,8 +1,7 @@
 -- The lines of METADATA: what is passed over ends at the first empty line, and nowhere else.
-use Rattle.std.proofs.Common.{◌≡◌, ◌≢◌, ◌⊎◌, ℕ, zero, suc, ◌+◌, ◌<◌, ◌≤◌, eqb, Bool, true, false, List, [], ◌∷◌, ◌++◌, length, take, drop, All, Option, Some, None, Ok, refl, sym, ap, subst, ◌∙◌, inl, inr, arith, append_assoc, length-append}
-use Rattle.std.specs.Prelude.{option_map, nat_lt, ◌&&◌}
-use Rattle.std.proofs.lemmas.Option.{none-some}
-use Rattle.std.proofs.lemmas.Bool.{cases_Bool, cond-true, cond-false, ne_eqb, eqb-true, eqb-false, lt-ltb, and_parts, and_right}
+use Rattle.std.proofs.Common.{◌≡◌, ◌≢◌, ◌⊎◌, ℕ, zero, suc, ◌+◌, ◌<◌, eqb, true, false, List, [], ◌∷◌, ◌++◌, length, take, drop, All, Some, Ok, refl, sym, ap, subst, ◌∙◌, inl, inr, arith, append_assoc, length-append}
+use Rattle.std.specs.Prelude.{nat_lt, ◌&&◌}
+use Rattle.std.proofs.lemmas.Bool.{cases_Bool, ne_eqb, eqb-true, eqb-false, lt-ltb, and_parts, and_right}
 use Rattle.std.proofs.lemmas.List.{drop-drop, length-take, length-drop}
 use Rattle.std.proofs.lemmas.List.Elements.{All-nil, All-cons, All-head, All-tail}
 use Rattle.viz_lex.specs.Reading.{Reading, rest_of, advanced}
@@ -35,7 +34,7 @@ metadata_len-here (b ∷ bs) later one some =
 -- ---- empty lines
 
 empty_line-empty : (empty behind : List ℕ) → IsEmptyLine empty → empty_line (empty ++ 10 ∷ behind) ≡ length empty + 1
-empty_line-empty empty behind h = elim h [ | inl e ↦ rw e refl | inr e ↦ rw e refl ]
+empty_line-empty empty behind h = elim h [ inl e ↦ rw e refl | inr e ↦ rw e refl ]
 
 empty_line-none : (b : ℕ) (bs : List ℕ) → b ≢ 10 → (b ≡ 13 → newline_first bs ≡ false) → empty_line (b ∷ bs) ≡ 0
 empty_line-none b bs ne more =

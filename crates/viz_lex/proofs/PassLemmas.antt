@@ -1,13 +1,13 @@
 -- Words passed over: byte by byte, chunk by chunk and word by word.
 use Rattle.std.proofs.Common.{◌≡◌, ◌⊎◌, ◌↔◌, ℕ, zero, suc, ◌+◌, ◌-◌, ◌<◌, ◌≤◌, eqb, Bool, true, false, List, [], ◌∷◌, ◌++◌, length, take, drop, All, Option, Some, None, Result, Ok, Err, refl, sym, ap, subst, ◌∙◌, inl, inr, arith}
 use Rattle.std.specs.Prelude.{option_map, ok_or, not, ◌&&◌}
-use Rattle.std.proofs.lemmas.Bool.{cases_Bool, cond-true, cond-false, ne_eqb, and_parts}
+use Rattle.std.proofs.lemmas.Bool.{cases_Bool, ne_eqb, and_parts}
 use Rattle.std.proofs.lemmas.List.{take-append-drop, drop-drop, length-take-le, length-drop}
 use Rattle.std.proofs.lemmas.List.Elements.{All-head, All-tail}
 use Rattle.viz_lex.specs.declared.fault.FileFault.{FileFault}
 use Rattle.viz_lex.specs.declared.fault.FileKind.TheVariants.{Truncated}
-use Rattle.viz_lex.specs.Reading.{Reading, rest_of, advanced, fault_at, ◌>>=◌}
-use Rattle.viz_lex.specs.Words.{is_blank, blanks, word_len, word_at, EndsWord, IsBlank, IsWord, IsNextWord}
+use Rattle.viz_lex.specs.Reading.{Reading, rest_of, advanced, fault_at}
+use Rattle.viz_lex.specs.Words.{is_blank, EndsWord, IsBlank, IsWord, IsNextWord}
 use Rattle.viz_lex.specs.Counted.{word_ends, inside_after, passed, words_len}
 use Rattle.viz_lex.specs.Passing.{words_at, IsNextWords}
 use Rattle.viz_lex.proofs.ReadingLemmas.{done, failed, done_is}

@@ -1,13 +1,13 @@
 -- The digits that count, and what a power of ten makes of them.
-use Rattle.std.proofs.Common.{◌≡◌, ◌≢◌, ◌⊎◌, ℕ, ℤ, pos, negsuc, neg_ℤ, zero, suc, ◌+◌, ◌-◌, ◌*◌, ◌/◌, ◌^◌, ◌<◌, ◌≤◌, min, true, false, cond, leb, eqb, Bool, List, [], ◌∷◌, ◌++◌, length, take, drop, Option, Some, None, refl, sym, ap, subst, ◌∙◌, inl, inr, arith}
+use Rattle.std.proofs.Common.{◌≡◌, ◌≢◌, ℕ, ℤ, pos, negsuc, neg_ℤ, zero, suc, ◌+◌, ◌-◌, ◌*◌, ◌/◌, ◌^◌, ◌<◌, ◌≤◌, min, true, false, cond, leb, eqb, Bool, List, [], ◌∷◌, ◌++◌, length, take, drop, Option, Some, None, refl, sym, ap, subst, ◌∙◌, inl, inr, arith}
 use Rattle.std.specs.Prelude.{option_map}
 use Rattle.std.specs.List.{list_all}
-use Rattle.std.proofs.Math.Nat.{one-le-pow, pow-suc, pow-le-pow_right, mul-le-mul_left, mul-le-mul_right, mul-div_cancel, div-div-eq-div-mul, div-eq_of_lt, div-one, mul-one, zero-div, zero-mul, mul_assoc, mul_comm}
+use Rattle.std.proofs.Math.Nat.{one-le-pow, pow-suc, pow-le-pow_right, mul-le-mul_left, mul-le-mul_right, mul-div_cancel, div-div-eq-div-mul, div-eq_of_lt, div-one, mul-one, zero-div, zero-mul, mul_assoc}
 use Rattle.std.proofs.Math.Seq.{take-append-add}
 use Rattle.std.proofs.lemmas.Option.{none-some, same_Some}
 use Rattle.std.proofs.lemmas.Nat.{pow-add, div-mul-add}
-use Rattle.std.proofs.lemmas.Bool.{cases_Bool, cases_lt, cond_both, cond-true, cond-false, ne_eqb, eqb-false, and_parts, and_right, leb-true, leb-false, lt-leb, le-leb}
-use Rattle.std.proofs.lemmas.List.{take-append-drop, take-append-le, take_all, drop_all, append-nil, length-take, length-drop, length-append}
+use Rattle.std.proofs.lemmas.Bool.{cases_Bool, cases_lt, cond_both, cond-true, cond-false, ne_eqb, eqb-false, and_parts, leb-true, lt-leb}
+use Rattle.std.proofs.lemmas.List.{take-append-drop, take-append-le, take_all, append-nil, length-take, length-drop, length-append}
 use Rattle.std.proofs.lemmas.List.Sums.{fold-append}
 use Rattle.std.proofs.lemmas.List.Folds.{list_all-append}
 use Rattle.viz_lex.specs.Numbers.{is_digit, digits_value, natural_of}
@@ -199,7 +199,7 @@ small_clipped m p (negsuc e) short below = ap (λ n. small (Some n)) (clipped_do
 -- ---- the digits of a text with at most one point
 
 natural_of-other : (text : List ℕ) → list_all is_digit text ≡ false → natural_of text ≡ None
-natural_of-other text h = elim (cases_Bool (eqb (length text) 0)) [ | inl none ↦ rw none refl | inr some ↦ rw (some, h) refl ]
+natural_of-other text h = elim (cases_Bool (eqb (length text) 0)) [ inl none ↦ rw none refl | inr some ↦ rw (some, h) refl ]
 
 natural_of-all : (text : List ℕ) → length text ≢ 0 → list_all is_digit text ≡ true → natural_of text ≡ Some (digits_value text)
 natural_of-all text some h = rw (ne_eqb (length text) 0 some, h) refl
@@ -268,7 +268,7 @@ magnitude_none text exponent e = ap (λ o. scaled_of (natural_of (in_front text 
 pub limited_negative : (o : Option ℕ) → limited (option_map (λ n. neg_ℤ (pos n)) o) ≡ option_map (λ n. neg_ℤ (pos n)) (small o)
 limited_negative None = refl
 limited_negative (Some zero) = refl
-limited_negative (Some (suc n)) = elim (cases_Bool (leb (suc n) (10 ^ 27))) [ | inl within ↦ rw within refl | inr past ↦ rw past refl ]
+limited_negative (Some (suc n)) = elim (cases_Bool (leb (suc n) (10 ^ 27))) [ inl within ↦ rw within refl | inr past ↦ rw past refl ]
 
 exponent_parts : (o : Option ℤ) (up down : ℕ) → option_map clipped o ≡ Some (up, down) → (e : ℤ) × (o ≡ Some e) × ((clipped e).0 ≡ up) × ((clipped e).1 ≡ down)
 exponent_parts None up down h = absurd (none-some _ h)

@@ -1,10 +1,10 @@
 -- Decimals as they are written: the digits of a fraction, and that what is written is read again.
-use Rattle.std.proofs.Common.{◌≡◌, ◌≢◌, ◌⊎◌, ℕ, ℤ, pos, negsuc, neg_ℤ, zero, suc, ◌+◌, ◌-◌, ◌*◌, ◌/◌, ◌%◌, ◌^◌, ◌<◌, ◌≤◌, true, false, cond, leb, eqb, Bool, List, [], ◌∷◌, ◌++◌, length, All, Some, Ok, refl, sym, ap, subst, ◌∙◌, inl, inr, arith, append_assoc, length-append}
+use Rattle.std.proofs.Common.{◌≡◌, ◌≢◌, ◌⊎◌, ℕ, ℤ, pos, negsuc, neg_ℤ, zero, suc, ◌+◌, ◌-◌, ◌*◌, ◌/◌, ◌%◌, ◌^◌, ◌<◌, ◌≤◌, true, false, cond, eqb, Bool, List, [], ◌∷◌, ◌++◌, length, All, Ok, refl, sym, ap, subst, ◌∙◌, inl, inr, arith, append_assoc, length-append}
 use Rattle.std.specs.List.{list_all}
 use Rattle.std.specs.Fmt.{decimal}
 use Rattle.std.proofs.Math.Nat.{pow-suc, mul-div_cancel, mul_assoc, mul_comm}
 use Rattle.std.proofs.lemmas.Nat.{pow-add, div-add-mod', div_below, mod_below}
-use Rattle.std.proofs.lemmas.Bool.{cases_Bool, cases_lt, ne_eqb, eqb-true, eqb-false, le-leb, leb-true, or_from, and_right}
+use Rattle.std.proofs.lemmas.Bool.{cases_Bool, ne_eqb, eqb-true, le-leb, leb-true}
 use Rattle.std.proofs.lemmas.Fmt.{length-decimal-le_wide}
 use Rattle.std.proofs.lemmas.List.{append-nil}
 use Rattle.std.proofs.lemmas.List.Sums.{fold-append}
@@ -14,8 +14,7 @@ use Rattle.viz_lex.specs.Reading.{Reading, rest_of, advanced}
 use Rattle.viz_lex.specs.Words.{is_blank, EndsWord, IsBlank, IsWord, IsNextWord}
 use Rattle.viz_lex.specs.Numbers.{is_digit, digits_value}
 use Rattle.viz_lex.specs.Decimals.{billionths, in_limit, decimal_at, IsMantissa, IsSign, Spelling, IsSpelled, IsDecimal}
-use Rattle.viz_lex.specs.Scaled.{more_digits}
-use Rattle.viz_lex.specs.Written.{places, fraction_text, magnitude_text, decimal_text, IsBegun}
+use Rattle.viz_lex.specs.Written.{places, magnitude_text, decimal_text, IsBegun}
 use Rattle.viz_lex.proofs.NumberLemmas.{digits_solid, IsWritten, IsWritten-decimal}
 use Rattle.viz_lex.proofs.ScaleLemmas.{power_some, more_value}
 use Rattle.viz_lex.proofs.DecimalLemmas.{decimal_at-some}
@@ -241,7 +240,6 @@ decimal_spelled negative sign n h is short =
       is_exponent = inr (refl, refl);
     } in
     (s, spelled, ap (λ k. cond negative (neg_ℤ (pos k)) (pos k)) (written_worth n front back written))
-
 
 magnitude_solid : (n : ℕ) → n ≤ 10 ^ 27 → All (λ b. is_blank b ≡ false) (magnitude_text n)
 magnitude_solid n h =

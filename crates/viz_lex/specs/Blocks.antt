@@ -1,5 +1,5 @@
 -- Blocks of bytes, as the values of a binary file stand (VTK User's Guide, "Simple legacy formats"; docs/FORMATS.md, "Reading").
-use Rattle.std.specs.Prelude.{◌≡◌, ℕ, nat_le, List, ◌++◌, length, Result, Ok, Err, if◌then◌else◌}
+use Rattle.std.specs.Prelude.{◌≡◌, ℕ, nat_le, ◌++◌, length, Result, Ok, Err, if◌then◌else◌}
 use Rattle.viz_lex.specs.declared.fault.FileFault.{FileFault}
 use Rattle.viz_lex.specs.declared.fault.FileKind.TheVariants.{Truncated}
 use Rattle.viz_lex.specs.declared.span.Span.{Span}

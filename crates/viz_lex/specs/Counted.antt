@@ -1,5 +1,5 @@
 -- Words by the bytes at which they end: what the contracts of the counting speak of, and no public one.
-use Rattle.std.specs.Prelude.{ℕ, zero, suc, ◌+◌, ◌-◌, Bool, true, false, not, ◌&&◌, ◌==◌, List, [], ◌∷◌, Option, Some, None, option_map, drop, if◌then◌else◌}
+use Rattle.std.specs.Prelude.{ℕ, zero, suc, ◌+◌, ◌-◌, Bool, false, not, ◌&&◌, ◌==◌, List, [], ◌∷◌, Option, Some, None, option_map, drop, if◌then◌else◌}
 use Rattle.viz_lex.specs.Words.{is_blank, blanks, word_len}
 
 -- how many words end at a blank, the first of them open in front of the text or not

@@ -50,7 +50,11 @@ fn behind(text: &[u8], point: usize) -> &[u8]
     requires { point ≤ length text.now }
     ensures { result.now ≡ drop (point + 1) text.now }
 {
-    if point < text.len() { &text[point + 1..] } else { &[] }
+    if point < text.len() {
+        &text[point + 1..]
+    } else {
+        &[]
+    }
 }
 
 fn all_digits(text: &[u8]) -> bool

@@ -1,6 +1,6 @@
 //! The reader of a text.
 
-ghost use Rattle.std.specs.Prelude.{◌≡◌, ◌↔◌, ◌<◌, ◌≤◌, length, option_map, IsNone, IfSome, IfOk, OnOk};
+ghost use Rattle.std.specs.Prelude.{◌≡◌, ◌↔◌, ◌<◌, ◌≤◌, ℕ, List, length, option_map, IsNone, IfSome, IfOk, OnOk};
 ghost use Rattle.viz_lex.specs.Decimals.{decimal_at, IsDecimalAt};
 ghost use Rattle.viz_lex.specs.Blocks.{block_at, IsBlockAt};
 ghost use Rattle.viz_lex.specs.Passing.{words_at, metadata_at, IsNextWords, IsBehindMetadata};
@@ -174,19 +174,19 @@ impl<'a> Lexer<'a> {
         ensures onward { self.old.place ≤ self.new.place }
         ensures at_most { self.new.place ≤ length self.old.bytes }
     {
-        let Some(span) = self.ahead() else {
+        let Some(word) = self.ahead() else {
             return Err(FileFault {
                 kind: FileKind::Truncated,
                 place: self.bytes.len() as u64,
             });
         };
-        let Some(n) = decimal(self.text(&span)) else {
+        let Some(n) = decimal(self.text(&word)) else {
             return Err(FileFault {
                 kind: FileKind::HeaderNumber,
-                place: span.start,
+                place: word.start,
             });
         };
-        self.place = span.end as usize;
+        self.place = word.end as usize;
         Ok(n)
     }
 
@@ -259,6 +259,8 @@ impl<'a> Lexer<'a> {
     pub fn pass(&mut self, count: u64) -> Result<(), FileFault>
         ensures value { Gives result self.old self.new (words_at count self.old) }
         ensures ok { OnOk result (IsNextWords count (rest_of self.old) (rest_of self.new)) }
+        ensures truncated { (result ≡ Err (fault_at Truncated (length self.old.bytes)))
+            ↔ ((behind : List ℕ) → IsNextWords count (rest_of self.old) behind → ⊥) }
 
         // The bytes stay, and the place rises.
         ensures kept { self.new.bytes ≡ self.old.bytes }

@@ -28,8 +28,12 @@ pub use laws_decimal::{reads_each_decimal, reads_written_decimals, writes_each_f
 pub use laws_pass::{finds_each_block, passes_over_metadata, passes_over_words};
 pub use lexer::Lexer;
 pub use put::put_whole;
-pub use written::put_decimal;
 pub use span::Span;
+pub use written::put_decimal;
 
 #[cfg(test)]
 mod tests;
+#[cfg(test)]
+mod tests_decimal;
+#[cfg(test)]
+mod tests_pass;

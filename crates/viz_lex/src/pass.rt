@@ -48,7 +48,11 @@ fn pass_from(inside: bool, text: &[u8], count: u64) -> Option<usize>
         }
         open = !blank;
     }
-    if open && left == 1 { Some(text.len()) } else { None }
+    if open && left == 1 {
+        Some(text.len())
+    } else {
+        None
+    }
 }
 
 // The same by chunks of this size: only the chunk in which the last word ends is looked at twice.

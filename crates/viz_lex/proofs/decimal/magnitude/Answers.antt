@@ -1,4 +1,4 @@
-use Rattle.std.proofs.Common.{◌≡◌, ℕ, drop, Some, arith}
+use Rattle.std.proofs.Common.{◌≡◌, drop, Some, arith}
 use Rattle.std.specs.Prelude.{option_map}
 use Rattle.std.proofs.lemmas.Grind.{common_steps}
 use Rattle.viz_lex.specs.Decimals.{exponent_of}

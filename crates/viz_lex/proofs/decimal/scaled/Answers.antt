@@ -1,5 +1,4 @@
 use Rattle.std.proofs.Common.{◌≡◌, ◌-◌, ◌^◌, ◌++◌, min, length, take, Some, ap, ◌∙◌, arith, length-append}
-use Rattle.std.proofs.lemmas.Grind.{common_steps}
 use Rattle.viz_lex.specs.Numbers.{digits_value}
 use Rattle.viz_lex.specs.Scaled.{small, scaled}
 use Rattle.viz_lex.proofs.ScaleLemmas.{scaled_is}

@@ -1,8 +1,8 @@
-use Rattle.std.proofs.Common.{◌≡◌, ◌+◌, ◌<◌, ◌≤◌, length, drop, Some, None, sym, ap, ◌∙◌, arith}
+use Rattle.std.proofs.Common.{◌≡◌, ◌+◌, drop, Some, None, arith}
 use Rattle.std.proofs.lemmas.List.{length-drop}
 use Rattle.std.proofs.lemmas.Grind.{common_steps}
 use Rattle.viz_lex.specs.Words.{line_len}
-use Rattle.viz_lex.specs.Passing.{empty_line, metadata_len}
+use Rattle.viz_lex.specs.Passing.{empty_line}
 use Rattle.viz_lex.proofs.LineLemmas.{line_len-None}
 use Rattle.viz_lex.proofs.MetadataLemmas.{metadata_len-none, metadata_line_empty, metadata_line_full}
 use Rattle.viz_lex.proofs.metadata.metadata_len.Goals as goal

@@ -1,5 +1,5 @@
-use Rattle.std.proofs.Common.{◌≡◌, ◌+◌, ◌-◌, ◌<◌, ◌≤◌, length, take, drop, sym, arith}
-use Rattle.std.specs.Prelude.{option_map, false}
+use Rattle.std.proofs.Common.{◌≡◌, ◌+◌, ◌<◌, ◌≤◌, length, take, drop, arith}
+use Rattle.std.specs.Prelude.{false}
 use Rattle.std.proofs.lemmas.Grind.{common_steps}
 use Rattle.viz_lex.specs.Counted.{passed}
 use Rattle.viz_lex.specs.Counted.{word_ends, inside_after}

@@ -5,7 +5,7 @@ use Rattle.std.proofs.lemmas.Grind.{common_steps}
 use Rattle.viz_lex.specs.Written.{places, IsBegun}
 use Rattle.viz_lex.proofs.ReadingLemmas.{OnErr-any}
 use Rattle.viz_lex.proofs.ScaleLemmas.{power_some}
-use Rattle.viz_lex.proofs.WrittenLemmas.{places-zero, place_some, digit_below_ten, told_step, IsBegun-more, IsBegun-same}
+use Rattle.viz_lex.proofs.WrittenLemmas.{places-zero, digit_below_ten, told_step, IsBegun-more, IsBegun-same}
 use Rattle.viz_lex.proofs.written.put_places.Goals as goal
 
 pub nonzero_div-rest : goal.nonzero_div-rest

@@ -10,6 +10,6 @@ pub returns-clause-ok : goal.returns-clause-ok
 unfolding decimal_at word_at
 returns-clause-ok c =
     let n = cast_signed w128 (cast_unsigned w128 c.in-Some-decimal.n) in
-    let next : Reading = record { bytes = c.self.inside.bytes.now; place = c.in-Some.span.«end» } in
+    let next : Reading = record { bytes = c.self.inside.bytes.now; place = c.in-Some.word.«end» } in
     let read : decimal_at c.args.self.now ≡ Ok (n, next) = search rules in
     decimal_at-Ok c.args.self.now next n read
