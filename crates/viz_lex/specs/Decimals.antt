@@ -1,4 +1,4 @@
--- Decimals as words, in billionths (docs/FORMATS.md, "Reading"): a sign, digits with at most one point, an exponent of ten.
+-- Decimals as words, in billionths (docs/FORMATS.md, "Reading").
 use Rattle.std.specs.Prelude.{◌≡◌, ◌≢◌, ℕ, ℤ, pos, negsuc, neg_ℤ, suc, ◌+◌, ◌*◌, ◌/◌, ◌^◌, ◌≤◌, Bool, true, false, ◌||◌, ◌⊎◌, ◌==◌, nat_le, unsigned_abs, List, [], ◌∷◌, ◌++◌, length, take, drop, Option, Some, None, option_map, ok_or, Result, Ok, if◌then◌else◌}
 use Rattle.std.specs.List.{list_all}
 use Rattle.viz_lex.specs.declared.fault.FileFault.{FileFault}
@@ -105,7 +105,7 @@ pub record Spelling : Type 0 where
   pub tail : List ℕ
   pub exponent : ℤ
 
--- a word is spelled in these parts: a sign, one or more digits with at most one point, an exponent; at most 64 bytes
+-- a word of at most 64 bytes is a sign, digits with at most one point, and an exponent
 pub record IsSpelled (word : List ℕ) (s : Spelling) : Type 0 where
   pub parts : word ≡ s.sign ++ (s.mantissa ++ s.tail)
   pub short : length word ≤ 64

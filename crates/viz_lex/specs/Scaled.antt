@@ -1,4 +1,4 @@
--- Decimals within the limit, as the code comes to them: what private contracts speak of, and no public one.
+-- Decimals as the code comes to them: words of private contracts alone.
 use Rattle.std.specs.Prelude.{ℕ, ℤ, pos, negsuc, suc, ◌+◌, ◌-◌, ◌*◌, ◌/◌, ◌^◌, nat_le, min, List, fold, Option, Some, None, if◌then◌else◌}
 
 -- a magnitude within the limit, if it is one

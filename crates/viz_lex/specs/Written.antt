@@ -1,4 +1,4 @@
--- Decimals as they are written (docs/FORMATS.md, "Written files"), from billionths: a minus sign, the whole part, the fraction.
+-- Decimals as they are written, from billionths (docs/FORMATS.md, "Written files").
 use Rattle.std.specs.Prelude.{◌≡◌, ℕ, ℤ, pos, negsuc, zero, suc, ◌+◌, ◌/◌, ◌%◌, ◌^◌, ◌==◌, List, [], ◌∷◌, ◌++◌, if◌then◌else◌}
 use Rattle.std.specs.Fmt.{decimal}
 

@@ -46,6 +46,7 @@ fn point_at(text: &[u8]) -> usize
     text.len()
 }
 
+/// What stands behind the point.
 fn behind(text: &[u8], point: usize) -> &[u8]
     requires { point ≤ length text.now }
     ensures { result.now ≡ drop (point + 1) text.now }
@@ -57,6 +58,7 @@ fn behind(text: &[u8], point: usize) -> &[u8]
     }
 }
 
+/// Whether all bytes are digits.
 fn all_digits(text: &[u8]) -> bool
     ensures { result ≡ list_all is_digit text.now }
 {
@@ -68,6 +70,7 @@ fn all_digits(text: &[u8]) -> bool
     true
 }
 
+/// The same for two texts.
 fn are_digits(front: &[u8], back: &[u8]) -> bool
     ensures { result ≡ list_all is_digit (front.now ++ back.now) }
 {
@@ -137,6 +140,7 @@ fn exponent(text: &[u8]) -> Option<(usize, usize)>
     }
 }
 
+/// The power of ten of an exponent, past `FAR` no larger.
 fn near(n: u128) -> usize
     ensures { result ≡ min n 100 }
 {
@@ -146,8 +150,8 @@ fn near(n: u128) -> usize
 /// The magnitude of digits with at most one point, times 10^up / 10^down.
 fn mantissa(text: &[u8], up: usize, down: usize) -> Option<u128>
     requires short { length text.now ≤ LONGEST }
-    requires near { up ≤ 100 }
-    requires near_too { down ≤ 100 }
+    requires up_near { up ≤ 100 }
+    requires down_near { down ≤ 100 }
     ensures value { result ≡ small (option_map
         (λ m. scaled m (9 + up) (length (behind_point text.now) + down))
         (natural_of (in_front text.now ++ behind_point text.now))) }
@@ -176,6 +180,7 @@ fn magnitude(text: &[u8]) -> Option<u128>
     mantissa(&text[..stop], up, down)
 }
 
+/// The decimal that stands behind a minus sign.
 fn negative(text: &[u8]) -> Option<i128>
     requires { length text.now ≤ LONGEST }
     ensures { result ≡ limited (option_map (λ n. neg_ℤ (pos n)) (magnitude_of text.now)) }
@@ -184,6 +189,7 @@ fn negative(text: &[u8]) -> Option<i128>
     Some(negated(n))
 }
 
+/// The decimal that stands behind a plus sign, or behind no sign.
 fn positive(text: &[u8]) -> Option<i128>
     requires { length text.now ≤ LONGEST }
     ensures { result ≡ limited (option_map (λ n. pos n) (magnitude_of text.now)) }

@@ -40,6 +40,7 @@ fn put_fraction(text: &mut Vec<u8>, n: u32) -> Result<(), AllocError>
     put_places(text, 9, n)
 }
 
+/// Adds the whole part of so many billionths, and their fraction.
 fn put_magnitude(text: &mut Vec<u8>, n: u128) -> Result<(), AllocError>
     requires { n < 2 ^ 128 }
     ensures ok { OnOk result (text.new.items ≡ text.old.items ++ magnitude_text n) }
@@ -49,6 +50,7 @@ fn put_magnitude(text: &mut Vec<u8>, n: u128) -> Result<(), AllocError>
     put_fraction(text, (n % BILLION) as u32)
 }
 
+/// Adds a decimal, or a part of it where memory is wanting.
 fn put_signed(text: &mut Vec<u8>, nano: i128) -> Result<(), AllocError>
     ensures ok { OnOk result (text.new.items ≡ text.old.items ++ decimal_text nano) }
     ensures err { OnErr result (IsBegun text.old.items text.new.items) }
