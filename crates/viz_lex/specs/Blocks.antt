@@ -1,4 +1,4 @@
--- Blocks of bytes, as the values of a binary file stand (VTK User's Guide, "Simple legacy formats"; docs/FORMATS.md, "Reading").
+-- Bytes by their number, as the values of a binary file stand (docs/FORMATS.md, "Reading").
 use Rattle.std.specs.Prelude.{◌≡◌, ℕ, nat_le, ◌++◌, length, Result, Ok, Err, if◌then◌else◌}
 use Rattle.viz_lex.specs.declared.fault.FileFault.{FileFault}
 use Rattle.viz_lex.specs.declared.fault.FileKind.TheVariants.{Truncated}

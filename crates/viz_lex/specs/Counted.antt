@@ -1,4 +1,4 @@
--- Words by the bytes at which they end: what the contracts of the counting speak of, and no public one.
+-- Words by the bytes at which they end: words of private contracts alone.
 use Rattle.std.specs.Prelude.{ℕ, zero, suc, ◌+◌, ◌-◌, Bool, false, not, ◌&&◌, ◌==◌, List, [], ◌∷◌, Option, Some, None, option_map, drop, if◌then◌else◌}
 use Rattle.viz_lex.specs.Words.{is_blank, blanks, word_len}
 

@@ -1,6 +1,7 @@
 //! The reader of a text.
 
-ghost use Rattle.std.specs.Prelude.{◌≡◌, ◌↔◌, ◌<◌, ◌≤◌, length, option_map, IsNone, IfSome, IfOk, OnOk};
+ghost use Rattle.std.specs.Prelude.{◌≡◌, ◌↔◌, ◌<◌, ◌≤◌, ℕ, List, length, option_map, IsNone, IfSome, IfOk, OnOk};
+ghost use Rattle.viz_lex.specs.Decimals.{decimal_at, IsDecimalAt};
 ghost use Rattle.viz_lex.specs.Blocks.{block_at, IsBlockAt};
 ghost use Rattle.viz_lex.specs.Passing.{words_at, metadata_at, IsNextWords, IsBehindMetadata};
 ghost use Rattle.viz_lex.specs.Reading.{rest_of, fault_at, Gives, Finds};
@@ -8,6 +9,7 @@ ghost use Rattle.viz_lex.specs.Words.{text_of, word_at, line_at, line_end_at, Is
 ghost use Rattle.viz_lex.specs.Numbers.{whole_at, IsNumberAt};
 ghost use Rattle.viz_lex.specs.declared.fault.FileKind.TheVariants.{Truncated};
 
+use crate::decimal::decimal;
 use crate::fault::{FileFault, FileKind};
 use crate::metadata::metadata_len;
 use crate::number::number;
@@ -159,6 +161,35 @@ impl<'a> Lexer<'a> {
         Ok(n)
     }
 
+    /// The next word as a decimal, in billionths, truncated toward zero.
+    #[tactic(auto, unfolding(crate::specs::Words::word_at, crate::specs::Decimals::decimal_at))]
+    pub fn decimal(&mut self) -> Result<i128, FileFault>
+        ensures value { Gives result self.old self.new (decimal_at self.old) }
+        ensures ok { IfOk result (IsDecimalAt self.old self.new) }
+        ensures truncated { (result ≡ Err (fault_at Truncated (length self.old.bytes)))
+            ↔ IsBlank (rest_of self.old) }
+
+        // The bytes stay, and the place rises.
+        ensures kept { self.new.bytes ≡ self.old.bytes }
+        ensures onward { self.old.place ≤ self.new.place }
+        ensures at_most { self.new.place ≤ length self.old.bytes }
+    {
+        let Some(word) = self.ahead() else {
+            return Err(FileFault {
+                kind: FileKind::Truncated,
+                place: self.bytes.len() as u64,
+            });
+        };
+        let Some(n) = decimal(self.text(&word)) else {
+            return Err(FileFault {
+                kind: FileKind::HeaderNumber,
+                place: word.start,
+            });
+        };
+        self.place = word.end as usize;
+        Ok(n)
+    }
+
     /// Moves behind the next newline, in front of which only spaces, tabs and carriage returns may
     /// stand.
     #[tactic(auto, unfolding(crate::specs::Words::line_end_at))]
@@ -228,6 +259,8 @@ impl<'a> Lexer<'a> {
     pub fn pass(&mut self, count: u64) -> Result<(), FileFault>
         ensures value { Gives result self.old self.new (words_at count self.old) }
         ensures ok { OnOk result (IsNextWords count (rest_of self.old) (rest_of self.new)) }
+        ensures truncated { (result ≡ Err (fault_at Truncated (length self.old.bytes)))
+            ↔ ((behind : List ℕ) → IsNextWords count (rest_of self.old) behind → ⊥) }
 
         // The bytes stay, and the place rises.
         ensures kept { self.new.bytes ≡ self.old.bytes }

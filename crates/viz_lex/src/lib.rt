@@ -5,8 +5,11 @@
 //! docs/FORMATS.md, "Reading".
 #![tactic(auto)]
 
+mod decimal;
 mod fault;
 mod laws;
+mod laws_decimal;
+mod laws_pass;
 mod lexer;
 mod metadata;
 mod number;
@@ -16,12 +19,15 @@ mod rule_laws;
 mod scan;
 mod span;
 mod steps;
+mod written;
 
 pub use fault::{FileFault, FileKind};
 pub use laws::{
     ends_lines_only, finds_each_line, finds_each_word, finds_lines_only, finds_words_only,
     reads_each_number, reads_what_is_written,
 };
+pub use laws_decimal::{reads_each_decimal, reads_written_decimals, writes_each_fraction};
+pub use laws_pass::{finds_each_block, passes_over_metadata, passes_over_words};
 pub use lexer::Lexer;
 pub use put::put_whole;
 pub use rule_laws::{
@@ -31,6 +37,11 @@ pub use rule_laws::{
 };
 pub use span::Span;
 pub use steps::{is_word, keyword_fault};
+pub use written::put_decimal;
 
 #[cfg(test)]
 mod tests;
+#[cfg(test)]
+mod tests_decimal;
+#[cfg(test)]
+mod tests_pass;

@@ -1,17 +1,12 @@
 //! Words passed over by their number, in one pass over the bytes.
 
 ghost use Rattle.std.specs.Prelude.{◌≡◌, ◌<◌, ◌≤◌, ◌+◌, length, false, IfSome, drop, option_map};
-ghost use Rattle.viz_lex.specs.Words.{is_blank};
 ghost use Rattle.viz_lex.specs.Counted.{word_ends, inside_after, passed, words_len};
+
+use crate::scan::is_blank;
 
 /// So many bytes are counted at once.
 const CHUNK: usize = 4096;
-
-fn is_blank(b: u8) -> bool
-    ensures { result ≡ is_blank b }
-{
-    (b >= 9) & (b <= 13) | (b == 32)
-}
 
 /// How many words end at a blank of the text, and whether one is open at its end: without a
 /// branch, so that many bytes are counted at once.
