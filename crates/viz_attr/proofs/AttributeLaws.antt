@@ -136,7 +136,7 @@ pub decides-attributes : (g : Given) → Decides (attributes g) (attributes_at g
 decides-attributes g =
     decides-same (attributes g) (λ r. all_at (next g) (suc (length r.bytes)) [] r >>= picked_behind g) (attributes_at g) (attributes_at-lists g)
     (decides-follow (parts g) _ (λ r. all_at (next g) (suc (length r.bytes)) [] r) (λ xs r. picked_behind g (xs, r)) (decides-parts g) (λ xs.
-      decides-choose (is_zero g.pick || has_fit g (joined xs)) _ _ _ _ (decides-gives (picked_of g (joined xs))) decides-no_array))
+    decides-choose (is_zero g.pick || has_fit g (joined xs)) _ _ _ _ (decides-gives (picked_of g (joined xs))) decides-no_array))
 
 -- each text has exactly one answer
 pub definite-attributes : (g : Given) → IsDefinite (attributes g)

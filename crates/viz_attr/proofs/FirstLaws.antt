@@ -144,9 +144,11 @@ parts_keep_the_first g old new xs h front back head column e =
 pub words_alone : (stored : Stored) (tuples components : ℕ) → AreWordsAlone stored tuples components
 words_alone stored tuples components old new column = (
   λ h. (subst (λ (s : Reading). (words (tuples * components)).is old s tt) (sym h.3.0) h.2, h.3.1),
-  λ h. (tt, new, h.0, (refl, h.1)))
+  λ h. (tt, new, h.0, (refl, h.1)),
+)
 
 pub bytes_alone : (stored : Stored) (tuples components : ℕ) → AreBytesAlone stored tuples components
 bytes_alone stored tuples components old new column = (
   λ h. ((h.3.0, (h.0, h.1, h.2, subst (λ (s : Reading). (block (tuples * components * bytes_of stored)).is h.1 s h.3.0) (sym h.3.3.0) h.3.2)), h.3.3.1),
-  λ h. (h.0.1.0, h.0.1.1, h.0.1.2, (h.0.0, new, h.0.1.3, (refl, h.1))))
+  λ h. (h.0.1.0, h.0.1.1, h.0.1.2, (h.0.0, new, h.0.1.3, (refl, h.1))),
+)

@@ -53,7 +53,7 @@ picked_of-append g [] qs = refl
 picked_of-append g (Begins section ∷ ps) qs = picked_of-append g ps qs
 picked_of-append g (Holds head column ∷ ps) qs = either (fits_pick g head) (picked_of-append g ps qs) where
   either : (fits : Bool) → picked_of g (ps ++ qs) ≡ (if has_fit g ps then picked_of g ps else picked_of g qs)
-    → (if fits then column else picked_of g (ps ++ qs)) ≡ (if fits || has_fit g ps then (if fits then column else picked_of g ps) else picked_of g qs)
+      → (if fits then column else picked_of g (ps ++ qs)) ≡ (if fits || has_fit g ps then (if fits then column else picked_of g ps) else picked_of g qs)
   either true e = refl
   either false e = e
 
@@ -69,12 +69,13 @@ known-part g ps (Begins section) =
     let b : has_fit g (ps ++ Begins section ∷ []) ≡ has_fit g ps = has_fit-append g ps (Begins section ∷ []) ∙ or_nothing (has_fit g ps) in
     let c : picked_of g (ps ++ Begins section ∷ []) ≡ picked_of g ps = picked_of-append g ps (Begins section ∷ []) ∙ if_none (has_fit g ps) (picked_of g ps) (picked_none g ps) in
     rw (a, b, c) refl where
-  or_nothing : (a : Bool) → (a || false) ≡ a
-  or_nothing true = refl
-  or_nothing false = refl
-  if_none : (found : Bool) (old : Option Numbers) → (found ≡ false → old ≡ None) → (if found then old else None) ≡ old
-  if_none true old none = refl
-  if_none false old none = sym (none refl)
+      or_nothing : (a : Bool) → (a || false) ≡ a
+      or_nothing true = refl
+      or_nothing false = refl
+
+      if_none : (found : Bool) (old : Option Numbers) → (found ≡ false → old ≡ None) → (if found then old else None) ≡ old
+      if_none true old none = refl
+      if_none false old none = sym (none refl)
 known-part g ps (Holds head column) =
     let a : section_of None (ps ++ Holds head column ∷ []) ≡ section_of None ps = section_of-append None ps (Holds head column ∷ []) in
     let b : has_fit g (ps ++ Holds head column ∷ []) ≡ (has_fit g ps || fits_pick g head) = has_fit-append g ps (Holds head column ∷ []) ∙ or_false (has_fit g ps) (fits_pick g head) in

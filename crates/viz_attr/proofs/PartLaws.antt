@@ -40,22 +40,22 @@ pub decides-type_word : (read : Bool) → Decides (type_word read) (type_at read
 unfolding type_at
 decides-type_word read =
     decides-follow word _ due_word _ decides-word (λ w.
-      decides-demand (not (is_left_out_type w.1)) Unsupported w.0 _ _ (
-        decides-demand (has (stored_of w.1)) Keyword w.0 _ _ (
-          decides-demand (not (read && is_real (named_by w.1))) FloatArray w.0 _ _ (decides-gives (named_by w.1)))))
+    decides-demand (not (is_left_out_type w.1)) Unsupported w.0 _ _ (
+    decides-demand (has (stored_of w.1)) Keyword w.0 _ _ (
+    decides-demand (not (read && is_real (named_by w.1))) FloatArray w.0 _ _ (decides-gives (named_by w.1)))))
 
 decides-count_from : (least : ℕ) → Decides (count_from least) (count_from_at least)
 unfolding count_from_at
 decides-count_from least =
     decides-follow number _ due_number _ decides-number (λ n.
-      decides-demand (is_at_least least n.1) Count n.0 _ _ (
-        decides-demand (is_below (2 ^ 31) n.1) TooMany n.0 _ _ (decides-gives (unsigned_abs n.1))))
+    decides-demand (is_at_least least n.1) Count n.0 _ _ (
+    decides-demand (is_below (2 ^ 31) n.1) TooMany n.0 _ _ (decides-gives (unsigned_abs n.1))))
 
 decides-dimension : Decides dimension dimension_at
 unfolding dimension_at
 decides-dimension =
     decides-follow number _ due_number _ decides-number (λ n.
-      decides-demand (is_at_least 1 n.1 && is_below 4 n.1) Count n.0 _ _ (decides-gives (unsigned_abs n.1)))
+    decides-demand (is_at_least 1 n.1 && is_below 4 n.1) Count n.0 _ _ (decides-gives (unsigned_abs n.1)))
 
 decides-same_count : (count : ℕ) → Decides (same_count count) (same_count_at count)
 unfolding same_count_at
@@ -106,7 +106,7 @@ decides-value : (kind : Kind8) → Decides (value kind) (value_at kind)
 decides-value kind =
     decides-same (value kind) (λ r. due_number r >>= checked kind) (value_at kind) (value_at-number kind)
     (decides-follow number (λ n. demand (fits kind n.1) (fault_at ValueRange n.0) (gives n.1)) due_number (λ n r. guard (fits kind n.1) ValueRange n.0 >>= λ is. Ok (n.1, r)) decides-number
-      (λ n. decides-demand (fits kind n.1) ValueRange n.0 (gives n.1) (λ r. Ok (n.1, r)) (decides-gives n.1)))
+    (λ n. decides-demand (fits kind n.1) ValueRange n.0 (gives n.1) (λ r. Ok (n.1, r)) (decides-gives n.1)))
 
 -- behind all of them
 abbrev ended : List ℤ × Reading → Result (Unit {0} × Reading) FileFault
@@ -154,7 +154,7 @@ decides-tuple : (kind : Kind8) (components : ℕ) → Decides (tuple kind compon
 decides-tuple kind components =
     decides-same (tuple kind components) (λ r. value_at kind r >>= λ x. times_at (value_at kind) (components - 1) x.1 >>= kept x.0) (tuple_at kind components) (tuple_at-times kind components)
     (decides-follow (value kind) (λ x. follow (times (components - 1) (value kind)) (λ ys. gives x)) (value_at kind) (λ x r. times_at (value_at kind) (components - 1) r >>= kept x) (decides-value kind)
-      (λ x. decides-follow (times (components - 1) (value kind)) (λ ys. gives x) (times_at (value_at kind) (components - 1)) (λ ys r. Ok (x, r)) (decides-times (value kind) (value_at kind) (decides-value kind) (components - 1)) (λ ys. decides-gives x)))
+    (λ x. decides-follow (times (components - 1) (value kind)) (λ ys. gives x) (times_at (value_at kind) (components - 1)) (λ ys r. Ok (x, r)) (decides-times (value kind) (value_at kind) (decides-value kind) (components - 1)) (λ ys. decides-gives x)))
 
 -- the numbers of a column
 abbrev as_column : Kind8 → List ℤ × Reading → Result (Numbers × Reading) FileFault
@@ -183,7 +183,7 @@ decides-text_values : (picked : Bool) (stored : Stored) (tuples components : ℕ
 decides-text_values true stored tuples components =
     decides-same (text_values true stored tuples components) (λ r. times_at (tuple_at (kind_of stored) components) tuples r >>= as_picked (kind_of stored)) (text_values_at true stored tuples components) (text_picked stored tuples components)
     (decides-follow (times tuples (tuple (kind_of stored) components)) _ (times_at (tuple_at (kind_of stored) components) tuples) _
-      (decides-times (tuple (kind_of stored) components) (tuple_at (kind_of stored) components) (decides-tuple (kind_of stored) components) tuples) (λ xs. decides-gives _))
+    (decides-times (tuple (kind_of stored) components) (tuple_at (kind_of stored) components) (decides-tuple (kind_of stored) components) tuples) (λ xs. decides-gives _))
 decides-text_values false stored tuples components = decides-text_passed stored tuples components
 
 -- what is kept of a block
@@ -205,7 +205,7 @@ decides-block_values : (picked : Bool) (stored : Stored) (tuples components : �
 decides-block_values picked stored tuples components =
     decides-same (block_values picked stored tuples components) (λ r. line_end_at r >>= λ e. bytes_at (tuples * components * bytes_of stored) e.1 >>= as_block picked stored tuples components) (block_values_at picked stored tuples components) (block_values_at-steps picked stored tuples components)
     (decides-follow line_end _ line_end_at _ decides-line_end (λ e.
-      decides-follow (block (tuples * components * bytes_of stored)) _ (bytes_at (tuples * components * bytes_of stored)) _ (decides-block (tuples * components * bytes_of stored)) (λ bytes. decides-gives _)))
+    decides-follow (block (tuples * components * bytes_of stored)) _ (bytes_at (tuples * components * bytes_of stored)) _ (decides-block (tuples * components * bytes_of stored)) (λ bytes. decides-gives _)))
 
 decides-values : (binary picked : Bool) (stored : Stored) (tuples components : ℕ) → Decides (values binary picked stored tuples components) (values_at binary picked stored tuples components)
 unfolding values_at
@@ -218,7 +218,7 @@ decides-array : (g : Given) (before : List Part) (head : Head) (stored : Stored)
 unfolding array_at
 decides-array g before head stored tuples components =
     decides-follow (values g.binary (is_picked g before head) stored tuples components) _ (values_at g.binary (is_picked g before head) stored tuples components) _ (decides-values g.binary (is_picked g before head) stored tuples components) (λ column.
-      decides-follow metadata _ any_metadata_at _ decides-metadata (λ passed. decides-gives _))
+    decides-follow metadata _ any_metadata_at _ decides-metadata (λ passed. decides-gives _))
 
 decides-section : (g : Given) (which : Section) → Decides (section g which) (section_at g which)
 unfolding section_at
@@ -228,54 +228,54 @@ decides-scalars : (g : Given) (before : List Part) (which : Section) → Decides
 unfolding scalars_at
 decides-scalars g before which =
     decides-follow word _ due_word _ decides-word (λ name.
-      decides-follow (type_word (is_picked g before (scalars_head g which name.1))) _ (type_at (is_picked g before (scalars_head g which name.1))) _ (decides-type_word (is_picked g before (scalars_head g which name.1))) (λ stored.
-        decides-follow components _ components_at _ decides-components (λ c.
-          decides-follow (keyword (codes "LOOKUP_TABLE")) _ (keyword_at (codes "LOOKUP_TABLE")) _ (decides-keyword (codes "LOOKUP_TABLE")) (λ key.
-            decides-follow word _ due_word _ decides-word (λ table.
-              decides-array g before (scalars_head g which name.1) stored (count_of g which) c)))))
+    decides-follow (type_word (is_picked g before (scalars_head g which name.1))) _ (type_at (is_picked g before (scalars_head g which name.1))) _ (decides-type_word (is_picked g before (scalars_head g which name.1))) (λ stored.
+    decides-follow components _ components_at _ decides-components (λ c.
+    decides-follow (keyword (codes "LOOKUP_TABLE")) _ (keyword_at (codes "LOOKUP_TABLE")) _ (decides-keyword (codes "LOOKUP_TABLE")) (λ key.
+    decides-follow word _ due_word _ decides-word (λ table.
+    decides-array g before (scalars_head g which name.1) stored (count_of g which) c)))))
 
 decides-vectors : (g : Given) (before : List Part) (which : Section) (c : ℕ) → Decides (vectors g before which c) (vectors_at g (known g before) which c)
 unfolding vectors_at
 decides-vectors g before which c =
     decides-follow word _ due_word _ decides-word (λ name.
-      decides-follow (type_word false) _ (type_at false) _ (decides-type_word false) (λ stored.
-        decides-array g before (head_in g which name.1) stored (count_of g which) c))
+    decides-follow (type_word false) _ (type_at false) _ (decides-type_word false) (λ stored.
+    decides-array g before (head_in g which name.1) stored (count_of g which) c))
 
 decides-texture : (g : Given) (before : List Part) (which : Section) → Decides (texture g before which) (texture_at g (known g before) which)
 unfolding texture_at
 decides-texture g before which =
     decides-follow word _ due_word _ decides-word (λ name.
-      decides-follow dimension _ dimension_at _ decides-dimension (λ d.
-        decides-follow (type_word false) _ (type_at false) _ (decides-type_word false) (λ stored.
-          decides-array g before (head_in g which name.1) stored (count_of g which) d)))
+    decides-follow dimension _ dimension_at _ decides-dimension (λ d.
+    decides-follow (type_word false) _ (type_at false) _ (decides-type_word false) (λ stored.
+    decides-array g before (head_in g which name.1) stored (count_of g which) d)))
 
 decides-colors : (g : Given) (before : List Part) (which : Section) → Decides (colors g before which) (colors_at g (known g before) which)
 unfolding colors_at
 decides-colors g before which =
     decides-follow word _ due_word _ decides-word (λ name.
-      decides-follow (count_from 1) _ (count_from_at 1) _ (decides-count_from 1) (λ c.
-        decides-array g before (head_in g which name.1) (Whole U8) (count_of g which) c))
+    decides-follow (count_from 1) _ (count_from_at 1) _ (decides-count_from 1) (λ c.
+    decides-array g before (head_in g which name.1) (Whole U8) (count_of g which) c))
 
 decides-table : (g : Given) (before : List Part) (which : Section) → Decides (table g before which) (table_at g (known g before) which)
 unfolding table_at
 decides-table g before which =
     decides-follow word _ due_word _ decides-word (λ name.
-      decides-follow (count_from 0) _ (count_from_at 0) _ (decides-count_from 0) (λ size.
-        decides-array g before (table_head which name.1 size) (Whole U8) size 4))
+    decides-follow (count_from 0) _ (count_from_at 0) _ (decides-count_from 0) (λ size.
+    decides-array g before (table_head which name.1 size) (Whole U8) size 4))
 
 decides-field_values : (g : Given) (before : List Part) (which : Section) (name : List ℕ) → Decides (field_values g before which name) (field_values_at g (known g before) which name)
 unfolding field_values_at
 decides-field_values g before which name =
     decides-follow (count_from 1) _ (count_from_at 1) _ (decides-count_from 1) (λ c.
-      decides-follow (count_from 0) _ (count_from_at 0) _ (decides-count_from 0) (λ t.
-        decides-follow (type_word (is_picked g before (field_head which name t))) _ (type_at (is_picked g before (field_head which name t))) _ (decides-type_word (is_picked g before (field_head which name t))) (λ stored.
-          decides-array g before (field_head which name t) stored t c)))
+    decides-follow (count_from 0) _ (count_from_at 0) _ (decides-count_from 0) (λ t.
+    decides-follow (type_word (is_picked g before (field_head which name t))) _ (type_at (is_picked g before (field_head which name t))) _ (decides-type_word (is_picked g before (field_head which name t))) (λ stored.
+    decides-array g before (field_head which name t) stored t c)))
 
 decides-field_array : (g : Given) (before : List Part) (which : Section) (inner : List Part) → Decides (field_array g before which inner) (field_array_at g (known g (before ++ inner)) which (is_first inner))
 unfolding field_array_at
 decides-field_array g before which inner =
     decides-follow word _ due_word _ decides-word (λ name.
-      decides-demand (is_first inner || not (same_word name.1 (codes "METADATA"))) Keyword name.0 _ _ (decides-field_values g (before ++ inner) which name.1))
+    decides-demand (is_first inner || not (same_word name.1 (codes "METADATA"))) Keyword name.0 _ _ (decides-field_values g (before ++ inner) which name.1))
 
 decides-inner : (g : Given) (before : List Part) (which : Section) (inner : List Part) → Decides (field_array g before which inner) (field_array_at g (with_parts g (known g before) inner) which (is_first inner))
 decides-inner g before which inner =
@@ -284,8 +284,8 @@ decides-inner g before which inner =
 decides-field : (g : Given) (before : List Part) (which : Section) → Decides (field g before which) (field_list_at g (known g before) which)
 decides-field g before which =
     decides-follow word _ due_word _ decides-word (λ name.
-      decides-follow (count_from 0) _ (count_from_at 0) _ (decides-count_from 0) (λ n.
-        decides-times_knowing (field_array g before which) (λ inner. field_array_at g (with_parts g (known g before) inner) which (is_first inner)) (decides-inner g before which) n))
+    decides-follow (count_from 0) _ (count_from_at 0) _ (decides-count_from 0) (λ n.
+    decides-times_knowing (field_array g before which) (λ inner. field_array_at g (with_parts g (known g before) inner) which (is_first inner)) (decides-inner g before which) n))
 
 -- ---- parts
 

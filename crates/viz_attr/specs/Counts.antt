@@ -25,7 +25,7 @@ abbrev pub count_from : ℕ → Rule ℕ
 count_from least = do
   n ← number
   demand (is_at_least least n.1) (fault_at Count n.0) (
-    demand (is_below (2 ^ 31) n.1) (fault_at TooMany n.0) (gives (unsigned_abs n.1)))
+      demand (is_below (2 ^ 31) n.1) (fault_at TooMany n.0) (gives (unsigned_abs n.1)))
 
 -- from 1 to 3
 abbrev pub dimension : Rule ℕ

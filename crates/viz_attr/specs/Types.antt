@@ -52,5 +52,5 @@ abbrev pub type_word : Bool → Rule Stored
 type_word read = do
   w ← word
   demand (not (is_left_out_type w.1)) (fault_at Unsupported w.0) (
-    demand (has (stored_of w.1)) (fault_at Keyword w.0) (
+      demand (has (stored_of w.1)) (fault_at Keyword w.0) (
       demand (not (read && is_real (named_by w.1))) (fault_at FloatArray w.0) (gives (named_by w.1))))

@@ -65,7 +65,7 @@ fn arrays_in(
 ) -> Result<(), AttrStop>
     ensures { Knows result progress.new lexer.new
         (arrays_in_at (given_of files.now) (known_of progress.old) progress.old.section
-            (place, key.now) lexer.old) }
+        (place, key.now) lexer.old) }
 {
     match progress.section {
         Some(section) => arrays(alloc, lexer, files, progress, section, place, key),
@@ -151,11 +151,7 @@ fn picked(
 
 /// The attributes, by steps.
 #[tactic(auto, unfolding(crate::specs::Steps::attributes_at))]
-fn all(
-    alloc: Global,
-    lexer: &mut Lexer<'_>,
-    files: &Files<'_>,
-) -> Result<Option<Column>, AttrStop>
+fn all(alloc: Global, lexer: &mut Lexer<'_>, files: &Files<'_>) -> Result<Option<Column>, AttrStop>
     ensures { ReadsUnlessMemory (λ c. c) result lexer.new
         (attributes_at (given_of files.now) lexer.old) }
 {
@@ -188,7 +184,7 @@ pub fn attributes(
         result lexer.old lexer.new }
     ensures exact { ReadsUnlessMemory (λ column. column) result lexer.new
         (attributes_at (record { binary = binary; points = points; cells = cells; pick = pick.now })
-            lexer.old) }
+        lexer.old) }
 {
     let files = Files {
         binary,

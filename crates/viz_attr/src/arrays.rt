@@ -36,11 +36,19 @@ pub(crate) fn array(
         → bytes_of stored ≡ size_of (kind_of stored) }
     ensures { Adds files.now result progress.old progress.new lexer.new
         (array_at (given_of files.now) (known_of progress.old) (head_of head.now) stored
-            (head_of head.now).tuples components lexer.old) }
+        (head_of head.now).tuples components lexer.old) }
 {
     let wanted = is_wanted(files, progress, head);
     let tuples = head.tuples;
-    let column = values(alloc, lexer, files.binary, wanted, stored, tuples, components)?;
+    let column = values(
+        alloc,
+        lexer,
+        files.binary,
+        wanted,
+        stored,
+        tuples,
+        components,
+    )?;
     lexer.any_metadata()?;
     if wanted {
         progress.found = true;

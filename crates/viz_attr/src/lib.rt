@@ -17,8 +17,6 @@ mod types;
 mod values;
 
 pub use all_parts::attributes;
-pub use laws::{
-    attributes_are_definite, other_arrays_are_counted, the_first_that_fits_is_picked,
-};
+pub use laws::{attributes_are_definite, other_arrays_are_counted, the_first_that_fits_is_picked};
 pub use stop::AttrStop;
 pub use types::{Stored, type_word};

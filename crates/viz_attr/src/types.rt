@@ -55,7 +55,6 @@ impl Stored {
     }
 }
 
-
 fn stored_of(word: &[u8]) -> Option<Stored>
     ensures { result ≡ stored_of word.now }
 {

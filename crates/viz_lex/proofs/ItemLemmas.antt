@@ -3,14 +3,15 @@ use Rattle.std.proofs.Common.{◌≡◌, ◌≢◌, ℕ, ℤ, ◌+◌, ◌-◌, 
 use Rattle.std.proofs.lemmas.Option.{same_Some}
 use Rattle.std.specs.Prelude.{ok_or, slice_range, if◌then◌else◌}
 use Rattle.viz_lex.specs.declared.fault.FileFault.{FileFault}
-use Rattle.viz_lex.specs.declared.fault.FileKind.TheVariants.{Number, ValueRange, Truncated}
+use Rattle.viz_lex.specs.declared.fault.FileKind.TheVariants.{HeaderNumber, Number, ValueRange, Truncated}
 use Rattle.viz_lex.specs.declared.span.Span.{Span}
 use Rattle.viz_lex.specs.Reading.{Reading, rest_of, advanced, fault_at, ◌>>=◌}
 use Rattle.viz_lex.specs.Words.{word_at, text_of, span_from}
 use Rattle.viz_lex.specs.Numbers.{whole_of, fits_i128, in_range, number_at}
-use Rattle.viz_lex.specs.Steps.{guard, same_word, due_word, due_number, keyword_kind, keyword_at}
+use Rattle.viz_lex.specs.Steps.{due_decimal, guard, same_word, due_word, due_number, keyword_kind, keyword_at}
 use Rattle.viz_lex.specs.Rules.{Rule, IsAlong, IsOnward, gives, demand, follow, Decides}
-use Rattle.viz_lex.specs.Items.{IsWordHere, word, keyword, number_from, number}
+use Rattle.viz_lex.specs.Items.{IsWordHere, word, keyword, number_from, number, decimal_from, decimal}
+use Rattle.viz_lex.specs.Decimals.{decimal_of, limited}
 use Rattle.viz_lex.proofs.ReadingLemmas.{done, done_is, fault_is, bind_ok, bind_err}
 use Rattle.viz_lex.proofs.WordLemmas.{word_at-Some, word_at-None, word_at-blank, word_at-next, text_of-next}
 use Rattle.viz_lex.proofs.RuleLemmas.{decides-gives, decides-refuses, decides-follow, decides-demand}
@@ -110,3 +111,15 @@ pub decides-number : Decides number due_number
 unfolding due_number
 decides-number =
     decides-follow word (λ w. number_from (whole_of w.1) w.0) due_word (λ w r. number_at w.1 w.0 >>= λ n. Ok ((w.0, n), r)) decides-word (λ w. decides-number_from (whole_of w.1) w.0)
+
+-- ---- decimals
+
+decides-decimal_from : (o : Option ℤ) (place : ℕ) → Decides {V = ℕ × ℤ} (decimal_from o place) (λ r. ok_or o (fault_at HeaderNumber place) >>= λ z. Ok ((place, z), r))
+decides-decimal_from None place = decides-refuses (fault_at HeaderNumber place)
+decides-decimal_from (Some z) place = decides-gives (place, z)
+
+-- a decimal
+pub decides-decimal : Decides decimal due_decimal
+unfolding due_decimal
+decides-decimal =
+    decides-follow word (λ w. decimal_from (limited (decimal_of w.1)) w.0) due_word (λ w r. ok_or (limited (decimal_of w.1)) (fault_at HeaderNumber w.0) >>= λ z. Ok ((w.0, z), r)) decides-word (λ w. decides-decimal_from (limited (decimal_of w.1)) w.0)

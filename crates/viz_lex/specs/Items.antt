@@ -1,9 +1,10 @@
 -- The items of a file as rules: words, whole numbers and keywords that are due, the end of a line, blocks of bytes, and what is passed over (docs/FORMATS.md, "Reading").
 use Rattle.std.specs.Prelude.{◌≡◌, ◌≢◌, ◌⊎◌, ℕ, ℤ, ◌+◌, ◌<◌, false, List, ◌∷◌, ◌++◌, length, codes, Option, Some, None}
-use Rattle.viz_lex.specs.declared.fault.FileKind.TheVariants.{Keyword, Number, ValueRange, Truncated}
+use Rattle.viz_lex.specs.declared.fault.FileKind.TheVariants.{Keyword, Number, ValueRange, HeaderNumber, Truncated}
 use Rattle.viz_lex.specs.Reading.{Reading, rest_of, advanced, fault_at}
 use Rattle.viz_lex.specs.Words.{is_filler, IsBlank, IsNextWord, IsFiller, IsLineEnd}
 use Rattle.viz_lex.specs.Numbers.{whole_of, fits_i128}
+use Rattle.viz_lex.specs.Decimals.{decimal_of, limited}
 use Rattle.viz_lex.specs.Steps.{same_word, keyword_kind, is_next}
 use Rattle.viz_lex.specs.Passing.{lines_text, EndsEmpty, RunsOut}
 use Rattle.viz_lex.specs.Rules.{Rule, gives, refuses, demand, beside, ◌>>=◌}
@@ -46,6 +47,17 @@ abbrev pub number : Rule (ℕ × ℤ)
 number = do
   w ← word
   number_from (whole_of w.1) w.0
+
+-- the decimal of a word, where it is one within the limit
+abbrev pub decimal_from : Option ℤ → ℕ → Rule (ℕ × ℤ)
+decimal_from None place = refuses (fault_at HeaderNumber place)
+decimal_from (Some z) place = gives (place, z)
+
+-- a decimal, which is due: its place and its billionths
+abbrev pub decimal : Rule (ℕ × ℤ)
+decimal = do
+  w ← word
+  decimal_from (limited (decimal_of w.1)) w.0
 
 -- spaces, tabs and carriage returns, and the newline that is due behind them
 abbrev pub line_end : Rule (Unit {0})

@@ -2,12 +2,13 @@
 use Rattle.std.specs.Prelude.{ℕ, ℤ, Bool, true, false, ◌||◌, List, [], ◌∷◌, ◌==◌, length, codes, Option, Some, None, option_map, unwrap_or, ok_or, Result, Ok, Err, if◌then◌else◌}
 use Rattle.std.specs.Str.{str_eq_ignore_ascii_case}
 use Rattle.viz_lex.specs.declared.fault.FileKind.{FileKind}
-use Rattle.viz_lex.specs.declared.fault.FileKind.TheVariants.{Keyword, Truncated, Unsupported}
+use Rattle.viz_lex.specs.declared.fault.FileKind.TheVariants.{Keyword, HeaderNumber, Truncated, Unsupported}
 use Rattle.viz_lex.specs.declared.fault.FileFault.{FileFault}
 use Rattle.viz_lex.specs.declared.span.Span.{Span}
 use Rattle.viz_lex.specs.Reading.{Reading, rest_of, fault_at, ◌>>=◌}
 use Rattle.viz_lex.specs.Words.{is_blank, word_at, text_of}
 use Rattle.viz_lex.specs.Numbers.{number_at}
+use Rattle.viz_lex.specs.Decimals.{decimal_of, limited}
 
 -- a step that goes on where the test holds
 abbrev pub guard : Bool → FileKind → ℕ → Result (Unit {0}) FileFault
@@ -38,6 +39,13 @@ due_number r = do
   word ← due_word r
   n ← number_at word.0.1 word.0.0
   Ok ((word.0.0, n), word.1)
+
+-- the next word, which is due to be a decimal: its place and its billionths
+unfoldable pub due_decimal : Reading → Result ((ℕ × ℤ) × Reading) FileFault
+due_decimal r = do
+  word ← due_word r
+  z ← ok_or (limited (decimal_of word.0.1)) (fault_at HeaderNumber word.0.0)
+  Ok ((word.0.0, z), word.1)
 
 -- the keywords of the format that aren't read here
 abbrev pub is_left_out : List ℕ → Bool

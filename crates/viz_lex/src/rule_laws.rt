@@ -6,11 +6,11 @@ ghost use Rattle.std.specs.Prelude.{◌≡◌, ℕ, Bool, List, [], suc, length,
 ghost use Rattle.viz_lex.specs.declared.fault.FileFault.{FileFault as Fault};
 ghost use Rattle.viz_lex.specs.declared.fault.FileKind.{FileKind};
 ghost use Rattle.viz_lex.specs.Reading.{Reading, fault_at, ◌>>=◌ as after};
-ghost use Rattle.viz_lex.specs.Steps.{guard, due_word, due_number, keyword_at};
+ghost use Rattle.viz_lex.specs.Steps.{guard, due_word, due_number, due_decimal, keyword_at};
 ghost use Rattle.viz_lex.specs.Rules.{Rule, Decides, IsDefinite, gives, refuses, demand, choose, beside, follow};
 ghost use Rattle.viz_lex.specs.Repeats.{times, times_knowing, to_the_end, Moves};
 ghost use Rattle.viz_lex.specs.Readers.{times_at, known_at, all_at, bytes_at, any_metadata_at};
-ghost use Rattle.viz_lex.specs.Items.{word, number, keyword, line_end, block, words, metadata};
+ghost use Rattle.viz_lex.specs.Items.{word, number, decimal, keyword, line_end, block, words, metadata};
 ghost use Rattle.viz_lex.specs.Words.{line_end_at};
 ghost use Rattle.viz_lex.specs.Passing.{words_at};
 
@@ -53,11 +53,12 @@ pub fn decided_rules_are_definite<R: AnyRule>()
     ensures { IsDefinite (record { is = R.is; isnt = R.isnt }) }
 {}
 
-/// Words, whole numbers, keywords, the end of a line, blocks of bytes and what is passed over are
+/// Words, whole numbers, decimals, keywords, the end of a line, blocks of bytes and what is passed over are
 /// decided by their readers.
 pub fn items_are_decided()
     ensures word { Decides word due_word }
     ensures number { Decides number due_number }
+    ensures decimal { Decides decimal due_decimal }
     ensures keyword { (text : List ℕ) → Decides (keyword text) (keyword_at text) }
     ensures line_end { Decides line_end line_end_at }
     ensures block { (n : ℕ) → Decides (block n) (bytes_at n) }

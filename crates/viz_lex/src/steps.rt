@@ -4,8 +4,9 @@ ghost use Rattle.std.specs.Prelude.{◌≡◌, ◌≤◌, not, length, OnErr};
 ghost use Rattle.viz_lex.specs.Reading.{fault_at, rest_of, Reads};
 ghost use Rattle.viz_lex.specs.Words.{word_at};
 ghost use Rattle.viz_lex.specs.Readers.{any_metadata_at};
-ghost use Rattle.viz_lex.specs.Steps.{has, same_word, due_word, due_number, is_left_out, keyword_kind, keyword_at, is_next, continues, is_beside};
+ghost use Rattle.viz_lex.specs.Steps.{has, same_word, due_word, due_number, due_decimal, is_left_out, keyword_kind, keyword_at, is_next, continues, is_beside};
 
+use crate::decimal::decimal;
 use crate::fault::{FileFault, FileKind};
 use crate::lexer::Lexer;
 use crate::number::number;
@@ -78,6 +79,21 @@ impl<'a> Lexer<'a> {
         let (place, word) = self.due_word()?;
         let n = number(word, place)?;
         Ok((place, n))
+    }
+
+    /// The next word, which is due to be a decimal: its place and its billionths.
+    #[tactic(auto, unfolding(crate::specs::Steps::due_decimal))]
+    pub fn due_decimal(&mut self) -> Result<(u64, i128), FileFault>
+        ensures { Reads (λ z. z) result self.new (due_decimal self.old) }
+    {
+        let (place, word) = self.due_word()?;
+        match decimal(word) {
+            Some(z) => Ok((place, z)),
+            None => Err(FileFault {
+                kind: FileKind::HeaderNumber,
+                place,
+            }),
+        }
     }
 
     /// The next word, which is due to be this keyword, in any case of letters.

@@ -1,4 +1,4 @@
-use Rattle.viz_lex.proofs.ItemLemmas.{decides-word, decides-number, decides-keyword}
+use Rattle.viz_lex.proofs.ItemLemmas.{decides-word, decides-number, decides-decimal, decides-keyword}
 use Rattle.viz_lex.proofs.PassRules.{decides-line_end, decides-block, decides-words, decides-metadata}
 use Rattle.viz_lex.proofs.rule_laws.items_are_decided.Goals as goal
 
@@ -7,6 +7,9 @@ returns-clause-word c = decides-word
 
 pub returns-clause-number : goal.returns-clause-number
 returns-clause-number c = decides-number
+
+pub returns-clause-decimal : goal.returns-clause-decimal
+returns-clause-decimal c = decides-decimal
 
 pub returns-clause-keyword : goal.returns-clause-keyword
 returns-clause-keyword c = decides-keyword
