@@ -20,3 +20,10 @@ pub use all_parts::attributes;
 pub use laws::{attributes_are_definite, other_arrays_are_counted, the_first_that_fits_is_picked};
 pub use stop::AttrStop;
 pub use types::{Stored, type_word};
+
+#[cfg(test)]
+mod tests;
+#[cfg(test)]
+mod tests_faults;
+#[cfg(test)]
+mod tests_texts;

@@ -46,3 +46,5 @@ mod tests;
 mod tests_decimal;
 #[cfg(test)]
 mod tests_pass;
+#[cfg(test)]
+mod tests_steps;
