@@ -1,8 +1,8 @@
 //! The attribute parts of a file: the array that is picked, the others passed over.
 //!
-//! Contract: `attributes` gives just what the rules of the parts say, or the first fault. Definitions:
-//! `specs/Grammar.antt` and the files that it names; the rules are those of docs/FORMATS.md,
-//! "Attribute parts".
+//! Contract: `attributes` gives just what the rules of the parts say, or the first fault.
+//! Definitions: `specs/Attributes.antt`, what the calls promise, and `specs/Grammar.antt` with the
+//! files that it names; the rules are those of docs/FORMATS.md, "Attribute parts".
 #![tactic(auto)]
 
 mod all_parts;

@@ -1,6 +1,6 @@
 //! Picked arrays of texts that were written by hand, in both forms.
 
-use crate::tests_texts::{BLOCKS, WORDS};
+use crate::tests_texts::{BLOCKS, FLOAT_BEHIND, FLOAT_IN_FRONT, TWICE, WORDS};
 use crate::{AttrStop, Stored, attributes, type_word};
 use std::alloc::Global;
 use std::process::Abort;
@@ -75,10 +75,17 @@ fn each_keyword_in_both_forms(rt: HostRuntime) -> Result<(), Fail> {
 #[test]
 fn a_picked_array(rt: HostRuntime) -> Result<(), Fail> {
     for (pick, text, want) in [
+        // nothing is asked for, and nothing is read as numbers
+        (Pick::Zero, b"".as_slice(), Ok(None)),
+        (
+            Pick::Zero,
+            b"POINT_DATA 2\nSCALARS s float\nLOOKUP_TABLE t\nabc nan",
+            Ok(None),
+        ),
         // lines end with a carriage return and a newline
         (
             Pick::First,
-            b"POINT_DATA 2\r\nSCALARS s int\r\nLOOKUP_TABLE t\r\n1 2\r\nMETADATA\r\nx\r\n\r\n".as_slice(),
+            b"POINT_DATA 2\r\nSCALARS s int\r\nLOOKUP_TABLE t\r\n1 2\r\nMETADATA\r\nx\r\n\r\n",
             Ok(Some((Kind8::I32, [1, 2]))),
         ),
         // all on one line but the table, and the ends of a type
@@ -91,23 +98,11 @@ fn a_picked_array(rt: HostRuntime) -> Result<(), Fail> {
             ))),
         ),
         // a second array is no longer read, also one of float
-        (
-            Pick::First,
-            b"POINT_DATA 2\nSCALARS s char\nLOOKUP_TABLE t\n3 4\nSCALARS f float\nLOOKUP_TABLE t\nnan abc",
-            Ok(Some((Kind8::I8, [3, 4]))),
-        ),
+        (Pick::First, FLOAT_BEHIND, Ok(Some((Kind8::I8, [3, 4])))),
         // the same name twice, and in two parts
-        (
-            named(b"s")?,
-            b"POINT_DATA 2\nSCALARS s char\nLOOKUP_TABLE t\n3 4\nPOINT_DATA 2\nSCALARS s int\nLOOKUP_TABLE t\n5 6",
-            Ok(Some((Kind8::I8, [3, 4]))),
-        ),
+        (named(b"s")?, TWICE, Ok(Some((Kind8::I8, [3, 4])))),
         // one of float is passed over, where another is asked for
-        (
-            named(b"s")?,
-            b"POINT_DATA 2\nSCALARS f float 3\nLOOKUP_TABLE t\n1 2 3 4 5 nan\nSCALARS s int\nLOOKUP_TABLE t\n5 6",
-            Ok(Some((Kind8::I32, [5, 6]))),
-        ),
+        (named(b"s")?, FLOAT_IN_FRONT, Ok(Some((Kind8::I32, [5, 6])))),
         // and one that is asked for is a fault at its type, but not with another number of tuples
         (
             named(b"s")?,
@@ -125,13 +120,6 @@ fn a_picked_array(rt: HostRuntime) -> Result<(), Fail> {
                 place: 41,
             })),
         ),
-        // nothing is asked for, and nothing is read as numbers
-        (
-            Pick::Zero,
-            b"POINT_DATA 2\nSCALARS s float\nLOOKUP_TABLE t\nabc nan",
-            Ok(None),
-        ),
-        (Pick::Zero, b"", Ok(None)),
     ] {
         assert_eq!(rt; told(&rt, rt.alloc(), false, &pick, text), want, "{text:?}");
     }
@@ -141,7 +129,7 @@ fn a_picked_array(rt: HostRuntime) -> Result<(), Fail> {
 #[test]
 fn carriage_returns_in_front_of_blocks(rt: HostRuntime) {
     let text =
-        b"POINT_DATA 2\r\nSCALARS s short\r\nLOOKUP_TABLE t \t\r\n\0\x05\xff\xff\r\nMETADATA\r\n\r\n";
+        b"POINT_DATA 2\r\nSCALARS s short\r\nLOOKUP_TABLE t \t\r\n\0\x05\xff\xff\nMETADATA\r\n\r\n";
     let found = told(&rt, rt.alloc(), true, &Pick::First, text);
     assert_eq!(rt; found, Ok(Some((Kind8::I16, [5, -1]))));
 }
@@ -150,10 +138,11 @@ fn carriage_returns_in_front_of_blocks(rt: HostRuntime) {
 fn cut(alloc: Global, binary: bool, text: &[u8]) -> bool {
     let mut lexer = Lexer::new(text);
     let found = attributes(alloc, &mut lexer, binary, 2_147_483_647, 0, &Pick::First);
-    matches!(
-        found,
-        Err(AttrStop::File(FileFault { kind: FileKind::Truncated, place })) if place == text.len() as u64
-    )
+    let end = FileFault {
+        kind: FileKind::Truncated,
+        place: text.len() as u64,
+    };
+    matches!(found, Err(AttrStop::File(fault)) if fault == end)
 }
 
 #[test]

@@ -1,4 +1,4 @@
-//! Attribute parts with each keyword, in both forms: three components keep the first.
+//! Attribute parts with each keyword, in both forms, and with several arrays.
 
 /// In ASCII. Words that are no numbers stand in arrays of float that no pick names.
 pub(crate) const WORDS: &[u8] = b"POINT_DATA 2
@@ -88,4 +88,35 @@ NAME s
 scalars S short 3
 lookup_table default
 \0\x0babcd\xff\xf2efgh
+";
+
+/// An array of float behind the one that is picked as the first.
+pub(crate) const FLOAT_BEHIND: &[u8] = b"POINT_DATA 2
+SCALARS s char
+LOOKUP_TABLE default
+3 4
+SCALARS f float
+LOOKUP_TABLE default
+nan abc
+";
+
+/// Two arrays of one name, in two parts.
+pub(crate) const TWICE: &[u8] = b"POINT_DATA 2
+SCALARS s char
+LOOKUP_TABLE default
+3 4
+POINT_DATA 2
+SCALARS s int
+LOOKUP_TABLE default
+5 6
+";
+
+/// An array of float in front of the one of the name `s`.
+pub(crate) const FLOAT_IN_FRONT: &[u8] = b"POINT_DATA 2
+SCALARS f float 3
+LOOKUP_TABLE default
+1 2 3 4 5 nan
+SCALARS s int
+LOOKUP_TABLE default
+5 6
 ";

@@ -32,7 +32,11 @@ fn keywords_are_due_in_any_case(rt: HostRuntime) {
         (b"\nCELLSX", false, Err(fault(FileKind::Keyword, 1))),
         // words of the format that are left out
         (b"GLOBAL_IDS", false, Err(fault(FileKind::Unsupported, 0))),
-        (b" Pedigree_Ids", false, Err(fault(FileKind::Unsupported, 1))),
+        (
+            b" Pedigree_Ids",
+            false,
+            Err(fault(FileKind::Unsupported, 1)),
+        ),
         (b"TENSORS6", false, Err(fault(FileKind::Unsupported, 0))),
         (b"edge_flags", false, Err(fault(FileKind::Unsupported, 0))),
         (b"TENSORS", false, Err(fault(FileKind::Keyword, 0))),
@@ -43,7 +47,10 @@ fn keywords_are_due_in_any_case(rt: HostRuntime) {
         assert_eq!(rt; lexer.due_keyword(b"CELLS"), want, "{text:?}");
     }
     assert_eq!(rt; keyword_fault(5, b"bit"), fault(FileKind::Keyword, 5));
-    assert_eq!(rt; keyword_fault(5, b"EDGE_FLAGS"), fault(FileKind::Unsupported, 5));
+    assert_eq!(rt;
+        keyword_fault(5, b"EDGE_FLAGS"),
+        fault(FileKind::Unsupported, 5)
+    );
     assert!(rt; is_word(b"x_9", b"X_9") && !is_word(b"x", b"x_"));
 }
 
