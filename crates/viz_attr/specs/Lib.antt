@@ -4,5 +4,7 @@ pub mod Picks
 pub mod Types
 pub mod Values
 pub mod Counts
+pub mod Passed
+pub mod PassedSteps
 pub mod Steps
 pub mod Reads

@@ -11,6 +11,7 @@ mod counts;
 mod field;
 mod laws;
 mod parts;
+mod passed;
 mod picks;
 mod stop;
 mod types;
@@ -18,6 +19,7 @@ mod values;
 
 pub use all_parts::attributes;
 pub use laws::{attributes_are_definite, other_arrays_are_counted, the_first_that_fits_is_picked};
+pub use passed::pass_field;
 pub use stop::AttrStop;
 pub use types::{Stored, type_word};
 

@@ -13,6 +13,7 @@ pub mod PassRules
 pub mod ReadingLemmas
 pub mod RuleLemmas
 pub mod ScaleLemmas
+pub mod SkipLemmas
 mod StandardFacts
 pub mod WordLemmas
 pub mod WrittenLemmas

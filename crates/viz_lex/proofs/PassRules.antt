@@ -36,7 +36,7 @@ along-moved r next n e few = subst (IsAlong r) (sym e) (along-advanced r n few)
 -- ---- what serves all of them
 
 -- where a reader gives what stands there and the fault that is met, and one of both is there, it decides
-decides-total : {V : Type 0} (rule : Rule V) (read : Reading → Result (V × Reading) FileFault)
+pub decides-total : {V : Type 0} (rule : Rule V) (read : Reading → Result (V × Reading) FileFault)
     → ((r next : Reading) (x : V) → rule.is r next x → read r ≡ Ok (x, next))
     → ((r : Reading) (f : FileFault) → rule.isnt r f → read r ≡ Err f)
     → ((r next : Reading) (x : V) → rule.is r next x → IsAlong r next)

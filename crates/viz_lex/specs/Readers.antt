@@ -1,5 +1,5 @@
 -- The readers of what stands one behind the other, which proofs compare with the rules (docs/FORMATS.md, "Reading").
-use Rattle.std.specs.Prelude.{ℕ, zero, suc, List, [], ◌∷◌, ◌++◌, codes, Result, Ok, if◌then◌else◌}
+use Rattle.std.specs.Prelude.{Bool, ℕ, zero, suc, List, [], ◌∷◌, ◌++◌, codes, Result, Ok, if◌then◌else◌}
 use Rattle.viz_lex.specs.declared.fault.FileFault.{FileFault}
 use Rattle.viz_lex.specs.Reading.{Reading, ◌>>=◌}
 use Rattle.viz_lex.specs.Words.{word_at, text_of}
@@ -31,6 +31,11 @@ folded_at add read (suc n) s r = read s r >>= λ x. folded_at add read n (add s 
 unfoldable pub all_folded_at : {S V : Type 0} → (S → V → S) → (S → Reading → Result (V × Reading) FileFault) → ℕ → S → Reading → Result (S × Reading) FileFault
 all_folded_at add read zero s r = Ok (s, r)
 all_folded_at add read (suc n) s r = if has (word_at r) then (read s r >>= λ x. all_folded_at add read n (add s x.0) x.1) else Ok (s, r)
+
+-- as many as there are where the test holds, in at most so many steps
+unfoldable pub skip_at : {V : Type 0} → (Reading → Bool) → (Reading → Result (V × Reading) FileFault) → ℕ → Reading → Result (Unit {0} × Reading) FileFault
+skip_at test read zero r = Ok (tt, r)
+skip_at test read (suc n) r = if test r then (read r >>= λ x. skip_at test read n x.1) else Ok (tt, r)
 
 -- the bytes of a block
 unfoldable pub bytes_at : ℕ → Reading → Result (List ℕ × Reading) FileFault

@@ -1,5 +1,5 @@
 -- Rules one behind the other: so many, so many of which each knows those before it, and all to the end of the text (docs/FORMATS.md, "Reading").
-use Rattle.std.specs.Prelude.{◌≡◌, ◌⊎◌, ℕ, zero, suc, List, [], ◌∷◌, ◌++◌, Result}
+use Rattle.std.specs.Prelude.{◌≡◌, ◌⊎◌, ℕ, zero, suc, ◌<◌, Bool, true, false, List, [], ◌∷◌, ◌++◌, length, Result}
 use Rattle.viz_lex.specs.declared.fault.FileFault.{FileFault}
 use Rattle.viz_lex.specs.Reading.{Reading, rest_of}
 use Rattle.viz_lex.specs.Words.{IsBlank}
@@ -57,6 +57,25 @@ to_the_end rule = record {
   is = λ old new xs. AreSome rule [] old new xs × IsBlank (rest_of new);
   isnt = λ old f. ArentSome rule [] old f;
 }
+
+-- so many stand there, each where the test holds
+abbrev pub AreSkipped : {V : Type 0} → (Reading → Bool) → Rule V → Reading → Reading → ℕ → Type 0
+AreSkipped test rule old new zero = new ≡ old
+AreSkipped {V = V} test rule old new (suc n) =
+    (x : V) × (mid : Reading) × (test old ≡ true) × rule.is old mid x × AreSkipped test rule mid new n
+
+-- as many as there are where the test holds
+abbrev pub skip : {V : Type 0} → (Reading → Bool) → Rule V → Rule (Unit {0})
+skip test rule = record {
+  is = λ old new x. (n : ℕ) × AreSkipped test rule old new n × (test new ≡ false);
+  isnt = λ old f. (n : ℕ) × (mid : Reading) × AreSkipped test rule old mid n × (test mid ≡ true) × rule.isnt mid f;
+}
+
+-- each takes at least a byte, and a reader decides it; behind the end the test fails
+pub record Skips {V : Type 0} (test : Reading → Bool) (rule : Rule V) (read : Reading → Result (V × Reading) FileFault) : Type 0 where
+  pub decides : Decides rule read
+  pub onward : (old new : Reading) (x : V) → rule.is old new x → IsOnward old new
+  pub ends : (r : Reading) → length r.bytes < r.place → test r ≡ false
 
 -- each takes at least a byte, and a reader decides it, whatever stands before
 pub record Moves {V : Type 0} (rule : List V → Rule V) (read : List V → Reading → Result (V × Reading) FileFault) : Type 0 where

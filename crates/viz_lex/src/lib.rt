@@ -34,7 +34,8 @@ pub use put::put_whole;
 pub use rule_laws::{
     AnyRule, RuleAmong, RuleKnowing, choices_are_decided, decided_rules_are_definite,
     following_rules_are_decided, items_are_decided, knowing_rules_are_decided,
-    repeated_rules_are_decided, rules_to_the_end_are_decided, tests_are_decided,
+    repeated_rules_are_decided, rules_to_the_end_are_decided, skipped_rules_are_decided,
+    tests_are_decided,
 };
 pub use span::Span;
 pub use steps::{is_word, keyword_fault};

@@ -8,8 +8,8 @@ ghost use Rattle.viz_lex.specs.declared.fault.FileKind.{FileKind};
 ghost use Rattle.viz_lex.specs.Reading.{Reading, fault_at, ◌>>=◌ as after};
 ghost use Rattle.viz_lex.specs.Steps.{guard, due_word, due_number, due_decimal, keyword_at};
 ghost use Rattle.viz_lex.specs.Rules.{Rule, Decides, IsDefinite, gives, refuses, demand, choose, beside, follow};
-ghost use Rattle.viz_lex.specs.Repeats.{times, times_knowing, to_the_end, Moves};
-ghost use Rattle.viz_lex.specs.Readers.{times_at, known_at, all_at, bytes_at, any_metadata_at};
+ghost use Rattle.viz_lex.specs.Repeats.{times, times_knowing, skip, Skips, to_the_end, Moves};
+ghost use Rattle.viz_lex.specs.Readers.{times_at, known_at, skip_at, all_at, bytes_at, any_metadata_at};
 ghost use Rattle.viz_lex.specs.Items.{word, number, decimal, keyword, line_end, block, words, metadata};
 ghost use Rattle.viz_lex.specs.Words.{line_end_at};
 ghost use Rattle.viz_lex.specs.Passing.{words_at};
@@ -125,4 +125,13 @@ pub fn rules_to_the_end_are_decided<R: RuleAmong>()
     ensures { Decides
         (to_the_end (λ before. record { is = R.is before; isnt = R.isnt before }))
         (λ r. all_at R.read (suc (length r.bytes)) [] r) }
+{}
+
+/// As many as there are where a test holds, where each takes at least a byte.
+pub fn skipped_rules_are_decided<R: AnyRule>()
+    ensures { (test : Reading → Bool)
+        → Skips test (record { is = R.is; isnt = R.isnt }) R.read
+        → Decides
+        (skip test (record { is = R.is; isnt = R.isnt }))
+        (λ r. skip_at test R.read (suc (length r.bytes)) r) }
 {}
