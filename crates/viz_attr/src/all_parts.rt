@@ -27,7 +27,8 @@ fn arrays(
     key: &[u8],
 ) -> Result<(), AttrStop>
     ensures { Knows result progress.new lexer.new
-        (arrays_at (given_of files.now) (known_of progress.old) section (place, key.now) lexer.old) }
+        (arrays_at (given_of files.now) (known_of progress.old) section (place, key.now)
+        lexer.old) }
 {
     if is_word(key, b"SCALARS") {
         return scalars(alloc, lexer, files, progress, section);

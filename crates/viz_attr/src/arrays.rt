@@ -32,8 +32,8 @@ pub(crate) fn array(
 ) -> Result<(), AttrStop>
     requires some { 1 ≤ components }
     requires few { components < 2 ^ 31 }
-    requires whole { is_wanted (given_of files.now) (known_of progress.old) (head_of head.now) ≡ true
-        → bytes_of stored ≡ size_of (kind_of stored) }
+    requires whole { is_wanted (given_of files.now) (known_of progress.old) (head_of head.now)
+        ≡ true → bytes_of stored ≡ size_of (kind_of stored) }
     ensures { Adds files.now result progress.old progress.new lexer.new
         (array_at (given_of files.now) (known_of progress.old) (head_of head.now) stored
         (head_of head.now).tuples components lexer.old) }

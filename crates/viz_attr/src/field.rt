@@ -72,7 +72,8 @@ fn field_arrays(
     count: u64,
 ) -> Result<(), AttrStop>
     ensures { Knows result progress.new lexer.new
-        (field_arrays_at (given_of files.now) (known_of progress.old) section true count lexer.old) }
+        (field_arrays_at (given_of files.now) (known_of progress.old) section true count
+        lexer.old) }
 {
     let mut first = true;
     for _ in 0..count {

@@ -27,8 +27,10 @@ pub fn the_first_that_fits_is_picked()
 
 /// An array that isn't picked counts by its number of words or bytes alone.
 pub fn other_arrays_are_counted()
-    ensures words { (stored : Stored) (tuples components : ℕ) → AreWordsAlone stored tuples components }
-    ensures bytes { (stored : Stored) (tuples components : ℕ) → AreBytesAlone stored tuples components }
+    ensures words { (stored : Stored) (tuples components : ℕ)
+        → AreWordsAlone stored tuples components }
+    ensures bytes { (stored : Stored) (tuples components : ℕ)
+        → AreBytesAlone stored tuples components }
 {}
 
 /// Each reader of this crate decides its rule: it gives just what stands there, and else the fault.

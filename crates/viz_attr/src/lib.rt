@@ -1,8 +1,8 @@
 //! The attribute parts of a file: the array that is picked, the others passed over.
 //!
-//! Contract: `attributes` gives just what the rules of the parts say, or the first fault. Definitions:
-//! `specs/Grammar.antt` and the files that it names; the rules are those of docs/FORMATS.md,
-//! "Attribute parts".
+//! Contract: `attributes` gives just what the rules of the parts say, or the first fault.
+//! Definitions: `specs/Attributes.antt`, what the calls promise, and `specs/Grammar.antt` with the
+//! files that it names; the rules are those of docs/FORMATS.md, "Attribute parts".
 #![tactic(auto)]
 
 mod all_parts;
@@ -22,3 +22,10 @@ pub use laws::{attributes_are_definite, other_arrays_are_counted, the_first_that
 pub use passed::pass_field;
 pub use stop::AttrStop;
 pub use types::{Stored, type_word};
+
+#[cfg(test)]
+mod tests;
+#[cfg(test)]
+mod tests_faults;
+#[cfg(test)]
+mod tests_texts;

@@ -109,7 +109,8 @@ fn is_left_out(word: &[u8]) -> bool
 #[tactic(auto, unfolding(crate::specs::Steps::type_at))]
 pub fn type_word(lexer: &mut Lexer<'_>, read: bool) -> Result<Stored, FileFault>
     ensures read { Reads (λ stored. stored) result lexer.new (type_at read lexer.old) }
-    ensures whole { IfOk result (λ stored. read ≡ true → bytes_of stored ≡ size_of (kind_of stored)) }
+    ensures whole { IfOk result (λ stored. read ≡ true
+        → bytes_of stored ≡ size_of (kind_of stored)) }
 {
     let (place, word) = lexer.due_word()?;
     if is_left_out(word) {

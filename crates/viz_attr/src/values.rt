@@ -240,7 +240,10 @@ fn first_column(
     requires all { length numbers.now.items ≡ tuples * components }
     requires some { 1 ≤ components }
     ensures { IfOk result (λ c.
-        c ≡ record { kind = numbers.now.kind; items = firsts components tuples numbers.now.items }) }
+        c ≡ record {
+          kind = numbers.now.kind;
+          items = firsts components tuples numbers.now.items;
+        }) }
 {
     let column = match numbers.slice() {
         Lent::I8(s) => Column::of(firsts(alloc, s, tuples, components)?),

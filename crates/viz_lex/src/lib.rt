@@ -2,8 +2,8 @@
 //!
 //! Contract: each reader gives just what a definition on the bytes gives, or the fault that it
 //! gives, and a refused call leaves the place. A rule says what stands between two places and which
-//! first fault is met; laws say that a reader decides it. Definitions: `specs/`; the rules are those
-//! of docs/FORMATS.md, "Reading".
+//! first fault is met; laws say that a reader decides it. Definitions: `specs/`, the rules first in
+//! `specs/Rules.antt`; they are those of docs/FORMATS.md, "Reading".
 #![tactic(auto)]
 
 mod decimal;
@@ -47,3 +47,5 @@ mod tests;
 mod tests_decimal;
 #[cfg(test)]
 mod tests_pass;
+#[cfg(test)]
+mod tests_steps;

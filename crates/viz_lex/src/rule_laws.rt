@@ -53,8 +53,8 @@ pub fn decided_rules_are_definite<R: AnyRule>()
     ensures { IsDefinite (record { is = R.is; isnt = R.isnt }) }
 {}
 
-/// Words, whole numbers, decimals, keywords, the end of a line, blocks of bytes and what is passed over are
-/// decided by their readers.
+/// Words, whole numbers, decimals, keywords, the end of a line, blocks of bytes and what is passed
+/// over are decided by their readers.
 pub fn items_are_decided()
     ensures word { Decides word due_word }
     ensures number { Decides number due_number }
@@ -81,11 +81,13 @@ pub fn choices_are_decided<K, R: RuleKnowing<K>>()
     requires { (k : K) → Decides (record { is = R.is k; isnt = R.isnt k }) (R.read k) }
     ensures choose { (test : Bool) (a b : K)
         → Decides
-        (choose test (record { is = R.is a; isnt = R.isnt a }) (record { is = R.is b; isnt = R.isnt b }))
+        (choose test (record { is = R.is a; isnt = R.isnt a })
+        (record { is = R.is b; isnt = R.isnt b }))
         (λ r. if test then R.read a r else R.read b r) }
     ensures beside { (test : Reading → Bool) (a b : K)
         → Decides
-        (beside test (record { is = R.is a; isnt = R.isnt a }) (record { is = R.is b; isnt = R.isnt b }))
+        (beside test (record { is = R.is a; isnt = R.isnt a })
+        (record { is = R.is b; isnt = R.isnt b }))
         (λ r. if test r then R.read a r else R.read b r) }
 {}
 
@@ -95,7 +97,8 @@ pub fn following_rules_are_decided<A: AnyRule, B: RuleKnowing<A::Value>>()
     requires second { (x : A.Value)
         → Decides (record { is = B.is x; isnt = B.isnt x }) (B.read x) }
     ensures { Decides
-        (follow (record { is = A.is; isnt = A.isnt }) (λ x. record { is = B.is x; isnt = B.isnt x }))
+        (follow (record { is = A.is; isnt = A.isnt })
+        (λ x. record { is = B.is x; isnt = B.isnt x }))
         (λ r. after (A.read r) (λ x. B.read x.0 x.1)) }
 {}
 
