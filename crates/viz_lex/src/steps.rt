@@ -1,6 +1,6 @@
 //! The steps of reading a file: words, numbers and keywords that are due.
 
-ghost use Rattle.std.specs.Prelude.{◌≡◌, ◌≤◌, not, length, OnErr};
+ghost use Rattle.std.specs.Prelude.{◌≡◌, ◌≤◌, not, length, OnErr, IfOk, unsigned_abs, ◌^◌};
 ghost use Rattle.viz_lex.specs.Reading.{fault_at, rest_of, Reads};
 ghost use Rattle.viz_lex.specs.Words.{word_at};
 ghost use Rattle.viz_lex.specs.Readers.{any_metadata_at};
@@ -84,7 +84,8 @@ impl<'a> Lexer<'a> {
     /// The next word, which is due to be a decimal: its place and its billionths.
     #[tactic(auto, unfolding(crate::specs::Steps::due_decimal))]
     pub fn due_decimal(&mut self) -> Result<(u64, i128), FileFault>
-        ensures { Reads (λ z. z) result self.new (due_decimal self.old) }
+        ensures value { Reads (λ z. z) result self.new (due_decimal self.old) }
+        ensures within { IfOk result (λ z. unsigned_abs z.1 ≤ 10 ^ 27) }
     {
         let (place, word) = self.due_word()?;
         match decimal(word) {
