@@ -1,10 +1,12 @@
 //! The type `Image`.
 
-ghost use Rattle.std.specs.Prelude.{◌≡◌, length};
+ghost use Rattle.std.specs.Prelude.{◌≡◌, length, IfOk};
 ghost use Rattle.viz_extent.specs.Extent.{count_of, Has};
-ghost use Rattle.viz_dataset.specs.Images.{vector_of, IsOrigin, IsSpacing, IsImage, point_at};
+ghost use Rattle.viz_dataset.specs.Images.{vector_of, IsOrigin, IsSpacing, IsImage, IsPart, IsRestricted, point_at};
 
 use crate::points::{point_of, scalar_at};
+use crate::restricted::restricted;
+use std::alloc::{AllocError, Global};
 use std::marker::Model;
 use viz_column::Column;
 use viz_extent::Extent;
@@ -117,13 +119,7 @@ impl Image {
         ensures value { result ≡ record self.now { values = column } }
         ensures valid { IsImage result }
     {
-        let _count = column.len();
-        Image {
-            extent: self.extent,
-            origin: self.origin,
-            spacing: self.spacing,
-            column,
-        }
+        Image::new(self.extent, self.origin, self.spacing, column)
     }
 
     /// The point at the indices i, j, k, with its number as the scalar.
@@ -133,5 +129,15 @@ impl Image {
     {
         let scalar = scalar_at(&self.column, self.extent.index_of(i, j, k));
         point_of(&self.origin, &self.spacing, i, j, k, &scalar)
+    }
+
+    /// The image on a part of its extent: the same positions and the same numbers there.
+    pub fn restrict(&self, alloc: Global, part: &Extent) -> Result<Image, AllocError>
+        requires { IsPart self.now.extent part.now }
+        ensures value { IfOk result (IsRestricted self.now part.now) }
+        ensures valid { IfOk result IsImage }
+    {
+        let column = restricted(alloc, &self.column, &self.extent, part)?;
+        Ok(Image::new(*part, self.origin, self.spacing, column))
     }
 }

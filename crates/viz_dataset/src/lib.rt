@@ -14,3 +14,6 @@ mod rule;
 pub use dataset::{Dataset, Info};
 pub use image::Image;
 pub use rule::{is_origin, is_spacing};
+
+#[cfg(test)]
+mod tests;
