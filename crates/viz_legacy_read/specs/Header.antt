@@ -66,7 +66,7 @@ size = do
 
 -- the extent of so many points along each axis
 abbrev pub whole_of : ℕ → ℕ → ℕ → Bounds
-whole_of x y z = bounds_of (0 ∷ x - 1 ∷ 0 ∷ y - 1 ∷ 0 ∷ z - 1 ∷ [])
+whole_of x y z = bounds_of (0 ∷ (x - 1) ∷ 0 ∷ (y - 1) ∷ 0 ∷ (z - 1) ∷ [])
 
 -- DIMENSIONS nx ny nz, of at most 2^31 - 1 points
 abbrev pub sizes : Rule Line

@@ -1,8 +1,8 @@
 -- What a reader of the code gave, beside what reading gives (docs/FORMATS.md, "Reading").
-use Rattle.std.specs.Prelude.{◌≡◌, option_map, Result, Ok, Err}
+use Rattle.std.specs.Prelude.{◌≡◌, option_map, IfSome, Result, Ok, Err}
 use Rattle.viz_lex.specs.declared.fault.FileFault.{FileFault}
 use Rattle.viz_lex.specs.Reading.{Reading}
-use Rattle.viz_dataset.specs.Images.{vector_of}
+use Rattle.viz_dataset.specs.Images.{vector_of, IsOrigin, IsSpacing}
 use Rattle.viz_legacy_read.specs.declared.stop.ReadStop.{ReadStop}
 use Rattle.viz_legacy_read.specs.declared.stop.ReadStop.TheVariants.{File, Memory}
 use Rattle.viz_legacy_read.specs.declared.lines.Lines.{Lines}
@@ -26,3 +26,8 @@ lines_of l = record { whole = l.whole; origin = option_map vector_of l.origin; s
 -- the header, as the code holds it
 abbrev pub header_seen : ImageHeader → Header
 header_seen h = record { binary = h.binary; whole = h.whole; origin = vector_of h.origin; spacing = vector_of h.spacing }
+
+-- the origin and the spacing of these lines, where they stand, are those of an image
+pub record AreWithin (l : Lines) : Type 0 where
+  pub origin : IfSome l.origin (λ v. IsOrigin (vector_of v))
+  pub spacing : IfSome l.spacing (λ v. IsSpacing (vector_of v))

@@ -4,6 +4,7 @@
 //! `specs/Reading.antt` and the files that it names; the rules are those of docs/FORMATS.md, "Reading".
 #![tactic(auto)]
 
+mod header;
 mod lines;
 mod magic;
 mod stop;

@@ -7,7 +7,7 @@ ghost use Rattle.viz_attr.specs.Counts.{is_at_least};
 ghost use Rattle.viz_lex.specs.Reading.{Reads};
 ghost use Rattle.viz_legacy_read.specs.Header.{whole_of, is_above};
 ghost use Rattle.viz_legacy_read.specs.Steps.{size_at, sizes_at, origin_at, step_at, spacing_at, behind_at};
-ghost use Rattle.viz_legacy_read.specs.Reads.{lines_of};
+ghost use Rattle.viz_legacy_read.specs.Reads.{lines_of, AreWithin};
 
 use viz_extent::Extent;
 use viz_lex::{FileFault, FileKind, Lexer, is_word, keyword_fault};
@@ -91,4 +91,81 @@ fn origin(lexer: &mut Lexer<'_>) -> Result<[i128; 3], FileFault>
     let (_, y) = lexer.due_decimal()?;
     let (_, z) = lexer.due_decimal()?;
     Ok([x, y, z])
+}
+
+/// The greatest step between points, in billionths.
+const WIDEST: u128 = 1_000_000_000_000_000_000;
+
+fn is_within(n: &i128) -> bool
+    ensures { result ≡ nat_le (unsigned_abs n.now) (10 ^ 18) }
+{
+    n.unsigned_abs() <= WIDEST
+}
+
+fn is_above(n: &i128) -> bool
+    ensures { result ≡ is_above n.now }
+{
+    *n > 0
+}
+
+/// One step between points: HeaderNumber past the limit, and then Spacing where it isn't positive.
+#[tactic(auto, unfolding(crate::specs::Steps::step_at))]
+fn step(lexer: &mut Lexer<'_>) -> Result<i128, FileFault>
+    ensures read { Reads (λ n. n) result lexer.new (step_at lexer.old) }
+    ensures within { IfOk result IsStep }
+{
+    let (place, n) = lexer.due_decimal()?;
+    if !is_within(&n) {
+        return Err(FileFault {
+            kind: FileKind::HeaderNumber,
+            place,
+        });
+    }
+    if !is_above(&n) {
+        return Err(FileFault {
+            kind: FileKind::Spacing,
+            place,
+        });
+    }
+    Ok(n)
+}
+
+/// The steps between points, behind SPACING or ASPECT_RATIO.
+#[tactic(auto, unfolding(crate::specs::Steps::spacing_at))]
+fn spacing(lexer: &mut Lexer<'_>) -> Result<[i128; 3], FileFault>
+    ensures read { Reads vector_of result lexer.new (spacing_at lexer.old) }
+    ensures within { IfOk result (λ v. IsSpacing (vector_of v)) }
+{
+    let x = step(lexer)?;
+    let y = step(lexer)?;
+    let z = step(lexer)?;
+    Ok([x, y, z])
+}
+
+/// What stands behind the keyword of a header line: each line stands once.
+#[tactic(auto, unfolding(crate::specs::Steps::behind_at))]
+pub(crate) fn behind(
+    lexer: &mut Lexer<'_>,
+    lines: &Lines,
+    place: u64,
+    key: &[u8],
+) -> Result<Lines, FileFault>
+    requires { AreWithin lines.now }
+    ensures read { Reads lines_of result lexer.new
+        (behind_at (lines_of lines.now) (place, key.now) lexer.old) }
+    ensures within { IfOk result AreWithin }
+{
+    if is_word(key, b"DIMENSIONS") && lines.whole.is_none() {
+        let whole = Some(sizes(lexer)?);
+        return Ok(Lines { whole, ..*lines });
+    }
+    if is_word(key, b"ORIGIN") && lines.origin.is_none() {
+        let origin = Some(origin(lexer)?);
+        return Ok(Lines { origin, ..*lines });
+    }
+    if (is_word(key, b"SPACING") || is_word(key, b"ASPECT_RATIO")) && lines.spacing.is_none() {
+        let spacing = Some(spacing(lexer)?);
+        return Ok(Lines { spacing, ..*lines });
+    }
+    Err(keyword_fault(place, key))
 }
