@@ -135,7 +135,11 @@ fn pass(lexer: &mut Lexer<'_>, count: u64) -> Result<(), FileFault>
 }
 
 /// Passes over the words of so many tuples. More than 64 bits count are more than there are bytes.
-pub(crate) fn pass_tuples(lexer: &mut Lexer<'_>, tuples: u64, components: u64) -> Result<(), FileFault>
+pub(crate) fn pass_tuples(
+    lexer: &mut Lexer<'_>,
+    tuples: u64,
+    components: u64,
+) -> Result<(), FileFault>
     ensures { Reads (λ done. done) result lexer.new (words_at (tuples * components) lexer.old) }
 {
     let _most = more_than(lexer.bytes());
@@ -193,7 +197,11 @@ fn line_end(lexer: &mut Lexer<'_>) -> Result<(), FileFault>
 
 /// The same behind the end of the line.
 #[tactic(auto, unfolding(crate::specs::Steps::line_bytes_at))]
-pub(crate) fn line_bytes<'a>(lexer: &mut Lexer<'a>, tuples: u64, width: u64) -> Result<&'a [u8], FileFault>
+pub(crate) fn line_bytes<'a>(
+    lexer: &mut Lexer<'a>,
+    tuples: u64,
+    width: u64,
+) -> Result<&'a [u8], FileFault>
     ensures read { Reads (λ bytes. bytes.now) result lexer.new
         (line_bytes_at (tuples * width) lexer.old) }
     ensures long { IfOk result (λ bytes. length bytes.now ≡ tuples * width) }
