@@ -6,4 +6,5 @@ pub mod KnownLemmas
 pub mod ListReaders
 pub mod PartLaws
 pub mod PartLoops
+pub mod PassedLaws
 pub mod ValueLoops

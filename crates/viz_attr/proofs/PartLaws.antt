@@ -44,7 +44,7 @@ decides-type_word read =
     decides-demand (has (stored_of w.1)) Keyword w.0 _ _ (
     decides-demand (not (read && is_real (named_by w.1))) FloatArray w.0 _ _ (decides-gives (named_by w.1)))))
 
-decides-count_from : (least : ℕ) → Decides (count_from least) (count_from_at least)
+pub decides-count_from : (least : ℕ) → Decides (count_from least) (count_from_at least)
 unfolding count_from_at
 decides-count_from least =
     decides-follow number _ due_number _ decides-number (λ n.
@@ -207,7 +207,7 @@ decides-block_values picked stored tuples components =
     (decides-follow line_end _ line_end_at _ decides-line_end (λ e.
     decides-follow (block (tuples * components * bytes_of stored)) _ (bytes_at (tuples * components * bytes_of stored)) _ (decides-block (tuples * components * bytes_of stored)) (λ bytes. decides-gives _)))
 
-decides-values : (binary picked : Bool) (stored : Stored) (tuples components : ℕ) → Decides (values binary picked stored tuples components) (values_at binary picked stored tuples components)
+pub decides-values : (binary picked : Bool) (stored : Stored) (tuples components : ℕ) → Decides (values binary picked stored tuples components) (values_at binary picked stored tuples components)
 unfolding values_at
 decides-values binary picked stored tuples components =
     decides-choose binary _ _ _ _ (decides-block_values picked stored tuples components) (decides-text_values picked stored tuples components)

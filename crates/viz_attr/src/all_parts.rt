@@ -1,7 +1,7 @@
 //! All attribute parts.
 
-ghost use Rattle.std.specs.Prelude.{◌≡◌, ◌+◌, ◌||◌, ℕ, List, length, None};
-ghost use Rattle.viz_attr.specs.Attributes.{Meets};
+ghost use Rattle.std.specs.Prelude.{◌≡◌, ◌+◌, ◌||◌, ℕ, List, length, None, IfOk};
+ghost use Rattle.viz_attr.specs.Attributes.{Meets, IsPicked};
 ghost use Rattle.viz_attr.specs.Grammar.{is_zero, attributes};
 ghost use Rattle.viz_attr.specs.Steps.{arrays_at, arrays_in_at, behind_at, part_at, parts_at, picked_at, attributes_at, start};
 ghost use Rattle.viz_attr.specs.Reads.{known_of, given_of, Adds, Knows, ReadsUnlessMemory};
@@ -183,6 +183,8 @@ pub fn attributes(
     ensures rules { Meets
         (attributes (record { binary = binary; points = points; cells = cells; pick = pick.now }))
         result lexer.old lexer.new }
+    ensures picked { IfOk result (IsPicked
+        (record { binary = binary; points = points; cells = cells; pick = pick.now })) }
     ensures exact { ReadsUnlessMemory (λ column. column) result lexer.new
         (attributes_at (record { binary = binary; points = points; cells = cells; pick = pick.now })
         lexer.old) }

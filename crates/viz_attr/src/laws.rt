@@ -1,11 +1,15 @@
 //! What the rules of attribute parts mean. A law is a function that does nothing: its contract
 //! holds of the definitions alone.
 
-ghost use Rattle.std.specs.Prelude.{◌≡◌, ℕ, List};
+ghost use Rattle.std.specs.Prelude.{◌≡◌, ℕ, Bool, List};
 ghost use Rattle.viz_lex.specs.Reading.{Reading};
-ghost use Rattle.viz_lex.specs.Rules.{IsDefinite};
+ghost use Rattle.viz_lex.specs.Rules.{Decides, IsDefinite};
 ghost use Rattle.viz_attr.specs.declared.types.Stored.{Stored};
 ghost use Rattle.viz_attr.specs.Picks.{Given, Part};
+ghost use Rattle.viz_attr.specs.Types.{type_word};
+ghost use Rattle.viz_attr.specs.Passed.{passed_field};
+ghost use Rattle.viz_attr.specs.PassedSteps.{passed_field_at};
+ghost use Rattle.viz_attr.specs.Steps.{type_at, attributes_at};
 ghost use Rattle.viz_attr.specs.Grammar.{parts, attributes};
 ghost use Rattle.viz_attr.specs.Attributes.{KeepsTheFirst, AreWordsAlone, AreBytesAlone};
 
@@ -27,4 +31,11 @@ pub fn other_arrays_are_counted()
         → AreWordsAlone stored tuples components }
     ensures bytes { (stored : Stored) (tuples components : ℕ)
         → AreBytesAlone stored tuples components }
+{}
+
+/// Each reader of this crate decides its rule: it gives just what stands there, and else the fault.
+pub fn readers_decide_their_rules()
+    ensures type_word { (read : Bool) → Decides (type_word read) (type_at read) }
+    ensures field { (binary : Bool) → Decides (passed_field binary) (passed_field_at binary) }
+    ensures attributes { (g : Given) → Decides (attributes g) (attributes_at g) }
 {}
