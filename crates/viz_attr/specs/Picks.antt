@@ -22,7 +22,7 @@ pub record Head : Type 0 where
   pub name : List ℕ
   pub tuples : ℕ
 
--- a part of the attributes: those of points or of cells begin, or an array stands there, whose numbers are kept where it is the picked one
+-- a part of the attributes: those of points or of cells begin there, or an array stands there, whose numbers are kept where it is the picked one
 pub data Part : Type 0 where
   Begins : Association → Part
   Holds : Head → Option Numbers → Part
@@ -77,7 +77,7 @@ picked_of g [] = None
 picked_of g (Begins association ∷ parts) = picked_of g parts
 picked_of g (Holds head column ∷ parts) = if fits_pick g head then column else picked_of g parts
 
--- whose attributes the last part that begins some has begun
+-- whose attributes were begun last
 abbrev pub association_of : Option Association → List Part → Option Association
 association_of last [] = last
 association_of last (Begins association ∷ parts) = association_of (Some association) parts
