@@ -14,37 +14,37 @@ use Rattle.viz_lex.proofs.ReadingLemmas.{fault_is}
 use Rattle.viz_lex.proofs.RuleLemmas.{decides-gives, decides-follow, decides-choose}
 use Rattle.viz_lex.proofs.PassRules.{decides-same}
 use Rattle.viz_lex.proofs.DecidedLemmas.{IsDefinite-decided}
-use Rattle.viz_attr.specs.declared.parts.Section.{Section}
+use Rattle.viz_attr.specs.declared.parts.Association.{Association}
 use Rattle.viz_attr.specs.declared.stop.AttrStop.{AttrStop}
 use Rattle.viz_attr.specs.declared.stop.AttrStop.TheVariants.{File, Memory}
 use Rattle.viz_attr.specs.Attributes.{Meets}
 use Rattle.viz_attr.specs.Reads.{ReadsUnlessMemory}
-use Rattle.viz_attr.specs.declared.parts.Section.TheVariants.{Points, Cells}
+use Rattle.viz_attr.specs.declared.parts.Association.TheVariants.{Points, Cells}
 use Rattle.viz_attr.specs.Picks.{Given, Part, has_fit, picked_of}
 use Rattle.viz_attr.specs.Grammar.{is_first, joined, parts, is_zero, no_array, attributes}
-use Rattle.viz_attr.specs.Steps.{Known, start, with_parts, count_from_at, section_at, scalars_at, vectors_at, texture_at, colors_at, table_at, field_array_at, field_arrays_at, field_at, arrays_at, arrays_in_at, behind_at, part_at, parts_at, picked_at, attributes_at}
+use Rattle.viz_attr.specs.Steps.{Known, start, with_parts, count_from_at, association_at, scalars_at, vectors_at, texture_at, colors_at, table_at, field_array_at, field_arrays_at, field_at, arrays_at, arrays_in_at, behind_at, part_at, parts_at, picked_at, attributes_at}
 use Rattle.viz_attr.proofs.ListReaders.{known, known-joined, settled, settled-alone, settled-if, fields-settled, field_list_at, arrays_list_at, arrays_in_list_at, behind_list_at, part_list_at}
 use Rattle.viz_attr.proofs.PartLaws.{decides-parts}
 
 -- ---- the state that is kept is that of the list
 
-field_counted : (g : Given) (k : Known) (which : Section) (count : Result (ℕ × Reading) FileFault)
+field_counted : (g : Given) (k : Known) (which : Association) (count : Result (ℕ × Reading) FileFault)
     → (count >>= λ n. field_arrays_at g k which true n.0 n.1)
     ≡ settled g k (count >>= λ n. known_at (λ inner. field_array_at g (with_parts g k inner) which (is_first inner)) n.0 [] n.1)
 field_counted g k which (Ok n) = fields-settled g k which n.0 [] n.1
 field_counted g k which (Err f) = refl
 
-field_named : (g : Given) (k : Known) (which : Section) (name : Result ((ℕ × List ℕ) × Reading) FileFault)
+field_named : (g : Given) (k : Known) (which : Association) (name : Result ((ℕ × List ℕ) × Reading) FileFault)
     → (name >>= λ w. count_from_at 0 w.1 >>= λ n. field_arrays_at g k which true n.0 n.1)
     ≡ settled g k (name >>= λ w. count_from_at 0 w.1 >>= λ n. known_at (λ inner. field_array_at g (with_parts g k inner) which (is_first inner)) n.0 [] n.1)
 field_named g k which (Ok w) = field_counted g k which (count_from_at 0 w.1)
 field_named g k which (Err f) = refl
 
-field-settled : (g : Given) (k : Known) (which : Section) (r : Reading) → field_at g k which r ≡ settled g k (field_list_at g k which r)
+field-settled : (g : Given) (k : Known) (which : Association) (r : Reading) → field_at g k which r ≡ settled g k (field_list_at g k which r)
 unfolding field_at
 field-settled g k which r = field_named g k which (due_word r)
 
-arrays-settled : (g : Given) (k : Known) (which : Section) (key : ℕ × List ℕ) (r : Reading) → arrays_at g k which key r ≡ settled g k (arrays_list_at g k which key r)
+arrays-settled : (g : Given) (k : Known) (which : Association) (key : ℕ × List ℕ) (r : Reading) → arrays_at g k which key r ≡ settled g k (arrays_list_at g k which key r)
 unfolding arrays_at
 arrays-settled g k which key r =
     settled-if g k (same_word key.1 (codes "SCALARS")) _ _ _ _ (settled-alone g k (scalars_at g k which r))
@@ -55,7 +55,7 @@ arrays-settled g k which key r =
     (settled-if g k (same_word key.1 (codes "LOOKUP_TABLE")) _ _ _ _ (settled-alone g k (table_at g k which r))
     (settled-if g k (same_word key.1 (codes "FIELD")) _ _ _ _ (field-settled g k which r) refl))))))
 
-arrays_in-settled : (g : Given) (k : Known) (last : Option Section) (key : ℕ × List ℕ) (r : Reading) → arrays_in_at g k last key r ≡ settled g k (arrays_in_list_at g k last key r)
+arrays_in-settled : (g : Given) (k : Known) (last : Option Association) (key : ℕ × List ℕ) (r : Reading) → arrays_in_at g k last key r ≡ settled g k (arrays_in_list_at g k last key r)
 unfolding arrays_in_at
 arrays_in-settled g k None key r = refl
 arrays_in-settled g k (Some which) key r = arrays-settled g k which key r
@@ -63,9 +63,9 @@ arrays_in-settled g k (Some which) key r = arrays-settled g k which key r
 behind-settled : (g : Given) (k : Known) (key : ℕ × List ℕ) (r : Reading) → behind_at g k key r ≡ settled g k (behind_list_at g k key r)
 unfolding behind_at
 behind-settled g k key r =
-    settled-if g k (same_word key.1 (codes "POINT_DATA")) _ _ _ _ (settled-alone g k (section_at g Points r))
-    (settled-if g k (same_word key.1 (codes "CELL_DATA")) _ _ _ _ (settled-alone g k (section_at g Cells r))
-    (arrays_in-settled g k k.section key r))
+    settled-if g k (same_word key.1 (codes "POINT_DATA")) _ _ _ _ (settled-alone g k (association_at g Points r))
+    (settled-if g k (same_word key.1 (codes "CELL_DATA")) _ _ _ _ (settled-alone g k (association_at g Cells r))
+    (arrays_in-settled g k k.association key r))
 
 part_keyed : (g : Given) (k : Known) (key : Result ((ℕ × List ℕ) × Reading) FileFault)
     → (key >>= λ w. behind_at g k w.0 w.1) ≡ settled g k (key >>= λ w. behind_list_at g k w.0 w.1)

@@ -22,16 +22,16 @@ use Rattle.viz_lex.proofs.KnownLemmas.{decides-times_knowing}
 use Rattle.viz_lex.proofs.AllLemmas.{decides-to_the_end}
 use Rattle.viz_lex.proofs.ItemLemmas.{decides-word, decides-number, decides-keyword, onward-follow}
 use Rattle.viz_lex.proofs.PassRules.{decides-same, decides-line_end, decides-block, decides-words, decides-metadata}
-use Rattle.viz_attr.specs.declared.parts.Section.{Section}
-use Rattle.viz_attr.specs.declared.parts.Section.TheVariants.{Points, Cells}
+use Rattle.viz_attr.specs.declared.parts.Association.{Association}
+use Rattle.viz_attr.specs.declared.parts.Association.TheVariants.{Points, Cells}
 use Rattle.viz_attr.specs.declared.types.Stored.{Stored}
 use Rattle.viz_attr.specs.declared.types.Stored.TheVariants.{Whole}
 use Rattle.viz_attr.specs.Types.{stored_of, is_left_out_type, is_real, bytes_of, named_by, type_word}
 use Rattle.viz_attr.specs.Counts.{is_number, is_at_least, is_below, count_from, dimension, same_count, components}
-use Rattle.viz_attr.specs.Picks.{Given, Head, Part, Begins, Holds, has_fit, is_picked, picked_of, section_of, count_of}
+use Rattle.viz_attr.specs.Picks.{Given, Head, Part, Begins, Holds, has_fit, is_picked, picked_of, association_of, count_of}
 use Rattle.viz_attr.specs.Values.{value, tuple, kind_of, text_values, block_numbers, block_values, values}
-use Rattle.viz_attr.specs.Grammar.{array, section, head_in, scalars_head, table_head, field_head, scalars, vectors, texture, colors, table, is_first, field_values, field_array, field, alone, arrays, arrays_in, behind, part, joined, parts, is_zero, no_array, attributes}
-use Rattle.viz_attr.specs.Steps.{Known, with_part, with_parts, is_wanted, type_at, count_from_at, dimension_at, same_count_at, components_at, value_at, others_at, tuple_at, tuples_at, column_at, text_values_at, line_bytes_at, block_values_at, values_at, array_at, section_at, scalars_at, vectors_at, texture_at, colors_at, table_at, field_values_at, field_array_at}
+use Rattle.viz_attr.specs.Grammar.{array, association, head_in, scalars_head, table_head, field_head, scalars, vectors, texture, colors, table, is_first, field_values, field_array, field, alone, arrays, arrays_in, behind, part, joined, parts, is_zero, no_array, attributes}
+use Rattle.viz_attr.specs.Steps.{Known, with_part, with_parts, is_wanted, type_at, count_from_at, dimension_at, same_count_at, components_at, value_at, others_at, tuple_at, tuples_at, column_at, text_values_at, line_bytes_at, block_values_at, values_at, array_at, association_at, scalars_at, vectors_at, texture_at, colors_at, table_at, field_values_at, field_array_at}
 use Rattle.viz_attr.proofs.ListReaders.{known, known-parts, alone_at, field_list_at, arrays_list_at, arrays_in_list_at, behind_list_at, part_list_at}
 
 -- ---- types and counts
@@ -220,11 +220,11 @@ decides-array g before head stored tuples components =
     decides-follow (values g.binary (is_picked g before head) stored tuples components) _ (values_at g.binary (is_picked g before head) stored tuples components) _ (decides-values g.binary (is_picked g before head) stored tuples components) (λ column.
     decides-follow metadata _ any_metadata_at _ decides-metadata (λ passed. decides-gives _))
 
-decides-section : (g : Given) (which : Section) → Decides (section g which) (section_at g which)
-unfolding section_at
-decides-section g which = decides-follow (same_count (count_of g which)) _ (same_count_at (count_of g which)) _ (decides-same_count (count_of g which)) (λ same. decides-gives _)
+decides-association : (g : Given) (which : Association) → Decides (association g which) (association_at g which)
+unfolding association_at
+decides-association g which = decides-follow (same_count (count_of g which)) _ (same_count_at (count_of g which)) _ (decides-same_count (count_of g which)) (λ same. decides-gives _)
 
-decides-scalars : (g : Given) (before : List Part) (which : Section) → Decides (scalars g before which) (scalars_at g (known g before) which)
+decides-scalars : (g : Given) (before : List Part) (which : Association) → Decides (scalars g before which) (scalars_at g (known g before) which)
 unfolding scalars_at
 decides-scalars g before which =
     decides-follow word _ due_word _ decides-word (λ name.
@@ -234,14 +234,14 @@ decides-scalars g before which =
     decides-follow word _ due_word _ decides-word (λ table.
     decides-array g before (scalars_head g which name.1) stored (count_of g which) c)))))
 
-decides-vectors : (g : Given) (before : List Part) (which : Section) (c : ℕ) → Decides (vectors g before which c) (vectors_at g (known g before) which c)
+decides-vectors : (g : Given) (before : List Part) (which : Association) (c : ℕ) → Decides (vectors g before which c) (vectors_at g (known g before) which c)
 unfolding vectors_at
 decides-vectors g before which c =
     decides-follow word _ due_word _ decides-word (λ name.
     decides-follow (type_word false) _ (type_at false) _ (decides-type_word false) (λ stored.
     decides-array g before (head_in g which name.1) stored (count_of g which) c))
 
-decides-texture : (g : Given) (before : List Part) (which : Section) → Decides (texture g before which) (texture_at g (known g before) which)
+decides-texture : (g : Given) (before : List Part) (which : Association) → Decides (texture g before which) (texture_at g (known g before) which)
 unfolding texture_at
 decides-texture g before which =
     decides-follow word _ due_word _ decides-word (λ name.
@@ -249,21 +249,21 @@ decides-texture g before which =
     decides-follow (type_word false) _ (type_at false) _ (decides-type_word false) (λ stored.
     decides-array g before (head_in g which name.1) stored (count_of g which) d)))
 
-decides-colors : (g : Given) (before : List Part) (which : Section) → Decides (colors g before which) (colors_at g (known g before) which)
+decides-colors : (g : Given) (before : List Part) (which : Association) → Decides (colors g before which) (colors_at g (known g before) which)
 unfolding colors_at
 decides-colors g before which =
     decides-follow word _ due_word _ decides-word (λ name.
     decides-follow (count_from 1) _ (count_from_at 1) _ (decides-count_from 1) (λ c.
     decides-array g before (head_in g which name.1) (Whole U8) (count_of g which) c))
 
-decides-table : (g : Given) (before : List Part) (which : Section) → Decides (table g before which) (table_at g (known g before) which)
+decides-table : (g : Given) (before : List Part) (which : Association) → Decides (table g before which) (table_at g (known g before) which)
 unfolding table_at
 decides-table g before which =
     decides-follow word _ due_word _ decides-word (λ name.
     decides-follow (count_from 0) _ (count_from_at 0) _ (decides-count_from 0) (λ size.
     decides-array g before (table_head which name.1 size) (Whole U8) size 4))
 
-decides-field_values : (g : Given) (before : List Part) (which : Section) (name : List ℕ) → Decides (field_values g before which name) (field_values_at g (known g before) which name)
+decides-field_values : (g : Given) (before : List Part) (which : Association) (name : List ℕ) → Decides (field_values g before which name) (field_values_at g (known g before) which name)
 unfolding field_values_at
 decides-field_values g before which name =
     decides-follow (count_from 1) _ (count_from_at 1) _ (decides-count_from 1) (λ c.
@@ -271,17 +271,17 @@ decides-field_values g before which name =
     decides-follow (type_word (is_picked g before (field_head which name t))) _ (type_at (is_picked g before (field_head which name t))) _ (decides-type_word (is_picked g before (field_head which name t))) (λ stored.
     decides-array g before (field_head which name t) stored t c)))
 
-decides-field_array : (g : Given) (before : List Part) (which : Section) (inner : List Part) → Decides (field_array g before which inner) (field_array_at g (known g (before ++ inner)) which (is_first inner))
+decides-field_array : (g : Given) (before : List Part) (which : Association) (inner : List Part) → Decides (field_array g before which inner) (field_array_at g (known g (before ++ inner)) which (is_first inner))
 unfolding field_array_at
 decides-field_array g before which inner =
     decides-follow word _ due_word _ decides-word (λ name.
     decides-demand (is_first inner || not (same_word name.1 (codes "METADATA"))) Keyword name.0 _ _ (decides-field_values g (before ++ inner) which name.1))
 
-decides-inner : (g : Given) (before : List Part) (which : Section) (inner : List Part) → Decides (field_array g before which inner) (field_array_at g (with_parts g (known g before) inner) which (is_first inner))
+decides-inner : (g : Given) (before : List Part) (which : Association) (inner : List Part) → Decides (field_array g before which inner) (field_array_at g (with_parts g (known g before) inner) which (is_first inner))
 decides-inner g before which inner =
     subst (λ (k : Known). Decides (field_array g before which inner) (field_array_at g k which (is_first inner))) (known-parts g before inner) (decides-field_array g before which inner)
 
-decides-field : (g : Given) (before : List Part) (which : Section) → Decides (field g before which) (field_list_at g (known g before) which)
+decides-field : (g : Given) (before : List Part) (which : Association) → Decides (field g before which) (field_list_at g (known g before) which)
 decides-field g before which =
     decides-follow word _ due_word _ decides-word (λ name.
     decides-follow (count_from 0) _ (count_from_at 0) _ (decides-count_from 0) (λ n.
@@ -292,7 +292,7 @@ decides-field g before which =
 decides-alone : (rule : Rule Part) (read : Reading → Result (Part × Reading) FileFault) → Decides rule read → Decides (alone rule) (alone_at read)
 decides-alone rule read d = decides-follow rule _ read _ d (λ part. decides-gives _)
 
-decides-arrays : (g : Given) (before : List Part) (which : Section) (key : ℕ × List ℕ) → Decides (arrays g before which key) (arrays_list_at g (known g before) which key)
+decides-arrays : (g : Given) (before : List Part) (which : Association) (key : ℕ × List ℕ) → Decides (arrays g before which key) (arrays_list_at g (known g before) which key)
 decides-arrays g before which key =
     let k = known g before in
     decides-choose (same_word key.1 (codes "SCALARS")) _ _ _ _ (decides-alone _ (scalars_at g k which) (decides-scalars g before which))
@@ -304,15 +304,15 @@ decides-arrays g before which key =
     (decides-choose (same_word key.1 (codes "FIELD")) _ _ _ _ (decides-field g before which)
     (decides-refuses (fault_at (keyword_kind key.1) key.0))))))))
 
-decides-arrays_in : (g : Given) (before : List Part) (last : Option Section) (key : ℕ × List ℕ) → Decides (arrays_in g before last key) (arrays_in_list_at g (known g before) last key)
+decides-arrays_in : (g : Given) (before : List Part) (last : Option Association) (key : ℕ × List ℕ) → Decides (arrays_in g before last key) (arrays_in_list_at g (known g before) last key)
 decides-arrays_in g before None key = decides-refuses (fault_at (keyword_kind key.1) key.0)
 decides-arrays_in g before (Some which) key = decides-arrays g before which key
 
 decides-behind : (g : Given) (before : List Part) (key : ℕ × List ℕ) → Decides (behind g before key) (behind_list_at g (known g before) key)
 decides-behind g before key =
-    decides-choose (same_word key.1 (codes "POINT_DATA")) _ _ _ _ (decides-alone _ (section_at g Points) (decides-section g Points))
-    (decides-choose (same_word key.1 (codes "CELL_DATA")) _ _ _ _ (decides-alone _ (section_at g Cells) (decides-section g Cells))
-    (decides-arrays_in g before (section_of None before) key))
+    decides-choose (same_word key.1 (codes "POINT_DATA")) _ _ _ _ (decides-alone _ (association_at g Points) (decides-association g Points))
+    (decides-choose (same_word key.1 (codes "CELL_DATA")) _ _ _ _ (decides-alone _ (association_at g Cells) (decides-association g Cells))
+    (decides-arrays_in g before (association_of None before) key))
 
 decides-part : (g : Given) (before : List Part) → Decides (part g before) (part_list_at g (known g before))
 decides-part g before = decides-follow word _ due_word _ decides-word (λ key. decides-behind g before key)

@@ -4,7 +4,7 @@ use Rattle.viz_lex.specs.declared.fault.FileFault.{FileFault}
 use Rattle.viz_lex.specs.Reading.{Reading, ◌>>=◌}
 use Rattle.viz_lex.specs.Words.{word_at}
 use Rattle.viz_lex.specs.Steps.{has}
-use Rattle.viz_attr.specs.declared.parts.Section.{Section}
+use Rattle.viz_attr.specs.declared.parts.Association.{Association}
 use Rattle.viz_attr.specs.declared.stop.AttrStop.{AttrStop}
 use Rattle.viz_attr.specs.declared.stop.AttrStop.TheVariants.{File, Memory}
 use Rattle.viz_attr.specs.Picks.{Given}
@@ -17,7 +17,7 @@ Progressed = Result (Known × Reading) FileFault
 
 -- ---- the arrays of a FIELD
 
-pub field-on : (g : Given) (k later : Known) (which : Section) (first : Bool) (count i : ℕ) (r after : Reading) (total : Progressed) → i < count
+pub field-on : (g : Given) (k later : Known) (which : Association) (first : Bool) (count i : ℕ) (r after : Reading) (total : Progressed) → i < count
     → behind_part g k (field_array_at g k which first r) ≡ Ok (later, after)
     → field_arrays_at g k which first (count - i) r ≡ total → field_arrays_at g later which false (count - (i + 1)) after ≡ total
 unfolding field_arrays_at
@@ -26,7 +26,7 @@ field-on g k later which first count i r after total lt h so_far =
     let one : field_arrays_at g k which first (count - i) r ≡ field_arrays_at g later which false (count - (i + 1)) after = rw (n, h) refl in
     sym one ∙ so_far
 
-pub field-fault : (g : Given) (k : Known) (which : Section) (first : Bool) (count i : ℕ) (r : Reading) (stop : AttrStop) (total : Progressed) → i < count
+pub field-fault : (g : Given) (k : Known) (which : Association) (first : Bool) (count i : ℕ) (r : Reading) (stop : AttrStop) (total : Progressed) → i < count
     → Stops stop (behind_part g k (field_array_at g k which first r))
     → field_arrays_at g k which first (count - i) r ≡ total → Stops stop total
 unfolding field_arrays_at
@@ -36,7 +36,7 @@ field-fault g k which first count i r (File fault) total lt h so_far =
     sym so_far ∙ one
 field-fault g k which first count i r Memory total lt h so_far = tt
 
-pub field-done : (g : Given) (k : Known) (which : Section) (first : Bool) (count i : ℕ) (r : Reading) (total : Progressed) → count ≤ i
+pub field-done : (g : Given) (k : Known) (which : Association) (first : Bool) (count i : ℕ) (r : Reading) (total : Progressed) → count ≤ i
     → field_arrays_at g k which first (count - i) r ≡ total → total ≡ Ok (k, r)
 unfolding field_arrays_at
 field-done g k which first count i r total le so_far =

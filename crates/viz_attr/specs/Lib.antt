@@ -1,5 +1,6 @@
 pub mod Attributes
 pub mod Grammar
+pub mod Arrays
 pub mod Picks
 pub mod Types
 pub mod Values

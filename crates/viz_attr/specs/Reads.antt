@@ -23,11 +23,11 @@ ReadsUnlessMemory view (Err stop) new read = Stops stop read
 
 -- what is known, as the code holds it
 abbrev pub known_of : Progress → Known
-known_of p = record { section = p.section; found = p.found; picked = p.picked }
+known_of p = record { association = p.association; found = p.found; picked = p.picked }
 
 -- the head of an array, as the code holds it
 abbrev pub head_of : Named → Head
-head_of h = record { section = h.section; sort = h.sort; name = h.name.now; tuples = h.tuples }
+head_of h = record { association = h.association; sort = h.sort; name = h.name.now; tuples = h.tuples }
 
 -- what is given, as the code holds it
 abbrev pub given_of : Files → Given

@@ -6,9 +6,9 @@ ghost use Rattle.viz_attr.specs.Grammar.{is_zero, attributes};
 ghost use Rattle.viz_attr.specs.Steps.{arrays_at, arrays_in_at, behind_at, part_at, parts_at, picked_at, attributes_at, start};
 ghost use Rattle.viz_attr.specs.Reads.{known_of, given_of, Adds, Knows, ReadsUnlessMemory};
 
-use crate::arrays::{colors, scalars, section, table, texture, vectors};
+use crate::arrays::{association, colors, scalars, table, texture, vectors};
 use crate::field::field;
-use crate::parts::{Files, Progress, Section};
+use crate::parts::{Association, Files, Progress};
 use crate::stop::AttrStop;
 use std::alloc::Global;
 use viz_base::Pick;
@@ -22,39 +22,39 @@ fn arrays(
     lexer: &mut Lexer<'_>,
     files: &Files<'_>,
     progress: &mut Progress,
-    section: Section,
+    association: Association,
     place: u64,
     key: &[u8],
 ) -> Result<(), AttrStop>
     ensures { Knows result progress.new lexer.new
-        (arrays_at (given_of files.now) (known_of progress.old) section (place, key.now)
+        (arrays_at (given_of files.now) (known_of progress.old) association (place, key.now)
         lexer.old) }
 {
     if is_word(key, b"SCALARS") {
-        return scalars(alloc, lexer, files, progress, section);
+        return scalars(alloc, lexer, files, progress, association);
     }
     if is_word(key, b"VECTORS") || is_word(key, b"NORMALS") {
-        return vectors(alloc, lexer, files, progress, section, 3);
+        return vectors(alloc, lexer, files, progress, association, 3);
     }
     if is_word(key, b"TENSORS") {
-        return vectors(alloc, lexer, files, progress, section, 9);
+        return vectors(alloc, lexer, files, progress, association, 9);
     }
     if is_word(key, b"TEXTURE_COORDINATES") {
-        return texture(alloc, lexer, files, progress, section);
+        return texture(alloc, lexer, files, progress, association);
     }
     if is_word(key, b"COLOR_SCALARS") {
-        return colors(alloc, lexer, files, progress, section);
+        return colors(alloc, lexer, files, progress, association);
     }
     if is_word(key, b"LOOKUP_TABLE") {
-        return table(alloc, lexer, files, progress, section);
+        return table(alloc, lexer, files, progress, association);
     }
     if is_word(key, b"FIELD") {
-        return field(alloc, lexer, files, progress, section);
+        return field(alloc, lexer, files, progress, association);
     }
     Err(AttrStop::File(keyword_fault(place, key)))
 }
 
-/// An array stands in a section alone.
+/// An array stands in an association alone.
 #[tactic(auto, unfolding(crate::specs::Steps::arrays_in_at))]
 fn arrays_in(
     alloc: Global,
@@ -65,11 +65,11 @@ fn arrays_in(
     key: &[u8],
 ) -> Result<(), AttrStop>
     ensures { Knows result progress.new lexer.new
-        (arrays_in_at (given_of files.now) (known_of progress.old) progress.old.section
+        (arrays_in_at (given_of files.now) (known_of progress.old) progress.old.association
         (place, key.now) lexer.old) }
 {
-    match progress.section {
-        Some(section) => arrays(alloc, lexer, files, progress, section, place, key),
+    match progress.association {
+        Some(association) => arrays(alloc, lexer, files, progress, association, place, key),
         None => Err(AttrStop::File(keyword_fault(place, key))),
     }
 }
@@ -88,10 +88,10 @@ fn behind(
         (behind_at (given_of files.now) (known_of progress.old) (place, key.now) lexer.old) }
 {
     if is_word(key, b"POINT_DATA") {
-        return section(lexer, files, progress, Section::Points);
+        return association(lexer, files, progress, Association::Points);
     }
     if is_word(key, b"CELL_DATA") {
-        return section(lexer, files, progress, Section::Cells);
+        return association(lexer, files, progress, Association::Cells);
     }
     arrays_in(alloc, lexer, files, progress, place, key)
 }
@@ -157,7 +157,7 @@ fn all(alloc: Global, lexer: &mut Lexer<'_>, files: &Files<'_>) -> Result<Option
         (attributes_at (given_of files.now) lexer.old) }
 {
     let mut progress = Progress {
-        section: None,
+        association: None,
         found: false,
         picked: None,
     };

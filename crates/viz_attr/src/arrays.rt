@@ -6,11 +6,11 @@ ghost use Rattle.viz_attr.specs.declared.types.Stored.TheVariants.{Whole};
 ghost use Rattle.viz_attr.specs.Types.{bytes_of};
 ghost use Rattle.viz_attr.specs.Values.{kind_of};
 ghost use Rattle.viz_attr.specs.Grammar.{head_in, scalars_head, field_head};
-ghost use Rattle.viz_attr.specs.Steps.{is_wanted, array_at, section_at, scalars_at, vectors_at, texture_at, colors_at, table_at};
+ghost use Rattle.viz_attr.specs.Steps.{is_wanted, array_at, association_at, scalars_at, vectors_at, texture_at, colors_at, table_at};
 ghost use Rattle.viz_attr.specs.Reads.{known_of, head_of, given_of, Adds};
 
 use crate::counts::{components, count_from, dimension, same_count};
-use crate::parts::{Files, Named, Progress, Section, Sort};
+use crate::parts::{Association, Files, Named, Progress, Sort};
 use crate::picks::{count_of, is_wanted};
 use crate::stop::AttrStop;
 use crate::types::{Stored, type_word};
@@ -64,17 +64,17 @@ pub(crate) fn scalars(
     lexer: &mut Lexer<'_>,
     files: &Files<'_>,
     progress: &mut Progress,
-    section: Section,
+    association: Association,
 ) -> Result<(), AttrStop>
     ensures { Adds files.now result progress.old progress.new lexer.new
-        (scalars_at (given_of files.now) (known_of progress.old) section lexer.old) }
+        (scalars_at (given_of files.now) (known_of progress.old) association lexer.old) }
 {
     let (_, name) = lexer.due_word()?;
     let head = Named {
-        section,
+        association,
         sort: Sort::Scalars,
         name,
-        tuples: count_of(files, section),
+        tuples: count_of(files, association),
     };
     let stored = type_word(lexer, is_wanted(files, progress, &head))?;
     let components = components(lexer)?;
@@ -90,17 +90,17 @@ pub(crate) fn vectors(
     lexer: &mut Lexer<'_>,
     files: &Files<'_>,
     progress: &mut Progress,
-    section: Section,
+    association: Association,
     components: u64,
 ) -> Result<(), AttrStop>
     requires some { 1 ≤ components }
     requires few { components < 2 ^ 31 }
     ensures { Adds files.now result progress.old progress.new lexer.new
-        (vectors_at (given_of files.now) (known_of progress.old) section components lexer.old) }
+        (vectors_at (given_of files.now) (known_of progress.old) association components lexer.old) }
 {
     let (_, name) = lexer.due_word()?;
     let stored = type_word(lexer, false)?;
-    let head = other(files, section, name);
+    let head = other(files, association, name);
     array(alloc, lexer, files, progress, &head, stored, components)
 }
 
@@ -111,15 +111,15 @@ pub(crate) fn texture(
     lexer: &mut Lexer<'_>,
     files: &Files<'_>,
     progress: &mut Progress,
-    section: Section,
+    association: Association,
 ) -> Result<(), AttrStop>
     ensures { Adds files.now result progress.old progress.new lexer.new
-        (texture_at (given_of files.now) (known_of progress.old) section lexer.old) }
+        (texture_at (given_of files.now) (known_of progress.old) association lexer.old) }
 {
     let (_, name) = lexer.due_word()?;
     let components = dimension(lexer)?;
     let stored = type_word(lexer, false)?;
-    let head = other(files, section, name);
+    let head = other(files, association, name);
     array(alloc, lexer, files, progress, &head, stored, components)
 }
 
@@ -130,14 +130,14 @@ pub(crate) fn colors(
     lexer: &mut Lexer<'_>,
     files: &Files<'_>,
     progress: &mut Progress,
-    section: Section,
+    association: Association,
 ) -> Result<(), AttrStop>
     ensures { Adds files.now result progress.old progress.new lexer.new
-        (colors_at (given_of files.now) (known_of progress.old) section lexer.old) }
+        (colors_at (given_of files.now) (known_of progress.old) association lexer.old) }
 {
     let (_, name) = lexer.due_word()?;
     let components = count_from(lexer, 1)?;
-    let head = other(files, section, name);
+    let head = other(files, association, name);
     let stored = Stored::Whole(Kind8::U8);
     array(alloc, lexer, files, progress, &head, stored, components)
 }
@@ -149,15 +149,15 @@ pub(crate) fn table(
     lexer: &mut Lexer<'_>,
     files: &Files<'_>,
     progress: &mut Progress,
-    section: Section,
+    association: Association,
 ) -> Result<(), AttrStop>
     ensures { Adds files.now result progress.old progress.new lexer.new
-        (table_at (given_of files.now) (known_of progress.old) section lexer.old) }
+        (table_at (given_of files.now) (known_of progress.old) association lexer.old) }
 {
     let (_, name) = lexer.due_word()?;
     let tuples = count_from(lexer, 0)?;
     let head = Named {
-        section,
+        association,
         sort: Sort::Other,
         name,
         tuples,
@@ -167,29 +167,29 @@ pub(crate) fn table(
 }
 
 /// POINT_DATA n or CELL_DATA n.
-#[tactic(auto, unfolding(crate::specs::Steps::section_at))]
-pub(crate) fn section(
+#[tactic(auto, unfolding(crate::specs::Steps::association_at))]
+pub(crate) fn association(
     lexer: &mut Lexer<'_>,
     files: &Files<'_>,
     progress: &mut Progress,
-    section: Section,
+    association: Association,
 ) -> Result<(), AttrStop>
     ensures { Adds files.now result progress.old progress.new lexer.new
-        (section_at (given_of files.now) section lexer.old) }
+        (association_at (given_of files.now) association lexer.old) }
 {
-    same_count(lexer, count_of(files, section))?;
-    progress.section = Some(section);
+    same_count(lexer, count_of(files, association))?;
+    progress.association = Some(association);
     Ok(())
 }
 
 /// The head of an array that no pick names.
-fn other<'a>(files: &Files<'_>, section: Section, name: &'a [u8]) -> Named<'a>
-    ensures { head_of result ≡ head_in (given_of files.now) section name.now }
+fn other<'a>(files: &Files<'_>, association: Association, name: &'a [u8]) -> Named<'a>
+    ensures { head_of result ≡ head_in (given_of files.now) association name.now }
 {
     Named {
-        section,
+        association,
         sort: Sort::Other,
         name,
-        tuples: count_of(files, section),
+        tuples: count_of(files, association),
     }
 }

@@ -7,7 +7,7 @@ ghost use Rattle.viz_attr.specs.Reads.{known_of, given_of, Adds, Knows};
 
 use crate::arrays::array;
 use crate::counts::count_from;
-use crate::parts::{Files, Named, Progress, Section, Sort};
+use crate::parts::{Association, Files, Named, Progress, Sort};
 use crate::picks::is_wanted;
 use crate::stop::AttrStop;
 use crate::types::type_word;
@@ -21,16 +21,17 @@ fn field_values(
     lexer: &mut Lexer<'_>,
     files: &Files<'_>,
     progress: &mut Progress,
-    section: Section,
+    association: Association,
     name: &[u8],
 ) -> Result<(), AttrStop>
     ensures { Adds files.now result progress.old progress.new lexer.new
-        (field_values_at (given_of files.now) (known_of progress.old) section name.now lexer.old) }
+        (field_values_at (given_of files.now) (known_of progress.old) association name.now
+        lexer.old) }
 {
     let components = count_from(lexer, 1)?;
     let tuples = count_from(lexer, 0)?;
     let head = Named {
-        section,
+        association,
         sort: Sort::Field,
         name,
         tuples,
@@ -46,11 +47,11 @@ fn field_array(
     lexer: &mut Lexer<'_>,
     files: &Files<'_>,
     progress: &mut Progress,
-    section: Section,
+    association: Association,
     first: bool,
 ) -> Result<(), AttrStop>
     ensures { Adds files.now result progress.old progress.new lexer.new
-        (field_array_at (given_of files.now) (known_of progress.old) section first lexer.old) }
+        (field_array_at (given_of files.now) (known_of progress.old) association first lexer.old) }
 {
     let (place, name) = lexer.due_word()?;
     if !first && is_word(name, b"METADATA") {
@@ -59,7 +60,7 @@ fn field_array(
             place,
         }));
     }
-    field_values(alloc, lexer, files, progress, section, name)
+    field_values(alloc, lexer, files, progress, association, name)
 }
 
 /// So many arrays, of which the first is the FIELD's first.
@@ -68,16 +69,16 @@ fn field_arrays(
     lexer: &mut Lexer<'_>,
     files: &Files<'_>,
     progress: &mut Progress,
-    section: Section,
+    association: Association,
     count: u64,
 ) -> Result<(), AttrStop>
     ensures { Knows result progress.new lexer.new
-        (field_arrays_at (given_of files.now) (known_of progress.old) section true count
+        (field_arrays_at (given_of files.now) (known_of progress.old) association true count
         lexer.old) }
 {
     let mut first = true;
     for _ in 0..count {
-        field_array(alloc, lexer, files, progress, section, first)?;
+        field_array(alloc, lexer, files, progress, association, first)?;
         first = false;
     }
     Ok(())
@@ -90,12 +91,12 @@ pub(crate) fn field(
     lexer: &mut Lexer<'_>,
     files: &Files<'_>,
     progress: &mut Progress,
-    section: Section,
+    association: Association,
 ) -> Result<(), AttrStop>
     ensures { Knows result progress.new lexer.new
-        (field_at (given_of files.now) (known_of progress.old) section lexer.old) }
+        (field_at (given_of files.now) (known_of progress.old) association lexer.old) }
 {
     lexer.due_word()?;
     let count = count_from(lexer, 0)?;
-    field_arrays(alloc, lexer, files, progress, section, count)
+    field_arrays(alloc, lexer, files, progress, association, count)
 }

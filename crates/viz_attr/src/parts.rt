@@ -5,9 +5,9 @@ ghost use Rattle.std.specs.Prelude.{◌≡◌, None, false};
 use viz_base::Pick;
 use viz_column::Column;
 
-/// Whose attributes these are.
+/// Whose attributes these are: VTK's field association.
 #[derive(Clone, Copy, PartialEq, Eq, Debug)]
-pub enum Section {
+pub enum Association {
     /// Behind POINT_DATA.
     Points,
     /// Behind CELL_DATA.
@@ -37,17 +37,17 @@ pub(crate) struct Files<'a> {
 /// What stands in front of an array's values.
 #[derive(Drop)]
 pub(crate) struct Named<'a> {
-    pub section: Section,
+    pub association: Association,
     pub sort: Sort,
     pub name: &'a [u8],
     pub tuples: u64,
 }
 
-/// What is known of the parts before: the section that was begun last, whether an array fitted the
-/// pick, and the numbers of the first that did.
+/// What is known of the parts before: whose attributes stand behind the last POINT_DATA or
+/// CELL_DATA, whether an array fitted the pick, and the numbers of the first that did.
 #[derive(Drop)]
 pub(crate) struct Progress {
-    pub section: Option<Section>,
+    pub association: Option<Association>,
     pub found: bool,
     pub picked: Option<Column>,
 }

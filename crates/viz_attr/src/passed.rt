@@ -77,8 +77,8 @@ fn pass_arrays(lexer: &mut Lexer<'_>, binary: bool, count: u64) -> Result<(), Fi
     Ok(())
 }
 
-/// Passes over a FIELD that stands among the lines of a file's geometry, behind the word FIELD, with
-/// the METADATA of its arrays. It takes no memory.
+/// Passes over a FIELD that stands among the lines of a file's geometry, behind the word FIELD,
+/// with the METADATA of its arrays. It takes no memory.
 #[tactic(auto, unfolding(crate::specs::PassedSteps::passed_field_at))]
 pub fn pass_field(lexer: &mut Lexer<'_>, binary: bool) -> Result<(), FileFault>
     ensures exact { Reads (λ done. done) result lexer.new (passed_field_at binary lexer.old) }

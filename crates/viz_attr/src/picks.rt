@@ -5,15 +5,15 @@ ghost use Rattle.viz_attr.specs.Picks.{is_of_points, is_scalars, is_field, same_
 ghost use Rattle.viz_attr.specs.Steps.{is_wanted, with_part};
 ghost use Rattle.viz_attr.specs.Reads.{known_of, head_of, given_of};
 
-use crate::parts::{Files, Named, Progress, Section, Sort};
+use crate::parts::{Association, Files, Named, Progress, Sort};
 use viz_base::Pick;
 
-fn is_of_points(section: Section) -> bool
-    ensures { result ≡ is_of_points section }
+fn is_of_points(association: Association) -> bool
+    ensures { result ≡ is_of_points association }
 {
-    match section {
-        Section::Points => true,
-        Section::Cells => false,
+    match association {
+        Association::Points => true,
+        Association::Cells => false,
     }
 }
 
@@ -57,7 +57,7 @@ fn names(pick: &Pick, points: u64, head: &Named<'_>) -> bool
 fn fits_pick(files: &Files<'_>, head: &Named<'_>) -> bool
     ensures { result ≡ fits_pick (given_of files.now) (head_of head.now) }
 {
-    is_of_points(head.section) && names(files.pick, files.points, head)
+    is_of_points(head.association) && names(files.pick, files.points, head)
 }
 
 /// Whether an array is the first that fits the pick.
@@ -67,12 +67,12 @@ pub(crate) fn is_wanted(files: &Files<'_>, progress: &Progress, head: &Named<'_>
     fits_pick(files, head) && !progress.found
 }
 
-/// How many tuples an attribute of a section has.
-pub(crate) fn count_of(files: &Files<'_>, section: Section) -> u64
-    ensures { result ≡ count_of (given_of files.now) section }
+/// How many tuples an attribute of points, or of cells, has.
+pub(crate) fn count_of(files: &Files<'_>, association: Association) -> u64
+    ensures { result ≡ count_of (given_of files.now) association }
 {
-    match section {
-        Section::Points => files.points,
-        Section::Cells => files.cells,
+    match association {
+        Association::Points => files.points,
+        Association::Cells => files.cells,
     }
 }

@@ -1,7 +1,7 @@
 //! Picked arrays of texts that were written by hand, in both forms.
 
 use crate::tests_texts::{BLOCKS, FLOAT_BEHIND, FLOAT_IN_FRONT, TWICE, WORDS};
-use crate::{AttrStop, Stored, attributes, type_word};
+use crate::{AttrStop, Stored, attributes, pass_field, type_word};
 use std::alloc::Global;
 use std::process::Abort;
 use std::test::Fail;
@@ -215,4 +215,26 @@ fn type_words(rt: HostRuntime) {
         let is_real = bytes == 4 && stored == Stored::Float || stored == Stored::Double;
         assert_eq!(rt; stored.is_real(), is_real, "{word:?}");
     }
+}
+
+#[test]
+fn a_field_is_passed_over(rt: HostRuntime) {
+    // behind the word FIELD: no numbers, METADATA, and a name that is METADATA
+    let words = b"f 3 METADATA 1 2 float nan abc b 2 1 int 1 2\nMETADATA\nx\n\nc 1 0 char\nCELLS";
+    let blocks =
+        b"f 3\nMETADATA 1 1 double\nabcdefgh b 2 1 short\nabcd\nMETADATA\nx\n\nc 1 0 int\nCELLS";
+    for (binary, text, place) in [
+        (false, words.as_slice(), words.len() as u64 - 6),
+        (true, blocks.as_slice(), blocks.len() as u64 - 5),
+    ] {
+        let mut lexer = Lexer::new(text);
+        assert_eq!(rt; pass_field(&mut lexer, binary), Ok(()), "{text:?}");
+        assert_eq!(rt; lexer.place(), place, "{text:?}");
+    }
+    let mut lexer = Lexer::new(b"f 2 a 1 1 char 1\nMETADATA\n\nMetadata 1 1 char 1");
+    let second = Err(FileFault {
+        kind: FileKind::Keyword,
+        place: 27,
+    });
+    assert_eq!(rt; pass_field(&mut lexer, false), second);
 }

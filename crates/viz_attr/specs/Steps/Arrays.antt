@@ -5,7 +5,7 @@ use Rattle.viz_lex.specs.declared.fault.FileFault.{FileFault}
 use Rattle.viz_lex.specs.Reading.{Reading, ◌>>=◌}
 use Rattle.viz_lex.specs.Steps.{due_word, keyword_at}
 use Rattle.viz_lex.specs.Readers.{any_metadata_at}
-use Rattle.viz_attr.specs.declared.parts.Section.{Section}
+use Rattle.viz_attr.specs.declared.parts.Association.{Association}
 use Rattle.viz_attr.specs.declared.types.Stored.{Stored}
 use Rattle.viz_attr.specs.declared.types.Stored.TheVariants.{Whole}
 use Rattle.viz_attr.specs.Picks.{Given, Head, Part, Begins, Holds, count_of}
@@ -22,13 +22,13 @@ array_at g k head stored tuples components r = do
   Ok (Holds head column.0, passed.1)
 
 -- POINT_DATA or CELL_DATA
-unfoldable pub section_at : Given → Section → Reading → Result (Part × Reading) FileFault
-section_at g which r = do
+unfoldable pub association_at : Given → Association → Reading → Result (Part × Reading) FileFault
+association_at g which r = do
   same ← same_count_at (count_of g which) r
   Ok (Begins which, same.1)
 
 -- SCALARS
-unfoldable pub scalars_at : Given → Known → Section → Reading → Result (Part × Reading) FileFault
+unfoldable pub scalars_at : Given → Known → Association → Reading → Result (Part × Reading) FileFault
 scalars_at g k which r = do
   name ← due_word r
   stored ← type_at (is_wanted g k (scalars_head g which name.0.1)) name.1
@@ -38,14 +38,14 @@ scalars_at g k which r = do
   array_at g k (scalars_head g which name.0.1) stored.0 (count_of g which) c.0 table.1
 
 -- VECTORS, NORMALS, TENSORS
-unfoldable pub vectors_at : Given → Known → Section → ℕ → Reading → Result (Part × Reading) FileFault
+unfoldable pub vectors_at : Given → Known → Association → ℕ → Reading → Result (Part × Reading) FileFault
 vectors_at g k which c r = do
   name ← due_word r
   stored ← type_at false name.1
   array_at g k (head_in g which name.0.1) stored.0 (count_of g which) c stored.1
 
 -- TEXTURE_COORDINATES
-unfoldable pub texture_at : Given → Known → Section → Reading → Result (Part × Reading) FileFault
+unfoldable pub texture_at : Given → Known → Association → Reading → Result (Part × Reading) FileFault
 texture_at g k which r = do
   name ← due_word r
   d ← dimension_at name.1
@@ -53,14 +53,14 @@ texture_at g k which r = do
   array_at g k (head_in g which name.0.1) stored.0 (count_of g which) d.0 stored.1
 
 -- COLOR_SCALARS
-unfoldable pub colors_at : Given → Known → Section → Reading → Result (Part × Reading) FileFault
+unfoldable pub colors_at : Given → Known → Association → Reading → Result (Part × Reading) FileFault
 colors_at g k which r = do
   name ← due_word r
   c ← count_from_at 1 name.1
   array_at g k (head_in g which name.0.1) (Whole U8) (count_of g which) c.0 c.1
 
 -- LOOKUP_TABLE
-unfoldable pub table_at : Given → Known → Section → Reading → Result (Part × Reading) FileFault
+unfoldable pub table_at : Given → Known → Association → Reading → Result (Part × Reading) FileFault
 table_at g k which r = do
   name ← due_word r
   size ← count_from_at 0 name.1

@@ -6,5 +6,5 @@ use Rattle.viz_attr.proofs.field.field_arrays.Given as goal
 -- what comes of the arrays that are left is what comes of all
 abbrev pub invariant-loop : goal.invariant-loop
 invariant-loop l =
-    field_arrays_at (given_of l.files) (known_of l.progress) l.section l.first (l.count - l.counter) l.lexer
-    ≡ field_arrays_at (given_of l.fn.files) (known_of l.fn.progress) l.fn.section true l.fn.count l.fn.lexer
+    field_arrays_at (given_of l.files) (known_of l.progress) l.association l.first (l.count - l.counter) l.lexer
+    ≡ field_arrays_at (given_of l.fn.files) (known_of l.fn.progress) l.fn.association true l.fn.count l.fn.lexer
