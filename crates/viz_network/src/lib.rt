@@ -1,0 +1,18 @@
+//! Networks: nodes of fourteen kinds, their connections, parameters and stamps, and the edits that
+//! change them.
+//!
+//! Contract: an edit gives just the network of its definition, or is refused as the definition
+//! refuses it and changes nothing. Definitions: `specs/Edits.antt`, `specs/Kinds.antt`,
+//! `specs/Cone.antt`; the rules are those of docs/FORMATS.md, "Edits" and "Kinds of node".
+#![tactic(auto)]
+
+mod assign;
+mod kind;
+mod param;
+mod range;
+mod settings;
+
+pub use kind::Kind;
+pub use param::{Param, Value};
+pub use range::{Range, allows, range_of};
+pub use settings::{Op, Settings};
