@@ -1,0 +1,3 @@
+pub mod ChangeLemmas
+pub mod RankLemmas
+pub mod UsedLemmas

@@ -1,3 +1,10 @@
+pub mod Edits
+pub mod Applies
+pub mod EqualStamps
+pub mod History
+pub mod Cone
+pub mod Network
 pub mod Kinds
 pub mod Values
 pub mod Settings
+pub mod Steps

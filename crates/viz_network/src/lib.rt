@@ -7,12 +7,21 @@
 #![tactic(auto)]
 
 mod assign;
+mod edit;
+mod fault;
 mod kind;
+mod node;
+mod nodes;
 mod param;
 mod range;
+mod refusal;
 mod settings;
 
+pub use edit::Edit;
+pub use fault::{Cause, Fault, Stop};
 pub use kind::Kind;
+pub use node::Node;
 pub use param::{Param, Value};
 pub use range::{Range, allows, range_of};
+pub use refusal::{ApplyStop, Refusal};
 pub use settings::{Op, Settings};
