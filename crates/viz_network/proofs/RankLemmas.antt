@@ -137,3 +137,16 @@ module _ (net : Network) (up : IsAscending net) (id : ℕ) where
           let l : i ≤ j = grind (arith, nat_tests) in
           let greater : id < e.1.id.0 = ranked e.1.id.0 id Greater (sym (subst (λ (f : List ℕ × Node). nat_cmp f.1.id.0 id ≡ Greater) h (point.1 j e l (slice_get_within net j e at)))) in
           omega (arith, greater, same)
+
+-- a rank is below the number of nodes
+pub rank_within : (net : Network) (id i : ℕ) → rank_of net id ≡ Some i → i < length net
+rank_within [] id i r = let bad : ⊥ = cc in absurd bad
+rank_within (n ∷ net) id i r = by (nat_eq id n.1.id.0) r (rank_within net id)
+  where
+    by : (b : Bool) → cond b (Some 0) (option_map suc (rank_of net id)) ≡ Some i → ((k : ℕ) → rank_of net id ≡ Some k → k < length net) → i < suc (length net)
+    by true q rest = let zeroth : 0 ≡ i = cc in omega (arith, zeroth)
+    by false q rest = inner (rank_of net id) refl q
+      where
+        inner : (o : Option ℕ) → rank_of net id ≡ o → option_map suc o ≡ Some i → i < suc (length net)
+        inner None s p = let bad : ⊥ = cc in absurd bad
+        inner (Some k) s p = let next : suc k ≡ i = cc in omega (arith, next, rest k s)

@@ -16,6 +16,7 @@ mod param;
 mod range;
 mod refusal;
 mod settings;
+mod sweep;
 
 pub use edit::Edit;
 pub use fault::{Cause, Fault, Stop};
