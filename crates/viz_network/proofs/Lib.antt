@@ -6,3 +6,4 @@ pub mod TaleLemmas
 pub mod ConnectLemmas
 pub mod ToldLemmas
 pub mod OrderLemmas
+pub mod PartLemmas

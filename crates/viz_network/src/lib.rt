@@ -13,6 +13,7 @@ mod kind;
 mod node;
 mod nodes;
 mod param;
+mod part;
 mod range;
 mod refusal;
 mod settings;
