@@ -44,7 +44,7 @@ change_node f keeps (e ∷ net) name b h x m at = by (pointwise nat_eq name e.0)
         inner true r = inl r
         inner false r = rest p x m r
 
-or_false : (a b : Bool) → (a || b) ≡ false → (a ≡ false) × (b ≡ false)
+pub or_false : (a b : Bool) → (a || b) ≡ false → (a ≡ false) × (b ≡ false)
 or_false false b h = (refl, h)
 or_false true b h = absurd (true≢false h)
 

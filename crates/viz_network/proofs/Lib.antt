@@ -7,3 +7,6 @@ pub mod ConnectLemmas
 pub mod ToldLemmas
 pub mod OrderLemmas
 pub mod PartLemmas
+pub mod EditLemmas
+pub mod RemoveLemmas
+pub mod PartedLemmas

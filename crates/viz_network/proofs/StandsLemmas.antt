@@ -25,7 +25,7 @@ Has-filter p (y ∷ xs) x t (inr h) = by (p y) (Has-filter p xs x t h)
     by true k = inr k
     by false k = k
 
-filter-snoc : (p : NodeId → Bool) (xs : List NodeId) (x : NodeId) → filter p (xs ++ x ∷ []) ≡ filter p xs ++ cond (p x) (x ∷ []) []
+pub filter-snoc : (p : NodeId → Bool) (xs : List NodeId) (x : NodeId) → filter p (xs ++ x ∷ []) ≡ filter p xs ++ cond (p x) (x ∷ []) []
 filter-snoc p [] x = refl
 filter-snoc p (y ∷ xs) x = by (p y) (filter-snoc p xs x)
   where
