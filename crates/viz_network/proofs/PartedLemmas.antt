@@ -1,5 +1,6 @@
 -- A connection keeps an order of all nodes, parted by what lies downstream of its end.
-use Rattle.std.proofs.Common.{◌≡◌, ℕ, zero, suc, ◌+◌, ◌<◌, ◌≤◌, Bool, true, false, not, cond, filter, nat_eq, List, [], ◌∷◌, ◌++◌, length, length-append, slice_get, Option, None, Some, IsSome, refl, sym, ap, subst, ◌∙◌, arith}
+use Rattle.std.proofs.Common.{◌≡◌, ℕ, zero, suc, ◌+◌, ◌<◌, ◌≤◌, Bool, true, false, not, cond, filter, nat_eq, List, [], ◌∷◌, ◌++◌, length, length-append, take, slice_get, Option, None, Some, IsSome, refl, sym, ap, subst, ◌∙◌, arith}
+use Rattle.std.proofs.lemmas.Grind.{common_steps}
 use Rattle.std.proofs.lemmas.List.Filters.{length-filter_both}
 use Rattle.std.proofs.lemmas.Option.{slice_get_within}
 use Rattle.viz_base.specs.declared.node.NodeId.{NodeId}
@@ -25,7 +26,7 @@ parted_same p q xs h =
     ap (λ l. l ++ filter p xs) (filter_same (λ x. not (p x)) (λ x. not (q x)) xs (λ k x at. ap not (h k x at)))
     ∙ ap (λ l. filter (λ x. not (q x)) xs ++ l) (filter_same p q xs h)
 
-parted_long : (p : NodeId → Bool) (xs : List NodeId) → length (parted p xs) ≡ length xs
+pub parted_long : (p : NodeId → Bool) (xs : List NodeId) → length (parted p xs) ≡ length xs
 parted_long p xs = omega (arith, length-append (filter (λ x. not (p x)) xs) (filter p xs), length-filter_both p (λ x. not (p x)) (λ x. refl) xs)
 
 has_parted : (p : NodeId → Bool) (xs : List NodeId) (x : NodeId) → Has xs x → Has (parted p xs) x
@@ -65,3 +66,7 @@ module _ (net : Network) (order : List NodeId) (o : IsOrder net order) where
 
       same : parted (is_marked b.id.0 net marks) order ≡ parted (is_late net b.id.0) order
       same = parted_same (is_marked b.id.0 net marks) (is_late net b.id.0) order (λ k x place. marked_late b.id.0 marks known x (let n = t.each k x place in is_some_of (node_of net x.0) n.0 n.1))
+
+-- a whole list that is written over another of its length
+pub written : {A : Type 0} (n : ℕ) (xs more : List A) → length xs ≡ n → take n (xs ++ more) ≡ xs
+written n xs more e = ap (λ k. take k (xs ++ more)) (sym e) ∙ grind (arith, common_steps)

@@ -18,6 +18,11 @@ Applies (Ok done) old new made = made ≡ Ok new
 Applies (Err (Refused r)) old new made = (made ≡ Err r) × (new ≡ old)
 Applies (Err Memory) old new made = IsAccepted made × (new ≡ old)
 
+-- the same of an edit that takes no memory
+abbrev pub Decides : Result (Unit {0}) Refusal → Network → Network → Result Network Refusal → Type 0
+Decides (Ok done) old new made = made ≡ Ok new
+Decides (Err r) old new made = (made ≡ Err r) × (new ≡ old)
+
 -- the position is past the Add and the stamp of each node
 abbrev pub IsPast : ℕ → Network → Type 0
 IsPast at net = AllByRecursion (λ (n : List ℕ × Node). (n.1.id.0 < at) × (n.1.stamp < at)) net

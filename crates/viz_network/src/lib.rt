@@ -7,6 +7,7 @@
 #![tactic(auto)]
 
 mod assign;
+mod changes;
 mod edit;
 mod fault;
 mod kind;
