@@ -2,12 +2,12 @@
 use Rattle.std.proofs.Common.{◌≡◌, ℕ, zero, suc, ◌+◌, ◌<◌, ◌≤◌, Bool, true, false, cond, nat_eq, ◌⊎◌, inl, inr, List, [], ◌∷◌, ◌++◌, length, set, get_or, slice_get, Option, None, Some, IsSome, zero-add, refl, sym, ap, subst, ◌∙◌, arith}
 use Rattle.std.proofs.lemmas.Option.{slice_get_within, slice_get-get_or, get_or_from_slice_get}
 use Rattle.std.specs.List.{AllByRecursion}
-use Rattle.std.specs.Option.{option_map_or}
+use Rattle.std.specs.Option.{option_map, option_map_or}
 use Rattle.std.specs.Map.{values_of}
 use Rattle.viz_base.specs.declared.node.NodeId.{NodeId}
 use Rattle.viz_network.specs.declared.node.Node.{Node}
 use Rattle.viz_network.specs.Network.{Network, node_of}
-use Rattle.viz_network.specs.Cone.{total, above}
+use Rattle.viz_network.specs.Cone.{Tree, grow, total, above, newest, cone_of, stamp_of}
 use Rattle.viz_network.specs.Steps.Order.{Has, Stands, IsBefore, IsOrder, IsTale, rank_of}
 use Rattle.viz_network.specs.Steps.Marks.{IsTold, told, ports_told}
 use Rattle.viz_network.proofs.StandsLemmas.{by_places}
@@ -92,3 +92,10 @@ swept_more join start own neutral net order o k r d table n v l size known rank 
     let small : k < 256 = omega (arith, l, t.short) in
     let within : r < length table = omega (arith, rank_within net x.0 r rank, size, o.few) in
     told_more join start own neutral net order t k small table known x r v here rank within (is ∙ next_value join start own neutral net order t k small table known x n here found)
+
+-- the stamp of a node that is there
+pub stamp_there : (net : Network) (id : ℕ) → IsSome (node_of net id) → stamp_of net id ≡ Some (newest (cone_of net id))
+stamp_there net id h =
+    let n = some_of (node_of net id) h in
+    let tree : Node → Tree = λ v. (v, grow (above 255 net) v.inputs) in
+    ap (λ o. option_map (λ t. newest (Some t)) (option_map tree o)) n.1 ∙ sym (ap (λ o. Some (newest (option_map tree o))) n.1)

@@ -4,6 +4,7 @@ pub mod EqualStamps
 pub mod History
 pub mod Cone
 pub mod Network
+pub mod Readers
 pub mod Kinds
 pub mod Values
 pub mod Settings

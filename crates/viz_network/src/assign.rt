@@ -180,7 +180,8 @@ fn rates(n: &[i64; 8]) -> Settings
     }
 }
 
-fn one(n: i64) -> Option<Value>
+/// One number.
+pub fn one(n: i64) -> Option<Value>
     ensures { result ≡ single n }
 {
     numbers(1, [n, 0, 0, 0, 0, 0, 0, 0])

@@ -1,9 +1,7 @@
 //! The edits, on the nodes and on an order in which each node stands behind what feeds it.
 
-ghost use Rattle.std.specs.Prelude.{◌≡◌, ◌≤◌, ◌<◌, ◌++◌, ◌∷◌, [], IsTrue, OnOk, OnErr, None, Some, not, filter, length, nat_eq};
+ghost use Rattle.std.specs.Prelude.{◌≡◌, ◌++◌, ◌∷◌, [], OnOk, OnErr, None, Some, not, filter, nat_eq};
 ghost use Rattle.viz_network.specs.Network.{named, without};
-ghost use Rattle.viz_network.specs.Kinds.{has_port};
-ghost use Rattle.viz_network.specs.Settings.{kind_of};
 ghost use Rattle.viz_network.specs.Edits.{apply, fresh, is_file as loadable};
 ghost use Rattle.viz_network.specs.Applies.{Applies, Decides, IsPast};
 ghost use Rattle.viz_network.specs.Steps.Order.{IsOrder};
@@ -123,7 +121,7 @@ pub fn connect(
     let Some(target) = node_named(nodes, to) else {
         return Err(Refusal::Unknown);
     };
-    if !has_port_of(&target.settings, port) {
+    if !target.settings.has_port(port) {
         return Err(Refusal::NoPort);
     }
     let target = target.id;
@@ -134,13 +132,6 @@ pub fn connect(
     part(nodes, order, &marks, target);
     put_connection(nodes, to, at, port, Some(source));
     Ok(())
-}
-
-fn has_port_of(settings: &Settings, port: u8) -> bool
-    ensures value { result ≡ has_port (kind_of settings.now) port }
-    ensures within { IsTrue result → port ≤ 8 }
-{
-    1 <= port && port <= settings.kind().ports()
 }
 
 /// Empties a port.
@@ -159,7 +150,7 @@ pub fn disconnect(
     let Some(target) = node_named(nodes, to) else {
         return Err(Refusal::Unknown);
     };
-    if !has_port_of(&target.settings, port) {
+    if !target.settings.has_port(port) {
         return Err(Refusal::NoPort);
     }
     put_connection(nodes, to, at, port, None);
