@@ -17,7 +17,7 @@ use Rattle.viz_network.proofs.StandsLemmas.{Has-left, Has-right, Has-filter, Sta
 use Rattle.viz_network.proofs.ConnectLemmas.{change_node, or_false}
 use Rattle.viz_network.proofs.TaleLemmas.{node_id}
 
-all_push : {A : Type 0} (P : A → Type 0) (xs : List A) (e : A) → AllByRecursion P xs → P e → AllByRecursion P (xs ++ e ∷ [])
+pub all_push : {A : Type 0} (P : A → Type 0) (xs : List A) (e : A) → AllByRecursion P xs → P e → AllByRecursion P (xs ++ e ∷ [])
 all_push P [] e h p = (p, tt)
 all_push P (x ∷ xs) e h p = (h.0, all_push P xs e h.1 p)
 
@@ -32,7 +32,7 @@ stands_map old new h front (x ∷ xs) s =
 
 -- one node more
 
-node_front : (net : Network) (e : List ℕ × Node) (x : ℕ) (n : Node) → node_of net x ≡ Some n → node_of (net ++ e ∷ []) x ≡ Some n
+pub node_front : (net : Network) (e : List ℕ × Node) (x : ℕ) (n : Node) → node_of net x ≡ Some n → node_of (net ++ e ∷ []) x ≡ Some n
 node_front [] e x n h = let bad : ⊥ = cc in absurd bad
 node_front (d ∷ net) e x n h = by (nat_eq x d.1.id.0) h (node_front net e x n)
   where
@@ -40,7 +40,7 @@ node_front (d ∷ net) e x n h = by (nat_eq x d.1.id.0) h (node_front net e x n)
     by true p rest = p
     by false p rest = rest p
 
-node_back : (net : Network) (e : List ℕ × Node) (x : ℕ) (n : Node) → node_of (net ++ e ∷ []) x ≡ Some n → (node_of net x ≡ Some n) ⊎ (e.1 ≡ n)
+pub node_back : (net : Network) (e : List ℕ × Node) (x : ℕ) (n : Node) → node_of (net ++ e ∷ []) x ≡ Some n → (node_of net x ≡ Some n) ⊎ (e.1 ≡ n)
 node_back [] e x n h = by (nat_eq x e.1.id.0) h
   where
     by : (b : Bool) → cond b (Some e.1) None ≡ Some n → (None ≡ Some n) ⊎ (e.1 ≡ n)

@@ -10,3 +10,7 @@ pub mod PartLemmas
 pub mod EditLemmas
 pub mod RemoveLemmas
 pub mod PartedLemmas
+pub mod StampLemmas
+pub mod SinceLemmas
+pub mod SoundLemmas
+pub mod HistoryLemmas

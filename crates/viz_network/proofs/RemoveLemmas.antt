@@ -47,7 +47,7 @@ without_long (e ∷ net) name b h = by (pointwise nat_eq name e.0) h (without_lo
     by true p rest = refl
     by false p rest = ap suc (rest p)
 
-without_all : (P : (List ℕ × Node) → Type 0) (net : Network) (name : List ℕ) → AllByRecursion P net → AllByRecursion P (without net name)
+pub without_all : (P : (List ℕ × Node) → Type 0) (net : Network) (name : List ℕ) → AllByRecursion P net → AllByRecursion P (without net name)
 without_all P [] name h = tt
 without_all P (e ∷ net) name h = by (pointwise nat_eq name e.0) (without_all P net name h.1)
   where
@@ -64,7 +64,7 @@ without_ascending (e ∷ net) name up = by (pointwise nat_eq name e.0) (without_
     by false a r = (a, r)
 
 -- another node stays
-without_other : (net : Network) (name : List ℕ) (b : Node) → named net name ≡ Some b → (x : ℕ) (m : Node) → node_of net x ≡ Some m → nat_eq b.id.0 x ≡ false → node_of (without net name) x ≡ Some m
+pub without_other : (net : Network) (name : List ℕ) (b : Node) → named net name ≡ Some b → (x : ℕ) (m : Node) → node_of net x ≡ Some m → nat_eq b.id.0 x ≡ false → node_of (without net name) x ≡ Some m
 without_other [] name b h x m at d = let bad : ⊥ = cc in absurd bad
 without_other (e ∷ net) name b h x m at d = by (pointwise nat_eq name e.0) h (without_other net name b)
   where
@@ -93,7 +93,7 @@ above_found (e ∷ net) a x m h at = by (nat_eq x e.1.id.0) refl at (above_found
     by false t q rest = rest q
 
 -- a node that is left was there, and is another one
-without_back : (net : Network) (name : List ℕ) (b : Node) → IsAscending net → named net name ≡ Some b → (x : ℕ) (m : Node) → node_of (without net name) x ≡ Some m
+pub without_back : (net : Network) (name : List ℕ) (b : Node) → IsAscending net → named net name ≡ Some b → (x : ℕ) (m : Node) → node_of (without net name) x ≡ Some m
     → (node_of net x ≡ Some m) × (b.id.0 ≢ x)
 without_back [] name b up h x m at = let bad : ⊥ = cc in absurd bad
 without_back (e ∷ net) name b up h x m at = by (pointwise nat_eq name e.0) h at (without_back net name b up.1) (above_named net name b e.1.id.0 up.0)
@@ -116,7 +116,7 @@ without_back (e ∷ net) name b up h x m at = by (pointwise nat_eq name e.0) h a
         inner true t r = (r, λ one. absurd (omega (arith, one, above p, eqb-true x e.1.id.0 t)))
         inner false t r = rest p x m r
 
-unused : (id : ℕ) (net : Network) (x : ℕ) (n : Node) → is_used id net ≡ false → node_of net x ≡ Some n → is_input id n.inputs ≡ false
+pub unused : (id : ℕ) (net : Network) (x : ℕ) (n : Node) → is_used id net ≡ false → node_of net x ≡ Some n → is_input id n.inputs ≡ false
 unused id [] x n u h = let bad : ⊥ = cc in absurd bad
 unused id (e ∷ net) x n u h =
     let both = or_false (is_input id e.1.inputs) (is_used id net) u in
