@@ -7,7 +7,7 @@ use Rattle.std.specs.Map.{lookup, remove_entry}
 use Rattle.std.specs.Cmp.Lexicographic.{pointwise}
 use Rattle.viz_base.specs.declared.node.NodeId.{NodeId}
 use Rattle.viz_network.specs.declared.node.Node.{Node}
-use Rattle.viz_network.specs.declared.kind.Kind.{Kind}
+use Rattle.viz_kinds.specs.declared.kind.Kind.{Kind}
 use Rattle.viz_network.specs.Network.{Network, named, node_of, change, without}
 use Rattle.viz_network.specs.Applies.{IsPast}
 use Rattle.viz_network.specs.Edits.{fresh, is_input, is_used}

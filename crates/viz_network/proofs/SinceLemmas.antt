@@ -11,9 +11,9 @@ use Rattle.viz_network.specs.declared.refusal.Refusal.{Refusal}
 use Rattle.viz_network.specs.declared.refusal.Refusal.TheVariants.{Unknown, Exists, TooManyNodes, InUse, NoPort, WouldCycle, NoParam, BadValue}
 use Rattle.viz_network.specs.Network.{Network, named, node_of, change, without}
 use Rattle.viz_network.specs.Edits.{apply, known, unless, connected, valued, loaded, fresh, is_used, is_file}
-use Rattle.viz_network.specs.Kinds.{has_port, has_param}
-use Rattle.viz_network.specs.Settings.{kind_of}
-use Rattle.viz_network.specs.Values.{is_value}
+use Rattle.viz_kinds.specs.Kinds.{has_port, has_param}
+use Rattle.viz_kinds.specs.Settings.{kind_of}
+use Rattle.viz_kinds.specs.Values.{is_value}
 use Rattle.viz_network.specs.Cone.{nodes_limit, cone_of, has_node}
 use Rattle.viz_network.specs.History.{pick, after}
 use Rattle.viz_network.specs.Steps.Since.{Since}

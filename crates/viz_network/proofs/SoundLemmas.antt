@@ -6,15 +6,15 @@ use Rattle.std.specs.Map.{lookup}
 use Rattle.std.specs.Cmp.Lexicographic.{pointwise}
 use Rattle.std.proofs.lemmas.Bool.{eqb-true}
 use Rattle.viz_base.specs.declared.node.NodeId.{NodeId}
-use Rattle.viz_network.specs.declared.kind.Kind.{Kind}
+use Rattle.viz_kinds.specs.declared.kind.Kind.{Kind}
 use Rattle.viz_network.specs.declared.node.Node.{Node}
 use Rattle.viz_network.specs.declared.edit.Edit.{Edit}
 use Rattle.viz_network.specs.declared.edit.Edit.TheVariants.{Add, Remove, Connect, Disconnect, Set, Load}
 use Rattle.viz_network.specs.declared.refusal.Refusal.{Refusal}
 use Rattle.viz_network.specs.declared.refusal.Refusal.TheVariants.{Unknown, Exists, TooManyNodes, InUse, NoPort, WouldCycle, NoParam, BadValue}
-use Rattle.viz_network.specs.Kinds.{has_port, has_param}
-use Rattle.viz_network.specs.Settings.{kind_of}
-use Rattle.viz_network.specs.Values.{is_value}
+use Rattle.viz_kinds.specs.Kinds.{has_port, has_param}
+use Rattle.viz_kinds.specs.Settings.{kind_of}
+use Rattle.viz_kinds.specs.Values.{is_value}
 use Rattle.viz_network.specs.Network.{Network, named, node_of, change, without}
 use Rattle.viz_network.specs.Cone.{nodes_limit, cone_of, has_node}
 use Rattle.viz_network.specs.Edits.{apply, known, unless, connected, valued, loaded, fresh, is_input, is_used, is_file}

@@ -2,18 +2,18 @@
 use Rattle.std.specs.Prelude.{ℕ, ◌-◌, Bool, true, false, not, nat_eq, nat_le, ◌||◌, if◌then◌else◌, List, [], ◌∷◌, ◌++◌, length, replicate, slice_set, Option, None, Some, is_some, Result, Ok, Err}
 use Rattle.std.specs.Option.{option_map_or}
 use Rattle.viz_base.specs.declared.node.NodeId.{NodeId}
-use Rattle.viz_network.specs.declared.kind.Kind.{Kind}
-use Rattle.viz_network.specs.declared.kind.Kind.TheVariants as kind
-use Rattle.viz_network.specs.declared.param.Param.{Param}
-use Rattle.viz_network.specs.declared.param.Value.{Value}
+use Rattle.viz_kinds.specs.declared.kind.Kind.{Kind}
+use Rattle.viz_kinds.specs.declared.kind.Kind.TheVariants as kind
+use Rattle.viz_kinds.specs.declared.param.Param.{Param}
+use Rattle.viz_kinds.specs.declared.param.Value.{Value}
 use Rattle.viz_network.specs.declared.node.Node.{Node}
 use Rattle.viz_network.specs.declared.edit.Edit.{Edit}
 use Rattle.viz_network.specs.declared.edit.Edit.TheVariants.{Add, Remove, Connect, Disconnect, Set, Load}
 use Rattle.viz_network.specs.declared.refusal.Refusal.{Refusal}
 use Rattle.viz_network.specs.declared.refusal.Refusal.TheVariants.{Exists, Unknown, NoPort, NoParam, BadValue, WouldCycle, InUse, TooManyNodes}
-use Rattle.viz_network.specs.Kinds.{has_port, has_param}
-use Rattle.viz_network.specs.Values.{is_value}
-use Rattle.viz_network.specs.Settings.{defaults, kind_of, with, release_with}
+use Rattle.viz_kinds.specs.Kinds.{has_port, has_param}
+use Rattle.viz_kinds.specs.Values.{is_value}
+use Rattle.viz_kinds.specs.Settings.{defaults, kind_of, with, release_with}
 use Rattle.viz_network.specs.Network.{Network, named, change, without}
 use Rattle.viz_network.specs.Cone.{nodes_limit, cone_of, has_node}
 

@@ -5,7 +5,4 @@ pub mod History
 pub mod Cone
 pub mod Network
 pub mod Readers
-pub mod Kinds
-pub mod Values
-pub mod Settings
 pub mod Steps

@@ -1,12 +1,12 @@
 -- What the readers tell of a node (docs/FORMATS.md, "Kinds of node").
 use Rattle.std.specs.Prelude.{ℕ, if◌then◌else◌, Option, None}
 use Rattle.viz_base.specs.declared.node.NodeId.{NodeId}
-use Rattle.viz_network.specs.declared.kind.Kind.{Kind}
-use Rattle.viz_network.specs.declared.param.Param.{Param}
-use Rattle.viz_network.specs.declared.param.Value.{Value}
+use Rattle.viz_kinds.specs.declared.kind.Kind.{Kind}
+use Rattle.viz_kinds.specs.declared.param.Param.{Param}
+use Rattle.viz_kinds.specs.declared.param.Value.{Value}
 use Rattle.viz_network.specs.declared.node.Node.{Node}
-use Rattle.viz_network.specs.Kinds.{has_port}
-use Rattle.viz_network.specs.Settings.{kind_of, value_of}
+use Rattle.viz_kinds.specs.Kinds.{has_port}
+use Rattle.viz_kinds.specs.Settings.{kind_of, value_of}
 use Rattle.viz_network.specs.Network.{input_of}
 
 -- the kind

@@ -7,17 +7,14 @@ ghost use Rattle.viz_network.specs.Applies.{Applies, Decides, IsPast};
 ghost use Rattle.viz_network.specs.Steps.Order.{IsOrder};
 ghost use Rattle.viz_network.specs.declared.edit.Edit.{Edit as Wanted};
 
-use crate::kind::Kind;
 use crate::node::Node;
 use crate::nodes::{Nodes, feeds_another, node_named, put_connection, put_file, put_value};
-use crate::param::{Param, Value};
 use crate::part::part;
-use crate::range::allows;
 use crate::refusal::{ApplyStop, Refusal};
-use crate::settings::Settings;
 use crate::sweep::{mark_of, marks_below};
 use std::alloc::AllocError;
 use viz_base::{Bytes, NODES, NodeId, Shared, Word};
+use viz_kinds::{Kind, Param, Settings, Value, allows};
 
 fn new_node(at: u32, kind: Kind) -> Node
     ensures { result ≡ fresh at kind }
@@ -121,7 +118,7 @@ pub fn connect(
     let Some(target) = node_named(nodes, to) else {
         return Err(Refusal::Unknown);
     };
-    if !target.settings.has_port(port) {
+    if !target.settings.kind().has_port(port) {
         return Err(Refusal::NoPort);
     }
     let target = target.id;
@@ -150,7 +147,7 @@ pub fn disconnect(
     let Some(target) = node_named(nodes, to) else {
         return Err(Refusal::Unknown);
     };
-    if !target.settings.has_port(port) {
+    if !target.settings.kind().has_port(port) {
         return Err(Refusal::NoPort);
     }
     put_connection(nodes, to, at, port, None);

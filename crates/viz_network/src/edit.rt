@@ -1,8 +1,7 @@
 //! Edits of a network.
 
-use crate::kind::Kind;
-use crate::param::{Param, Value};
 use viz_base::{Bytes, Shared, Word};
+use viz_kinds::{Kind, Param, Value};
 
 /// A change of a network. Nodes go by their names, ports by their numbers from 1.
 #[derive(Debug, Drop)]

@@ -10,16 +10,15 @@ ghost use Rattle.viz_network.specs.Applies.{Applies, IsPast};
 
 use crate::changes::{add, connect, disconnect, load, remove, set};
 use crate::edit::Edit;
-use crate::kind::Kind;
 use crate::node::Node;
 use crate::nodes::{Nodes, name_at, node_at, node_named};
-use crate::param::{Param, Value};
 use crate::refusal::ApplyStop;
 use crate::sweep::stamp_in;
 use indexmap::IndexMap;
 use std::alloc::{AllocError, Global};
 use std::marker::Model;
 use viz_base::{Bytes, NodeId, Word};
+use viz_kinds::{Kind, Param, Value};
 
 /// Nodes with their names and connections, without a cycle. Contracts see the nodes in the order of
 /// their Adds, with their names.

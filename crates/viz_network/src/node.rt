@@ -1,15 +1,11 @@
 //! One node of a network.
 
-ghost use Rattle.std.specs.Prelude.{◌≡◌, ◌≤◌, IsTrue, IfOk};
-ghost use Rattle.viz_network.specs.Kinds.{has_port as ported};
-ghost use Rattle.viz_network.specs.Settings.{kind_of};
+ghost use Rattle.std.specs.Prelude.{◌≡◌, IfOk};
 ghost use Rattle.viz_network.specs.Readers.{input_at, value_at};
 
-use crate::assign::one;
-use crate::param::{Param, Value};
-use crate::settings::Settings;
 use std::alloc::AllocError;
 use viz_base::{Bytes, NodeId, Shared};
+use viz_kinds::{Param, Settings, Value};
 
 /// A node without its name.
 #[derive(Debug, Drop)]
@@ -28,22 +24,12 @@ pub struct Node {
     pub stamp: u32,
 }
 
-impl Settings {
-    /// Whether the kind has a port of this number.
-    pub fn has_port(&self, port: u8) -> bool
-        ensures value { result ≡ ported (kind_of self.now) port }
-        ensures within { IsTrue result → port ≤ 8 }
-    {
-        1 <= port && port <= self.kind().ports()
-    }
-}
-
 impl Node {
     /// What feeds the port; None also where the kind has no such port.
     pub fn input(&self, port: u8) -> Option<NodeId>
         ensures { result ≡ input_at port self.now }
     {
-        if self.settings.has_port(port) {
+        if self.settings.kind().has_port(port) {
             self.inputs[port as usize - 1]
         } else {
             None
@@ -54,10 +40,7 @@ impl Node {
     pub fn value(&self, param: Param) -> Option<Value>
         ensures { result ≡ value_at param self.now }
     {
-        match param {
-            Param::Release => one(i64::from(self.release)),
-            _ => self.settings.value(param),
-        }
+        self.settings.value(self.release, param)
     }
 }
 

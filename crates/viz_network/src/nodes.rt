@@ -5,13 +5,12 @@ ghost use Rattle.std.specs.Option.{option_copied};
 ghost use Rattle.viz_network.specs.Network.{named, node_of, name_of, change, without};
 ghost use Rattle.viz_network.specs.Edits.{connected, valued, loaded, is_used, is_input};
 ghost use Rattle.viz_network.specs.EqualStamps.{IsAscending};
-ghost use Rattle.viz_network.specs.Settings.{release_with};
 ghost use Rattle.viz_network.specs.Steps.Order.{rank_of as ranked};
 
 use crate::node::Node;
-use crate::param::{Param, Value};
 use indexmap::IndexMap;
 use viz_base::{Bytes, NodeId, Shared, Word};
+use viz_kinds::{Param, Value, release_with};
 
 /// The nodes of a network by their names, in the order of their Adds.
 pub type Nodes = IndexMap<Word, Node>;
@@ -125,15 +124,6 @@ pub fn put_value(nodes: &mut Nodes, name: &Word, at: u32, param: Param, value: &
     };
     let node = &mut nodes[rank];
     node.settings = node.settings.with(param, value);
-    node.release = released(node.release, param, value);
+    node.release = release_with(node.release, param, value);
     node.stamp = at;
-}
-
-fn released(release: bool, param: Param, value: &Value) -> bool
-    ensures { result ≡ release_with release param value.now }
-{
-    match (param, value) {
-        (Param::Release, Value::Numbers { items, .. }) => items[0] == 1,
-        _ => release,
-    }
 }

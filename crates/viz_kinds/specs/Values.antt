@@ -3,11 +3,11 @@ use Rattle.std.specs.Prelude.{ℕ, Bool, true, false, not, nat_le, nat_eq, ◌&&
 use Rattle.std.specs.List.{list_all}
 use Rattle.std.specs.Ordering.{int_eq}
 use Rattle.std.specs.Cmp.Lexicographic.{pointwise}
-use Rattle.viz_network.specs.declared.param.Param.{Param}
-use Rattle.viz_network.specs.declared.param.Param.TheVariants as param
-use Rattle.viz_network.specs.declared.param.Value.{Value}
-use Rattle.viz_network.specs.declared.param.Value.TheVariants.{Numbers, Text}
-use Rattle.viz_network.specs.declared.range.Range.{Range}
+use Rattle.viz_kinds.specs.declared.param.Param.{Param}
+use Rattle.viz_kinds.specs.declared.param.Param.TheVariants as param
+use Rattle.viz_kinds.specs.declared.param.Value.{Value}
+use Rattle.viz_kinds.specs.declared.param.Value.TheVariants.{Numbers, Text}
+use Rattle.viz_kinds.specs.declared.range.Range.{Range}
 
 -- so many numbers, each from low to high
 abbrev pub row : ℕ → ℕ → ℤ → ℤ → Option Range

@@ -1,7 +1,7 @@
 //! The parameters of a node, typed by its kind.
 
 ghost use Rattle.std.specs.Prelude.{◌≡◌};
-ghost use Rattle.viz_network.specs.Settings.{kind_of, defaults};
+ghost use Rattle.viz_kinds.specs.Settings.{kind_of, defaults};
 
 use crate::kind::Kind;
 use viz_base::Pick;

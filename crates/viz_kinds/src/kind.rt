@@ -1,7 +1,7 @@
 //! The kinds of node.
 
-ghost use Rattle.std.specs.Prelude.{◌≡◌};
-ghost use Rattle.viz_network.specs.Kinds.{ports_of, has_param};
+ghost use Rattle.std.specs.Prelude.{◌≡◌, ◌≤◌, IsTrue};
+ghost use Rattle.viz_kinds.specs.Kinds.{ports_of, has_port as ported, has_param};
 
 use crate::param::Param;
 
@@ -49,6 +49,14 @@ impl Kind {
             Kind::Append => 8,
             _ => 1,
         }
+    }
+
+    /// Whether a node of this kind has a port of this number.
+    pub fn has_port(self, port: u8) -> bool
+        ensures value { result ≡ ported self port }
+        ensures within { IsTrue result → port ≤ 8 }
+    {
+        1 <= port && port <= self.ports()
     }
 
     /// Whether a node of this kind has the parameter.

@@ -2,9 +2,9 @@
 
 ghost use Rattle.std.specs.Prelude.{◌≡◌, ◌≤◌, ℕ};
 ghost use Rattle.viz_base.specs.Names.{IsName};
-ghost use Rattle.viz_network.specs.Settings.{natural, pick_of as picked, pick_text as picking, op_of as reckoned, op_text as reckoning, with as changed, with_numbers as numbered, with_text as texted, setting, boxed, rated, one as single};
+ghost use Rattle.viz_kinds.specs.Settings.{natural, pick_of as picked, pick_text as picking, op_of as reckoned, op_text as reckoning, with as changed, with_numbers as numbered, with_text as texted, release_with as released, setting, value_of, boxed, rated, one as single};
 ghost use Rattle.std.specs.Prelude.{codes, if◌then◌else◌, Some};
-ghost use Rattle.viz_network.specs.declared.param.Value.TheVariants.{Numbers, Text};
+ghost use Rattle.viz_kinds.specs.declared.param.Value.TheVariants.{Numbers, Text};
 
 use crate::param::{Param, Value};
 use crate::settings::{Op, Settings};
@@ -87,6 +87,16 @@ fn op_text(op: Op) -> Word
         Op::Sub => spelled(b"sub"),
         Op::Min => spelled(b"min"),
         Op::Max => spelled(b"max"),
+    }
+}
+
+/// Whether a node has release, after another value of the parameter.
+pub fn release_with(release: bool, param: Param, value: &Value) -> bool
+    ensures { result ≡ released release param value.now }
+{
+    match (param, value) {
+        (Param::Release, Value::Numbers { items, .. }) => items[0] == 1,
+        _ => release,
     }
 }
 
@@ -180,8 +190,7 @@ fn rates(n: &[i64; 8]) -> Settings
     }
 }
 
-/// One number.
-pub fn one(n: i64) -> Option<Value>
+fn one(n: i64) -> Option<Value>
     ensures { result ≡ single n }
 {
     numbers(1, [n, 0, 0, 0, 0, 0, 0, 0])
@@ -216,9 +225,19 @@ fn style_text(binary: bool) -> Word
 }
 
 impl Settings {
-    /// The value of the parameter; None where the kind hasn't it, and for release.
+    /// The value of the parameter of a node with these settings, and with release or without; None
+    /// where the kind hasn't the parameter.
+    pub fn value(&self, release: bool, param: Param) -> Option<Value>
+        ensures { result ≡ value_of self.now release param }
+    {
+        match param {
+            Param::Release => one(i64::from(release)),
+            _ => self.own_value(param),
+        }
+    }
+
     #[rattlefmt::skip]
-    pub fn value(&self, param: Param) -> Option<Value>
+    fn own_value(&self, param: Param) -> Option<Value>
         ensures { result ≡ setting self.now param }
     {
         match (self, param) {

@@ -3,17 +3,17 @@ use Rattle.std.specs.Prelude.{ℕ, Bool, true, false, ◌&&◌, if◌then◌else
 use Rattle.std.specs.Ordering.{int_eq}
 use Rattle.viz_base.specs.declared.node.Pick.{Pick}
 use Rattle.viz_base.specs.declared.node.Pick.TheVariants.{First, Zero, Named}
-use Rattle.viz_network.specs.declared.kind.Kind.{Kind}
-use Rattle.viz_network.specs.declared.kind.Kind.TheVariants as kind
-use Rattle.viz_network.specs.declared.param.Param.{Param}
-use Rattle.viz_network.specs.declared.param.Param.TheVariants as param
-use Rattle.viz_network.specs.declared.param.Value.{Value}
-use Rattle.viz_network.specs.declared.param.Value.TheVariants.{Numbers, Text}
-use Rattle.viz_network.specs.declared.settings.Op.{Op}
-use Rattle.viz_network.specs.declared.settings.Op.TheVariants as op
-use Rattle.viz_network.specs.declared.settings.Settings.{Settings}
-use Rattle.viz_network.specs.declared.settings.Settings.TheVariants as settings
-use Rattle.viz_network.specs.Values.{first_number, last_number, number, is_text}
+use Rattle.viz_kinds.specs.declared.kind.Kind.{Kind}
+use Rattle.viz_kinds.specs.declared.kind.Kind.TheVariants as kind
+use Rattle.viz_kinds.specs.declared.param.Param.{Param}
+use Rattle.viz_kinds.specs.declared.param.Param.TheVariants as param
+use Rattle.viz_kinds.specs.declared.param.Value.{Value}
+use Rattle.viz_kinds.specs.declared.param.Value.TheVariants.{Numbers, Text}
+use Rattle.viz_kinds.specs.declared.settings.Op.{Op}
+use Rattle.viz_kinds.specs.declared.settings.Op.TheVariants as op
+use Rattle.viz_kinds.specs.declared.settings.Settings.{Settings}
+use Rattle.viz_kinds.specs.declared.settings.Settings.TheVariants as settings
+use Rattle.viz_kinds.specs.Values.{first_number, last_number, number, is_text}
 
 -- the parameters of a new node
 abbrev pub defaults : Kind → Settings
