@@ -17,3 +17,5 @@ pub use param::{Param, Value};
 pub use range::{Range, allows, range_of};
 pub use settings::{Op, Settings};
 
+#[cfg(test)]
+mod tests;

@@ -1,12 +1,15 @@
 -- The networks of a history and of a longer one.
-use Rattle.std.proofs.Common.{◌≡◌, ℕ, zero, suc, ◌+◌, ◌<◌, ◌≤◌, List, [], ◌∷◌, ◌++◌, length, Option, None, Some, zero-add, refl, sym, ap, subst, ◌∙◌, arith}
+use Rattle.std.proofs.Common.{◌≡◌, ℕ, zero, suc, ◌+◌, ◌<◌, ◌≤◌, List, [], ◌∷◌, ◌++◌, length, Option, None, Some, Result, Ok, Err, zero-add, refl, sym, ap, subst, ◌∙◌, arith}
 use Rattle.std.specs.Option.{option_map}
 use Rattle.viz_network.specs.declared.node.Node.{Node}
 use Rattle.viz_network.specs.declared.edit.Edit.{Edit}
+use Rattle.viz_network.specs.declared.refusal.ApplyStop.{ApplyStop}
+use Rattle.viz_network.specs.declared.refusal.ApplyStop.TheVariants.{Refused, Memory}
 use Rattle.viz_network.specs.Network.{Network, node_of}
+use Rattle.viz_network.specs.Edits.{apply}
 use Rattle.viz_network.specs.Cone.{Tree, grow, above, cone_of, newest, stamp_of}
-use Rattle.viz_network.specs.Applies.{IsPast}
-use Rattle.viz_network.specs.History.{after, net_after, net_of}
+use Rattle.viz_network.specs.Applies.{Applies, IsPast}
+use Rattle.viz_network.specs.History.{pick, after, net_after, net_of}
 use Rattle.viz_network.specs.EqualStamps.{IsSound, EqualStamps}
 use Rattle.viz_network.specs.Steps.Since.{Since}
 use Rattle.viz_network.proofs.StampLemmas.{same_tree}
@@ -67,3 +70,9 @@ equal_stamps edits more id stamp old new =
     let b = stamped_node made id stamp (subst (λ net. stamp_of net id ≡ Some stamp) whole new) in
     let tree = same_tree p was made (since_later p p more was (omega arith) s) later.closed (up_to_node p was s.up_to) 256 id b.0 b.1 (b.2 ∙ sym a.2) in
     sym tree ∙ ap (λ net. cone_of net id) (sym whole)
+
+-- what apply leaves is sound at its position
+pub sound_applied : (p at : ℕ) (edit : Edit) (old new : Network) (answer : Result (Unit {0}) ApplyStop) → p < at → IsSound p old → Applies answer old new (apply at edit old) → IsSound at new
+sound_applied p at edit old new (Ok done) l s made = subst (IsSound at) (ap (pick old) made) (sound_after p at edit old l s)
+sound_applied p at edit old new (Err (Refused r)) l s made = subst (IsSound at) (sym made.1) (sound_more p at old (omega (arith, l)) s)
+sound_applied p at edit old new (Err Memory) l s made = subst (IsSound at) (sym made.1) (sound_more p at old (omega (arith, l)) s)

@@ -1,10 +1,12 @@
 //! What the networks of a history keep. A law is a function that does nothing: its contract holds of
 //! the definitions alone.
 
-ghost use Rattle.std.specs.Prelude.{◌≡◌, ◌+◌, ◌<◌, ℕ, List, length, Some};
+ghost use Rattle.std.specs.Prelude.{◌≡◌, ◌+◌, ◌<◌, ℕ, List, length, Result};
 ghost use Rattle.viz_network.specs.declared.edit.Edit.{Edit};
 ghost use Rattle.viz_network.specs.Network.{Network};
-ghost use Rattle.viz_network.specs.Applies.{IsPast};
+ghost use Rattle.viz_network.specs.Applies.{Applies, IsPast};
+ghost use Rattle.viz_network.specs.declared.refusal.ApplyStop.{ApplyStop};
+ghost use Rattle.viz_network.specs.Edits.{apply};
 ghost use Rattle.viz_network.specs.History.{after, net_of};
 ghost use Rattle.viz_network.specs.EqualStamps.{IsSound, EqualStamps};
 
@@ -15,6 +17,9 @@ pub fn networks_are_sound()
     ensures past { (edits : List Edit) → IsPast (length edits + 1) (net_of edits) }
     ensures step { (p at : ℕ) (edit : Edit) (net : Network) → p < at → IsSound p net
         → IsSound at (after at edit net) }
+    ensures applied { (p at : ℕ) (edit : Edit) (old new : Network)
+        (answer : Result (Unit {0}) ApplyStop) → p < at → IsSound p old
+        → Applies answer old new (apply at edit old) → IsSound at new }
 {}
 
 /// Where a node has equal stamps in the networks of a history and of a longer one, it has equal cones

@@ -24,3 +24,5 @@ pub use node::Node;
 pub use refusal::{ApplyStop, Refusal};
 pub use viz_kinds::{Kind, Op, Param, Settings, Value};
 
+#[cfg(test)]
+mod tests;
