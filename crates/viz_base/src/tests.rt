@@ -195,7 +195,10 @@ fn names_compare_by_their_bytes(rt: HostRuntime) -> Result<(), Fail> {
         assert!(rt; (a == b) == (want == Ordering::Equal), "{left} {right}");
         let mut seen = HashMap::new(rt.alloc());
         seen.insert(a, 1u8)?;
-        assert!(rt; seen.get(&b).is_some() == (want == Ordering::Equal), "{left} {right}");
+        assert!(rt;
+            seen.get(&b).is_some() == (want == Ordering::Equal),
+            "{left} {right}"
+        );
     }
     Ok(())
 }

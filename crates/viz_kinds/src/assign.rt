@@ -122,8 +122,13 @@ impl Settings {
             },
             (Settings::Crop { .. }, Param::Bounds) => bounds(n),
             (Settings::Sample { .. }, Param::Rate) => rates(n),
-            (Settings::Threshold { .. }, Param::Range) => Settings::Threshold { lo: n[0], hi: n[1] },
-            (Settings::Smooth { .. }, Param::Radius) => Settings::Smooth { radius: small(&n[0], 8) },
+            (Settings::Threshold { .. }, Param::Range) => Settings::Threshold {
+                lo: n[0],
+                hi: n[1],
+            },
+            (Settings::Smooth { .. }, Param::Radius) => Settings::Smooth {
+                radius: small(&n[0], 8),
+            },
             (Settings::Select { all, .. }, Param::Range) => Settings::Select {
                 lo: n[0],
                 hi: n[1],
@@ -211,7 +216,11 @@ fn text(word: Word) -> Option<Value>
 fn mode_text(all: bool) -> Word
     ensures { result ≡ (if all then codes "all" else codes "any") }
 {
-    if all { spelled(b"all") } else { spelled(b"any") }
+    if all {
+        spelled(b"all")
+    } else {
+        spelled(b"any")
+    }
 }
 
 fn style_text(binary: bool) -> Word

@@ -82,9 +82,7 @@ fn is_whole(param: Param, items: &[i64; 8]) -> bool
     ensures { result ≡ fits_rest param items.now }
 {
     match param {
-        Param::Bounds => {
-            items[0] <= items[1] && items[2] <= items[3] && items[4] <= items[5]
-        }
+        Param::Bounds => { items[0] <= items[1] && items[2] <= items[3] && items[4] <= items[5] }
         Param::Plane => items[0] != 0 || items[1] != 0 || items[2] != 0,
         _ => true,
     }
@@ -96,7 +94,10 @@ fn takes(param: Param, word: &Word) -> bool
     let text = word.bytes();
     match param {
         Param::Array => true,
-        Param::Op => text == b"add".as_slice() || text == b"sub".as_slice() || text == b"min".as_slice() || text == b"max".as_slice(),
+        Param::Op => text == b"add".as_slice()
+            || text == b"sub".as_slice()
+            || text == b"min".as_slice()
+            || text == b"max".as_slice(),
         Param::Mode => text == b"all".as_slice() || text == b"any".as_slice(),
         Param::Style => text == b"ascii".as_slice() || text == b"binary".as_slice(),
         _ => false,

@@ -18,25 +18,62 @@ pub enum Op {
 /// The parameters of a node, by its kind; release stands beside them.
 #[derive(Clone, Copy, PartialEq, Eq, Debug)]
 pub enum Settings {
-    File { array: Pick, unit: u8 },
-    Crop { x0: u32, x1: u32, y0: u32, y1: u32, z0: u32, z1: u32 },
-    Sample { x: u32, y: u32, z: u32 },
-    Threshold { lo: i64, hi: i64 },
-    Smooth { radius: u32 },
-    Arith { op: Op },
+    File {
+        array: Pick,
+        unit: u8,
+    },
+    Crop {
+        x0: u32,
+        x1: u32,
+        y0: u32,
+        y1: u32,
+        z0: u32,
+        z1: u32,
+    },
+    Sample {
+        x: u32,
+        y: u32,
+        z: u32,
+    },
+    Threshold {
+        lo: i64,
+        hi: i64,
+    },
+    Smooth {
+        radius: u32,
+    },
+    Arith {
+        op: Op,
+    },
     Tets,
-    Select { lo: i64, hi: i64, all: bool },
+    Select {
+        lo: i64,
+        hi: i64,
+        all: bool,
+    },
     /// The first `count` levels; the others are 0.
-    Contour { count: u8, levels: [i64; 8] },
-    Cut { a: i64, b: i64, c: i64, r: i64 },
+    Contour {
+        count: u8,
+        levels: [i64; 8],
+    },
+    Cut {
+        a: i64,
+        b: i64,
+        c: i64,
+        r: i64,
+    },
     Append,
     Boundary,
     Merge,
-    Writer { binary: bool, digits: u8 },
+    Writer {
+        binary: bool,
+        digits: u8,
+    },
 }
 
 impl Settings {
     /// The parameters of a new node.
+    #[rattlefmt::skip]
     pub fn new(kind: Kind) -> Settings
         ensures { result ≡ defaults kind }
     {

@@ -150,30 +150,72 @@ fn what_is_set_is_read_back(rt: HostRuntime) -> Result<(), Fail> {
     let rows = [
         (Kind::File, Param::Array, text("-")?),
         (Kind::File, Param::Array, text("density")?),
-        (Kind::File, Param::Unit, numbers(1, [9, 0, 0, 0, 0, 0, 0, 0])),
-        (Kind::Crop, Param::Bounds, numbers(6, [1, 2, 3, 4, 5, LAST, 0, 0])),
-        (Kind::Sample, Param::Rate, numbers(3, [2, 3, 1024, 0, 0, 0, 0, 0])),
-        (Kind::Threshold, Param::Range, numbers(2, [-7, 8, 0, 0, 0, 0, 0, 0])),
-        (Kind::Smooth, Param::Radius, numbers(1, [8, 0, 0, 0, 0, 0, 0, 0])),
+        (
+            Kind::File,
+            Param::Unit,
+            numbers(1, [9, 0, 0, 0, 0, 0, 0, 0]),
+        ),
+        (
+            Kind::Crop,
+            Param::Bounds,
+            numbers(6, [1, 2, 3, 4, 5, LAST, 0, 0]),
+        ),
+        (
+            Kind::Sample,
+            Param::Rate,
+            numbers(3, [2, 3, 1024, 0, 0, 0, 0, 0]),
+        ),
+        (
+            Kind::Threshold,
+            Param::Range,
+            numbers(2, [-7, 8, 0, 0, 0, 0, 0, 0]),
+        ),
+        (
+            Kind::Smooth,
+            Param::Radius,
+            numbers(1, [8, 0, 0, 0, 0, 0, 0, 0]),
+        ),
         (Kind::Arith, Param::Op, text("sub")?),
         (Kind::Arith, Param::Op, text("min")?),
         (Kind::Arith, Param::Op, text("max")?),
-        (Kind::Select, Param::Range, numbers(2, [1, -1, 0, 0, 0, 0, 0, 0])),
+        (
+            Kind::Select,
+            Param::Range,
+            numbers(2, [1, -1, 0, 0, 0, 0, 0, 0]),
+        ),
         (Kind::Select, Param::Mode, text("any")?),
-        (Kind::Contour, Param::Levels, numbers(2, [5, -6, 0, 0, 0, 0, 0, 0])),
-        (Kind::Cut, Param::Plane, numbers(4, [-1, 2, -3, 4, 0, 0, 0, 0])),
+        (
+            Kind::Contour,
+            Param::Levels,
+            numbers(2, [5, -6, 0, 0, 0, 0, 0, 0]),
+        ),
+        (
+            Kind::Cut,
+            Param::Plane,
+            numbers(4, [-1, 2, -3, 4, 0, 0, 0, 0]),
+        ),
         (Kind::Writer, Param::Style, text("binary")?),
         (Kind::Writer, Param::Digits, numbers(1, [0; 8])),
     ];
     for (kind, param, value) in rows {
-        assert!(rt; kind.has(param) && allows(param, &value), "{kind:?} {param:?}");
+        assert!(rt;
+            kind.has(param) && allows(param, &value),
+            "{kind:?} {param:?}"
+        );
         let settings = Settings::new(kind).with(param, &value);
         assert_eq!(rt; settings.kind(), kind);
-        assert_eq!(rt; settings.value(false, param), Some(value), "{kind:?} {param:?}");
+        assert_eq!(rt;
+            settings.value(false, param),
+            Some(value),
+            "{kind:?} {param:?}"
+        );
     }
     let one = numbers(1, [1, 0, 0, 0, 0, 0, 0, 0]);
     let release = release_with(false, Param::Release, &one);
-    assert_eq!(rt; Settings::new(Kind::Merge).value(release, Param::Release), Some(one));
+    assert_eq!(rt;
+        Settings::new(Kind::Merge).value(release, Param::Release),
+        Some(one)
+    );
     assert!(rt; release_with(true, Param::Unit, &one));
     Ok(())
 }

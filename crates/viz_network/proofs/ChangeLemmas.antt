@@ -1,5 +1,5 @@
 -- A change under a name is an insertion, and a write at its index.
-use Rattle.std.proofs.Common.{◌≡◌, ℕ, Bool, true, false, cond, nat_eq, position, List, [], ◌∷◌, Option, None, Some, is_some, slice_get, refl, sym, ap, ◌∙◌}
+use Rattle.std.proofs.Common.{◌≡◌, ℕ, Bool, true, false, cond, nat_eq, position, List, [], ◌∷◌, Option, None, Some, is_some, slice_get, refl, ap, ◌∙◌}
 use Rattle.std.specs.Map.{keys_of, values_of, lookup}
 use Rattle.std.specs.Cmp.Lexicographic.{pointwise}
 use Rattle.indexmap.specs.IndexMap.{set_value_at, insert_entry}

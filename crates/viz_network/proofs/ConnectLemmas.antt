@@ -1,5 +1,5 @@
 -- After a connection the nodes stand in order, those downstream of its end behind all others.
-use Rattle.std.proofs.Common.{◌≡◌, ℕ, zero, suc, ◌+◌, ◌<◌, ◌≤◌, Bool, true, false, not, cond, filter, ◌||◌, nat_eq, ◌⊎◌, inl, inr, true≢false, List, [], ◌∷◌, ◌++◌, set, slice_set, ◌-◌, length, slice_get, append-nil, Option, None, Some, refl, sym, ap, subst, ◌∙◌, arith}
+use Rattle.std.proofs.Common.{◌≡◌, ℕ, zero, suc, ◌<◌, Bool, true, false, not, cond, filter, ◌||◌, nat_eq, ◌⊎◌, inl, inr, true≢false, List, [], ◌∷◌, ◌++◌, slice_set, ◌-◌, slice_get, append-nil, Option, None, Some, refl, sym, ap, subst, ◌∙◌, arith}
 use Rattle.std.proofs.lemmas.Bool.{eqb-true, eq-eqb}
 use Rattle.std.proofs.lemmas.Option.{slice_get_within}
 use Rattle.std.specs.List.{AllByRecursion}
@@ -10,7 +10,7 @@ use Rattle.viz_base.specs.declared.node.NodeId.{NodeId}
 use Rattle.viz_network.specs.declared.node.Node.{Node}
 use Rattle.viz_network.specs.Network.{Network, named, node_of, change}
 use Rattle.viz_network.specs.Edits.{connected}
-use Rattle.viz_network.specs.Cone.{Cone, Tree, port, grow, above, either, has_node}
+use Rattle.viz_network.specs.Cone.{Tree, grow, above, either, has_node}
 use Rattle.viz_network.specs.Steps.Order.{IsBefore, IsTale, Has, IsFedFrom, Stands, parted}
 use Rattle.viz_network.proofs.TaleLemmas.{whole, node_id, holds, joined_port}
 use Rattle.viz_network.proofs.StandsLemmas.{Has-left, Has-right, Has-filter, Stands-append, early_stands, late_stands}
@@ -107,13 +107,14 @@ module _ (net : Network) (tale : List NodeId) (t : IsTale net tale) (places : (x
   early_case x m n e h g front fed =
       let both = or_false (nat_eq b.id.0 m.id.0) (holds b.id.0 (grow (above 255 net) m.inputs)) (sym (split x m h) ∙ e) in
       elim (after_change x m h) [
-        inl same ↦
-          let k = places x m h in
-          let node = t.each k.0 x k.1 in
-          let inputs = subst (λ v. AllByRecursion (IsBefore tale k.0) v.inputs) (same_node x node.0 m node.1 h) node.2 in
-          subst (λ v. AllByRecursion (IsFedFrom (filter (λ y. not (has_node b.id.0 (above 256 net y.0))) front)) v.inputs) (some_node m n (sym same ∙ g))
-          (inputs_early net tale t b.id.0 k.0 (place_small k.0 x k.1) front m.inputs both.1 inputs fed)
-      | inr hit ↦ absurd (true≢false (sym (eq-eqb b.id.0 m.id.0 (sym hit.0 ∙ sym (node_id net x.0 m h))) ∙ both.0)) ]
+        | inl same ↦
+            let k = places x m h in
+            let node = t.each k.0 x k.1 in
+            let inputs = subst (λ v. AllByRecursion (IsBefore tale k.0) v.inputs) (same_node x node.0 m node.1 h) node.2 in
+            subst (λ v. AllByRecursion (IsFedFrom (filter (λ y. not (has_node b.id.0 (above 256 net y.0))) front)) v.inputs) (some_node m n (sym same ∙ g))
+            (inputs_early net tale t b.id.0 k.0 (place_small k.0 x k.1) front m.inputs both.1 inputs fed)
+        | inr hit ↦ absurd (true≢false (sym (eq-eqb b.id.0 m.id.0 (sym hit.0 ∙ sym (node_id net x.0 m h))) ∙ both.0))
+      ]
 
   late_case : (x : NodeId) (m n : Node) → has_node b.id.0 (above 256 net x.0) ≡ true → node_of net x.0 ≡ Some m → node_of (change (connected at port (Some from)) net name) x.0 ≡ Some n
       → (front : List NodeId) → AllByRecursion (IsFedFrom front) m.inputs
@@ -126,8 +127,9 @@ module _ (net : Network) (tale : List NodeId) (t : IsTale net tale) (places : (x
       let source : Has whole_list from = Has-left all (filter mark front) from (Has-filter (λ y. not (mark y)) tale from (ap not no_cycle) there) in
       let before : AllByRecursion (IsFedFrom whole_list) m.inputs = inputs_either mark all front known m.inputs fed in
       elim (after_change x m h) [
-        inl same ↦ subst (λ v. AllByRecursion (IsFedFrom whole_list) v.inputs) (some_node m n (sym same ∙ g)) before
-      | inr hit ↦ subst (λ v. AllByRecursion (IsFedFrom whole_list) v.inputs) (some_node (connected at port (Some from) m) n (sym hit.1 ∙ g)) (inputs_set whole_list (port - 1) from source m.inputs before) ]
+        | inl same ↦ subst (λ v. AllByRecursion (IsFedFrom whole_list) v.inputs) (some_node m n (sym same ∙ g)) before
+        | inr hit ↦ subst (λ v. AllByRecursion (IsFedFrom whole_list) v.inputs) (some_node (connected at port (Some from) m) n (sym hit.1 ∙ g)) (inputs_set whole_list (port - 1) from source m.inputs before)
+      ]
 
   still_there : (x : NodeId) (m : Node) → node_of net x.0 ≡ Some m → (n : Node) × (node_of (change (connected at port (Some from)) net name) x.0 ≡ Some n)
   still_there x m h = elim (after_change x m h) [ inl same ↦ (m, same) | inr hit ↦ (connected at port (Some from) m, hit.1) ]

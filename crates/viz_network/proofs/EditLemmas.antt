@@ -1,21 +1,18 @@
 -- Each edit keeps an order of all nodes.
-use Rattle.std.proofs.Common.{◌≡◌, ◌≢◌, ℕ, zero, suc, ◌+◌, ◌-◌, ◌<◌, ◌≤◌, Bool, true, false, not, cond, filter, ◌||◌, nat_eq, ◌⊎◌, inl, inr, true≢false, List, [], ◌∷◌, ◌++◌, replicate, slice_set, slice_get, length, length-append, append-nil, Option, None, Some, refl, sym, ap, subst, ◌∙◌, arith, rules}
+use Rattle.std.proofs.Common.{◌≡◌, ℕ, zero, suc, ◌<◌, Bool, true, false, cond, nat_eq, ◌⊎◌, inl, inr, List, [], ◌∷◌, ◌++◌, slice_set, length, length-append, Option, None, Some, refl, sym, ap, subst, ◌∙◌, arith}
 use Rattle.std.proofs.lemmas.Bool.{eqb-true, eq-eqb}
-use Rattle.std.proofs.lemmas.Bool.Decides.{nat_tests}
 use Rattle.std.specs.List.{AllByRecursion}
-use Rattle.std.specs.Map.{lookup, remove_entry}
 use Rattle.std.specs.Cmp.Lexicographic.{pointwise}
 use Rattle.viz_base.specs.declared.node.NodeId.{NodeId}
 use Rattle.viz_network.specs.declared.node.Node.{Node}
 use Rattle.viz_kinds.specs.declared.kind.Kind.{Kind}
-use Rattle.viz_network.specs.Network.{Network, named, node_of, change, without}
+use Rattle.viz_network.specs.Network.{Network, named, node_of, change}
 use Rattle.viz_network.specs.Applies.{IsPast}
-use Rattle.viz_network.specs.Edits.{fresh, is_input, is_used}
+use Rattle.viz_network.specs.Edits.{fresh}
 use Rattle.viz_network.specs.EqualStamps.{IsAscending}
 use Rattle.viz_network.specs.Steps.Order.{Has, IsFedFrom, Stands, IsOrder}
-use Rattle.viz_network.proofs.StandsLemmas.{Has-left, Has-right, Has-filter, Stands-append, filter-snoc}
-use Rattle.viz_network.proofs.ConnectLemmas.{change_node, or_false}
-use Rattle.viz_network.proofs.TaleLemmas.{node_id}
+use Rattle.viz_network.proofs.StandsLemmas.{Has-left, Has-right, Stands-append}
+use Rattle.viz_network.proofs.ConnectLemmas.{change_node}
 
 pub all_push : {A : Type 0} (P : A → Type 0) (xs : List A) (e : A) → AllByRecursion P xs → P e → AllByRecursion P (xs ++ e ∷ [])
 all_push P [] e h p = (p, tt)

@@ -1,5 +1,5 @@
 -- What an order of all nodes gives.
-use Rattle.std.proofs.Common.{◌≡◌, ℕ, zero, suc, ◌+◌, ◌<◌, ◌≤◌, Bool, true, false, cond, nat_eq, ◌⊎◌, inl, inr, List, [], ◌∷◌, ◌++◌, length, set, get_or, slice_get, Option, None, Some, IsSome, zero-add, refl, sym, ap, subst, ◌∙◌, arith}
+use Rattle.std.proofs.Common.{◌≡◌, ℕ, zero, suc, ◌+◌, ◌<◌, inl, inr, List, [], ◌∷◌, length, set, get_or, slice_get, Option, None, Some, IsSome, zero-add, refl, sym, ap, subst, ◌∙◌, arith}
 use Rattle.std.proofs.lemmas.Option.{slice_get_within, slice_get-get_or, get_or_from_slice_get}
 use Rattle.std.specs.List.{AllByRecursion}
 use Rattle.std.specs.Option.{option_map, option_map_or}
@@ -8,7 +8,7 @@ use Rattle.viz_base.specs.declared.node.NodeId.{NodeId}
 use Rattle.viz_network.specs.declared.node.Node.{Node}
 use Rattle.viz_network.specs.Network.{Network, node_of}
 use Rattle.viz_network.specs.Cone.{Tree, grow, total, above, newest, cone_of, stamp_of}
-use Rattle.viz_network.specs.Steps.Order.{Has, Stands, IsBefore, IsOrder, IsTale, rank_of}
+use Rattle.viz_network.specs.Steps.Order.{Has, IsBefore, IsOrder, IsTale, rank_of}
 use Rattle.viz_network.specs.Steps.Marks.{IsTold, told, ports_told}
 use Rattle.viz_network.proofs.StandsLemmas.{by_places}
 use Rattle.viz_network.proofs.TaleLemmas.{node_id}

@@ -1,19 +1,17 @@
 -- A connection keeps an order of all nodes, parted by what lies downstream of its end.
-use Rattle.std.proofs.Common.{◌≡◌, ℕ, zero, suc, ◌+◌, ◌<◌, ◌≤◌, Bool, true, false, not, cond, filter, nat_eq, List, [], ◌∷◌, ◌++◌, length, length-append, take, slice_get, Option, None, Some, IsSome, refl, sym, ap, subst, ◌∙◌, arith}
+use Rattle.std.proofs.Common.{◌≡◌, ℕ, suc, Bool, true, false, not, cond, filter, nat_eq, List, [], ◌∷◌, ◌++◌, length, length-append, take, slice_get, Some, IsSome, refl, sym, ap, subst, ◌∙◌, arith}
 use Rattle.std.proofs.lemmas.Grind.{common_steps}
 use Rattle.std.proofs.lemmas.List.Filters.{length-filter_both}
-use Rattle.std.proofs.lemmas.Option.{slice_get_within}
 use Rattle.viz_base.specs.declared.node.NodeId.{NodeId}
 use Rattle.viz_network.specs.declared.node.Node.{Node}
 use Rattle.viz_network.specs.Network.{Network, named, node_of, change}
-use Rattle.viz_network.specs.Cone.{above, either, has_node}
+use Rattle.viz_network.specs.Cone.{either}
 use Rattle.viz_network.specs.Edits.{connected}
 use Rattle.viz_network.specs.Steps.Order.{Has, IsOrder, IsTale, parted, is_late}
 use Rattle.viz_network.specs.Steps.Marks.{IsTold, is_marked}
 use Rattle.viz_network.proofs.StandsLemmas.{Has-left, Has-right, Has-filter}
 use Rattle.viz_network.proofs.ConnectLemmas.{connect_stands}
 use Rattle.viz_network.proofs.EditLemmas.{change_long, change_ascending, change_back}
-use Rattle.viz_network.proofs.RemoveLemmas.{named_node}
 use Rattle.viz_network.proofs.OrderLemmas.{tale_of, has_place, places_of, whole_told, is_some_of}
 
 filter_same : (p q : NodeId → Bool) (xs : List NodeId) → ((k : ℕ) (x : NodeId) → slice_get xs k ≡ Some x → p x ≡ q x) → filter p xs ≡ filter q xs

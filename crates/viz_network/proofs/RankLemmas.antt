@@ -1,5 +1,5 @@
 -- The rank of a node is where a binary search finds its position.
-use Rattle.std.proofs.Common.{◌≡◌, ◌≢◌, ℕ, zero, suc, ◌+◌, ◌<◌, ◌≤◌, Bool, true, false, cond, nat_eq, nat_lt, List, [], ◌∷◌, length, get_or, slice_get, Option, None, Some, Result, Ok, Err, refl, sym, ap, subst, ◌∙◌, true≢false, arith}
+use Rattle.std.proofs.Common.{◌≡◌, ◌≢◌, ℕ, zero, suc, ◌<◌, ◌≤◌, Bool, true, false, cond, nat_eq, nat_lt, List, [], ◌∷◌, length, get_or, slice_get, Option, None, Some, Result, Ok, Err, refl, sym, ap, subst, ◌∙◌, arith}
 use Rattle.std.specs.List.{AllByRecursion}
 use Rattle.std.specs.Option.{option_map}
 use Rattle.std.specs.Result.{result_ok}
@@ -113,8 +113,6 @@ module _ (net : Network) (up : IsAscending net) (id : ℕ) where
         where
           order : (a b : ℕ) → a < b → ordering_index (nat_cmp a id) ≤ ordering_index (nat_cmp b id)
           order a b l = grind (arith, nat_tests)
-
-
 
   pub searched : (r : Result ℕ ℕ) → IsSearchInRange r (length net) → IsBinarySearchResult (λ (e : List ℕ × Node). nat_cmp e.1.id.0 id) net r → result_ok r ≡ rank_of net id
   searched (Ok i) within equal =

@@ -1,20 +1,17 @@
 -- An order of all nodes without one that feeds no other.
-use Rattle.std.proofs.Common.{◌≡◌, ◌≢◌, ℕ, zero, suc, ◌+◌, ◌-◌, ◌<◌, ◌≤◌, Bool, true, false, not, cond, filter, ◌||◌, nat_eq, ◌⊎◌, inl, inr, true≢false, List, [], ◌∷◌, ◌++◌, replicate, slice_set, slice_get, length, length-append, append-nil, Option, None, Some, refl, sym, ap, subst, ◌∙◌, arith, rules}
+use Rattle.std.proofs.Common.{◌≡◌, ◌≢◌, ℕ, suc, ◌<◌, ◌≤◌, Bool, true, false, not, cond, filter, nat_eq, inl, inr, true≢false, List, [], ◌∷◌, ◌++◌, length, append-nil, Option, None, Some, refl, sym, ap, subst, ◌∙◌, arith}
 use Rattle.std.proofs.lemmas.Bool.{eqb-true, eq-eqb}
-use Rattle.std.proofs.lemmas.Bool.Decides.{nat_tests}
 use Rattle.std.specs.List.{AllByRecursion}
-use Rattle.std.specs.Map.{lookup, remove_entry}
+use Rattle.std.specs.Map.{lookup}
 use Rattle.std.specs.Cmp.Lexicographic.{pointwise}
 use Rattle.viz_base.specs.declared.node.NodeId.{NodeId}
 use Rattle.viz_network.specs.declared.node.Node.{Node}
-use Rattle.viz_kinds.specs.declared.kind.Kind.{Kind}
-use Rattle.viz_network.specs.Network.{Network, named, node_of, change, without}
-use Rattle.viz_network.specs.Applies.{IsPast}
-use Rattle.viz_network.specs.Edits.{fresh, is_input, is_used}
+use Rattle.viz_network.specs.Network.{Network, named, node_of, without}
+use Rattle.viz_network.specs.Edits.{is_input, is_used}
 use Rattle.viz_network.specs.EqualStamps.{IsAscending}
 use Rattle.viz_network.specs.Steps.Order.{Has, IsFedFrom, Stands, IsOrder}
-use Rattle.viz_network.proofs.StandsLemmas.{Has-left, Has-right, Has-filter, Stands-append, filter-snoc}
-use Rattle.viz_network.proofs.ConnectLemmas.{change_node, or_false}
+use Rattle.viz_network.proofs.StandsLemmas.{Has-filter, filter-snoc}
+use Rattle.viz_network.proofs.ConnectLemmas.{or_false}
 use Rattle.viz_network.proofs.TaleLemmas.{node_id}
 
 above_named : (net : Network) (name : List ℕ) (b : Node) (a : ℕ) → AllByRecursion (λ (m : List ℕ × Node). a < m.1.id.0) net → named net name ≡ Some b → a < b.id.0
@@ -149,7 +146,7 @@ filter_shorter id [] x t h = absurd h
 filter_shorter id (y ∷ xs) x t (inl e) =
     let here : nat_eq id y.0 ≡ true = ap (λ (z : NodeId). nat_eq id z.0) (sym e) ∙ t in
     subst (λ b. length (cond (not b) (y ∷ filter (λ (z : NodeId). not (nat_eq id z.0)) xs) (filter (λ (z : NodeId). not (nat_eq id z.0)) xs)) < suc (length xs)) (sym here)
-        (omega (arith, filter_no_longer id xs))
+    (omega (arith, filter_no_longer id xs))
 filter_shorter id (y ∷ xs) x t (inr h) = by (nat_eq id y.0) (filter_shorter id xs x t h)
   where
     by : (b : Bool) → length (filter (λ (z : NodeId). not (nat_eq id z.0)) xs) < length xs

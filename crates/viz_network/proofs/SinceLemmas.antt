@@ -1,5 +1,5 @@
 -- Each node after an edit is one of before, or was stamped by it.
-use Rattle.std.proofs.Common.{◌≡◌, ℕ, ◌+◌, ◌<◌, ◌≤◌, Bool, true, false, cond, not, nat_eq, nat_le, is_some, ◌⊎◌, inl, inr, List, [], ◌∷◌, ◌++◌, length, Option, None, Some, Result, Ok, Err, refl, sym, ap, subst, ◌∙◌, arith}
+use Rattle.std.proofs.Common.{◌≡◌, ℕ, ◌<◌, Bool, true, false, cond, not, nat_eq, nat_le, is_some, ◌⊎◌, inl, inr, List, [], ◌∷◌, ◌++◌, length, Option, None, Some, Result, Ok, Err, refl, sym, ap, subst, ◌∙◌, arith}
 use Rattle.std.specs.List.{AllByRecursion}
 use Rattle.std.specs.Option.{option_map_or}
 use Rattle.std.specs.Cmp.Lexicographic.{pointwise}
@@ -10,7 +10,7 @@ use Rattle.viz_network.specs.declared.edit.Edit.TheVariants.{Add, Remove, Connec
 use Rattle.viz_network.specs.declared.refusal.Refusal.{Refusal}
 use Rattle.viz_network.specs.declared.refusal.Refusal.TheVariants.{Unknown, Exists, TooManyNodes, InUse, NoPort, WouldCycle, NoParam, BadValue}
 use Rattle.viz_network.specs.Network.{Network, named, node_of, change, without}
-use Rattle.viz_network.specs.Edits.{apply, known, unless, connected, valued, loaded, fresh, is_used, is_file}
+use Rattle.viz_network.specs.Edits.{known, unless, connected, valued, loaded, fresh, is_used, is_file}
 use Rattle.viz_kinds.specs.Kinds.{has_port, has_param}
 use Rattle.viz_kinds.specs.Settings.{kind_of}
 use Rattle.viz_kinds.specs.Values.{is_value}

@@ -1,10 +1,8 @@
 -- What each network of a history keeps.
-use Rattle.std.proofs.Common.{◌≡◌, ℕ, zero, suc, ◌+◌, ◌-◌, ◌<◌, ◌≤◌, Bool, true, false, not, cond, nat_eq, nat_le, is_some, ◌⊎◌, inl, inr, List, [], ◌∷◌, ◌++◌, length, slice_set, Option, None, Some, Result, Ok, Err, refl, sym, ap, subst, ◌∙◌, arith}
+use Rattle.std.proofs.Common.{◌≡◌, ℕ, zero, suc, ◌-◌, ◌<◌, ◌≤◌, Bool, true, false, not, cond, nat_eq, nat_le, is_some, ◌⊎◌, inl, inr, List, [], ◌∷◌, ◌++◌, length, slice_set, Option, None, Some, Result, Ok, Err, refl, sym, subst, arith}
 use Rattle.std.specs.List.{AllByRecursion}
 use Rattle.std.specs.Option.{option_map_or}
-use Rattle.std.specs.Map.{lookup}
 use Rattle.std.specs.Cmp.Lexicographic.{pointwise}
-use Rattle.std.proofs.lemmas.Bool.{eqb-true}
 use Rattle.viz_base.specs.declared.node.NodeId.{NodeId}
 use Rattle.viz_kinds.specs.declared.kind.Kind.{Kind}
 use Rattle.viz_network.specs.declared.node.Node.{Node}
@@ -17,10 +15,10 @@ use Rattle.viz_kinds.specs.Settings.{kind_of}
 use Rattle.viz_kinds.specs.Values.{is_value}
 use Rattle.viz_network.specs.Network.{Network, named, node_of, change, without}
 use Rattle.viz_network.specs.Cone.{nodes_limit, cone_of, has_node}
-use Rattle.viz_network.specs.Edits.{apply, known, unless, connected, valued, loaded, fresh, is_input, is_used, is_file}
+use Rattle.viz_network.specs.Edits.{known, unless, connected, valued, loaded, fresh, is_input, is_used, is_file}
 use Rattle.viz_network.specs.Applies.{IsPast}
-use Rattle.viz_network.specs.History.{pick, after, net_after, net_of}
-use Rattle.viz_network.specs.EqualStamps.{IsFed, IsClosed, IsAscending, IsUpTo, IsSound}
+use Rattle.viz_network.specs.History.{pick, after}
+use Rattle.viz_network.specs.EqualStamps.{IsFed, IsUpTo, IsSound}
 use Rattle.viz_network.proofs.ConnectLemmas.{change_node, or_false}
 use Rattle.viz_network.proofs.EditLemmas.{all_push, node_front, node_back, ascending_push, change_ascending}
 use Rattle.viz_network.proofs.RemoveLemmas.{named_node, without_all, without_other, without_back, without_ascending, unused}
@@ -169,7 +167,7 @@ sound_after p at (Connect from to port) net l s =
     unless_case (IsSound at) net (has_node b.id.0 (cone_of net a.id.0)) WouldCycle (made a) same (λ _.
     sound_change p at l (connected at port (Some a.id)) (λ n. refl) (λ n. refl) net to b found
     (λ m fed. inputs_put (change (connected at port (Some a.id)) net to) (Some a.id)
-        (still_there p at l (connected at port (Some a.id)) (λ n. refl) (λ n. refl) net to b found a.id.0 a (named_node net from a s.ascending source)) m.inputs (port - 1) fed) s))))
+    (still_there p at l (connected at port (Some a.id)) (λ n. refl) (λ n. refl) net to b found a.id.0 a (named_node net from a s.ascending source)) m.inputs (port - 1) fed) s))))
 sound_after p at (Disconnect to port) net l s =
     let same = sound_more p at net (omega (arith, l)) s in
     let made : Result Network Refusal = Ok (change (connected at port None) net to) in

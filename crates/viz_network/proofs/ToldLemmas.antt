@@ -1,5 +1,5 @@
 -- What is joined over a node's cone is found from a table of what its inputs have.
-use Rattle.std.proofs.Common.{◌≡◌, ℕ, zero, suc, ◌+◌, ◌<◌, ◌≤◌, Bool, true, false, cond, nat_eq, List, [], ◌∷◌, length, set, get_or, slice_get, Option, None, Some, refl, sym, ap, subst, ◌∙◌, true≢false, arith}
+use Rattle.std.proofs.Common.{◌≡◌, ℕ, ◌+◌, ◌<◌, Bool, true, false, nat_eq, List, [], ◌∷◌, length, set, get_or, slice_get, Option, None, Some, refl, sym, ap, subst, ◌∙◌, arith}
 use Rattle.std.proofs.lemmas.Bool.{eqb-true}
 use Rattle.std.proofs.lemmas.Bool.Decides.{nat_tests}
 use Rattle.std.proofs.lemmas.List.{get_or-set_same, get_or-set_other, length-set}
@@ -9,10 +9,10 @@ use Rattle.std.specs.Option.{option_map, option_map_or}
 use Rattle.viz_base.specs.declared.node.NodeId.{NodeId}
 use Rattle.viz_network.specs.declared.node.Node.{Node}
 use Rattle.viz_network.specs.Network.{Network, node_of}
-use Rattle.viz_network.specs.Cone.{Cone, Tree, port, grow, above, joined, total}
+use Rattle.viz_network.specs.Cone.{Tree, grow, above, joined, total}
 use Rattle.viz_network.specs.Steps.Order.{IsBefore, IsTale, rank_of}
 use Rattle.viz_network.specs.Steps.Marks.{IsTold, told, ports_told}
-use Rattle.viz_network.proofs.TaleLemmas.{whole, node_id, joined_port}
+use Rattle.viz_network.proofs.TaleLemmas.{whole, joined_port}
 use Rattle.viz_network.proofs.RankLemmas.{at_rank, none_at_rank, rank_within}
 
 -- a node of the network has a rank

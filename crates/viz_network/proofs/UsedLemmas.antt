@@ -1,5 +1,5 @@
 -- One step of a look for what a node feeds.
-use Rattle.std.proofs.Common.{◌≡◌, ℕ, zero, suc, ◌+◌, Bool, true, false, ◌||◌, List, [], ◌∷◌, drop, slice_get, Option, None, Some, refl, sym, ap, ◌∙◌, add-one}
+use Rattle.std.proofs.Common.{◌≡◌, ℕ, zero, suc, ◌+◌, true, false, ◌||◌, [], ◌∷◌, drop, slice_get, Some, sym, ap, ◌∙◌, add-one}
 use Rattle.std.specs.Map.{values_of}
 use Rattle.viz_network.specs.declared.node.Node.{Node}
 use Rattle.viz_network.specs.Network.{Network}

@@ -1,5 +1,5 @@
 -- Where the stamps of a node are equal, its cone is (VTK User's Guide, "The visualization pipeline": modification times).
-use Rattle.std.specs.Prelude.{◌≡◌, ℕ, ◌+◌, ◌<◌, ◌≤◌, List, [], ◌∷◌, ◌++◌, length, Option, None, Some}
+use Rattle.std.specs.Prelude.{◌≡◌, ℕ, ◌<◌, ◌≤◌, List, [], ◌∷◌, ◌++◌, Option, None, Some}
 use Rattle.std.specs.List.{AllByRecursion}
 use Rattle.viz_base.specs.declared.node.NodeId.{NodeId}
 use Rattle.viz_network.specs.declared.node.Node.{Node}

@@ -1,5 +1,5 @@
 -- A network is its nodes in the order of their Adds, each with its name (VTK User's Guide, "The visualization pipeline").
-use Rattle.std.specs.Prelude.{ℕ, ◌-◌, Bool, nat_eq, if◌then◌else◌, List, [], ◌∷◌, slice_index_or, Option, None, Some}
+use Rattle.std.specs.Prelude.{ℕ, ◌-◌, nat_eq, if◌then◌else◌, List, [], ◌∷◌, slice_index_or, Option, None, Some}
 use Rattle.std.specs.Cmp.Lexicographic.{pointwise}
 use Rattle.std.specs.Map.{lookup, remove_entry}
 use Rattle.viz_base.specs.declared.node.NodeId.{NodeId}

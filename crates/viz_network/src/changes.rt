@@ -79,7 +79,12 @@ fn forget(order: &mut Vec<NodeId>, id: NodeId)
 }
 
 /// Takes a node out that feeds no other.
-pub fn remove(nodes: &mut Nodes, order: &mut Vec<NodeId>, at: u32, name: &Word) -> Result<(), Refusal>
+pub fn remove(
+    nodes: &mut Nodes,
+    order: &mut Vec<NodeId>,
+    at: u32,
+    name: &Word,
+) -> Result<(), Refusal>
     requires { IsOrder nodes.old.entries order.old.items }
     ensures applies { Decides result nodes.old.entries nodes.new.entries
         (apply at (Wanted.Remove name.now) nodes.old.entries) }

@@ -84,13 +84,7 @@ pub fn feeds_another(nodes: &Nodes, id: NodeId) -> bool
 }
 
 /// Connects a port of the node of this name, or empties it.
-pub fn put_connection(
-    nodes: &mut Nodes,
-    name: &Word,
-    at: u32,
-    port: u8,
-    from: Option<NodeId>,
-)
+pub fn put_connection(nodes: &mut Nodes, name: &Word, at: u32, port: u8, from: Option<NodeId>)
     requires first { 1 ≤ port }
     requires last { port ≤ 8 }
     ensures { nodes.new.entries ≡ change (connected at port from) nodes.old.entries name.now }

@@ -4,7 +4,7 @@ use Rattle.std.specs.List.{AllByRecursion}
 use Rattle.std.specs.Option.{option_map}
 use Rattle.viz_base.specs.declared.node.NodeId.{NodeId}
 use Rattle.viz_network.specs.declared.node.Node.{Node}
-use Rattle.viz_network.specs.Network.{Network, named, node_of}
+use Rattle.viz_network.specs.Network.{Network, node_of}
 use Rattle.viz_network.specs.Cone.{cone_of, has_node}
 use Rattle.viz_network.specs.EqualStamps.{IsAscending}
 

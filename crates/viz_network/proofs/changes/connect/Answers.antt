@@ -1,4 +1,4 @@
-use Rattle.std.proofs.Common.{◌≡◌, true, false, nat_eq, length, drop, refl, sym, subst, ap, ◌∙◌, arith, rules, IsSome, Some}
+use Rattle.std.proofs.Common.{◌≡◌, true, false, nat_eq, length, drop, sym, subst, ap, ◌∙◌, arith, rules, Some}
 use Rattle.viz_network.specs.Cone.{either, has_node, cone_of}
 use Rattle.viz_network.specs.Network.{node_of}
 use Rattle.viz_network.specs.Steps.Order.{parted}

@@ -1,4 +1,4 @@
-use Rattle.std.proofs.Common.{◌≡◌, ◌∙◌, sym, ap, Some, IsSome, subst, rules}
+use Rattle.std.proofs.Common.{◌∙◌, sym, ap, Some, IsSome, rules}
 use Rattle.viz_network.specs.Network.{node_of}
 use Rattle.viz_network.proofs.OrderLemmas.{stamp_there}
 use Rattle.viz_network.proofs.net.Net.stamp.Goals as goal
