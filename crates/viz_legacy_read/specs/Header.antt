@@ -69,20 +69,20 @@ abbrev pub whole_of : ℕ → ℕ → ℕ → Bounds
 whole_of x y z = bounds_of (0 ∷ (x - 1) ∷ 0 ∷ (y - 1) ∷ 0 ∷ (z - 1) ∷ [])
 
 -- DIMENSIONS nx ny nz, of at most 2^31 - 1 points
-abbrev pub sizes : Rule Line
+abbrev pub sizes : Rule Bounds
 sizes = do
   x ← size
   y ← size
   z ← size
-  demand (nat_lt (x.1 * y.1 * z.1) (2 ^ 31)) (fault_at TooMany z.0) (gives (Sizes (whole_of x.1 y.1 z.1)))
+  demand (nat_lt (x.1 * y.1 * z.1) (2 ^ 31)) (fault_at TooMany z.0) (gives (whole_of x.1 y.1 z.1))
 
 -- ORIGIN x y z
-abbrev pub origin : Rule Line
+abbrev pub origin : Rule Vector
 origin = do
   x ← decimal
   y ← decimal
   z ← decimal
-  gives (Origin (record { x = x.1; y = y.1; z = z.1 }))
+  gives (record { x = x.1; y = y.1; z = z.1 })
 
 -- a number above 0
 abbrev pub is_above : ℤ → Bool
@@ -96,19 +96,25 @@ step = do
   demand (nat_le (unsigned_abs n.1) (10 ^ 18)) (fault_at HeaderNumber n.0) (demand (is_above n.1) (fault_at Spacing n.0) (gives n.1))
 
 -- SPACING x y z, or ASPECT_RATIO x y z
-abbrev pub spacing : Rule Line
+abbrev pub spacing : Rule Vector
 spacing = do
   x ← step
   y ← step
   z ← step
-  gives (Spacing_of (record { x = x; y = y; z = z }))
+  gives (record { x = x; y = y; z = z })
 
 -- what stands behind the keyword of a header line: each line stands once
 abbrev pub behind : Geometry → ℕ × List ℕ → Rule Line
 behind g key =
-    choose (same_word key.1 (codes "DIMENSIONS") && not (has g.whole)) sizes
-    (choose (same_word key.1 (codes "ORIGIN") && not (has g.origin)) origin
-    (choose ((same_word key.1 (codes "SPACING") || same_word key.1 (codes "ASPECT_RATIO")) && not (has g.spacing)) spacing
+    choose (same_word key.1 (codes "DIMENSIONS") && not (has g.whole)) (do
+      v ← sizes
+      gives (Sizes v))
+    (choose (same_word key.1 (codes "ORIGIN") && not (has g.origin)) (do
+      v ← origin
+      gives (Origin v))
+    (choose ((same_word key.1 (codes "SPACING") || same_word key.1 (codes "ASPECT_RATIO")) && not (has g.spacing)) (do
+      v ← spacing
+      gives (Spacing_of v))
     (refuses (fault_at (keyword_kind key.1) key.0))))
 
 -- a FIELD that is passed over

@@ -114,14 +114,19 @@ lines_at binary r = do
   second ← header_line_at binary first.0 first.1
   header_line_at binary second.0 second.1
 
+-- the header that they make
+unfoldable pub lines_header_at : Bool → Reading → Result (Header × Reading) FileFault
+lines_header_at binary r = do
+  all ← lines_at binary r
+  Ok (header_of binary all.0, all.1)
+
 -- the header
 unfoldable pub header_at : Reading → Result (Header × Reading) FileFault
 header_at r = do
   lines ← two_lines_at r
   binary ← form_at lines.1
   points ← dataset_at binary.1
-  all ← lines_at binary.0 points.1
-  Ok (header_of binary.0 all.0, all.1)
+  lines_header_at binary.0 points.1
 
 -- the image file
 unfoldable pub image_file_at : Pick → Reading → Result (ImageData × Reading) FileFault

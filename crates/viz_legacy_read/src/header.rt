@@ -1,13 +1,13 @@
 //! The header of an image file.
 
-ghost use Rattle.std.specs.Prelude.{◌≡◌, ◌+◌, codes, length, IfOk, IfSome, Some};
+ghost use Rattle.std.specs.Prelude.{◌≡◌, ◌+◌, ◌^◌, pos, unwrap_or, length, IfOk};
 ghost use Rattle.viz_dataset.specs.Images.{vector_of, IsOrigin, IsSpacing};
 ghost use Rattle.viz_lex.specs.Reading.{Reads};
 ghost use Rattle.viz_lex.specs.Readers.{skip_at};
 ghost use Rattle.viz_lex.specs.Steps.{is_next};
-ghost use Rattle.viz_legacy_read.specs.Header.{is_left_out_dataset, no_line, whole_of, header_of};
-ghost use Rattle.viz_legacy_read.specs.Steps.{form_at, dataset_at, one_field_at, fields_at, header_line_at, lines_at, header_at};
-ghost use Rattle.viz_legacy_read.specs.Reads.{lines_of, header_seen, AreWithin};
+ghost use Rattle.viz_legacy_read.specs.Header.{is_left_out_dataset, whole_of, all_of, header_of};
+ghost use Rattle.viz_legacy_read.specs.Steps.{form_at, dataset_at, one_field_at, fields_at, header_line_at, lines_header_at, header_at};
+ghost use Rattle.viz_legacy_read.specs.Reads.{lines_of, header_seen, AreWithin, HasLimits};
 
 use crate::lines::{ImageHeader, Lines, behind};
 use crate::magic::two_lines;
@@ -98,11 +98,62 @@ fn header_line(lexer: &mut Lexer<'_>, binary: bool, lines: &Lines) -> Result<Lin
     Ok(lines)
 }
 
-/// Three header lines.
-#[tactic(auto, unfolding(crate::specs::Steps::lines_at))]
-fn three_lines(lexer: &mut Lexer<'_>, binary: bool) -> Result<Lines, FileFault>
-    ensures read { Reads lines_of result lexer.new (lines_at binary lexer.old) }
-    ensures within { IfOk result AreWithin }
+/// The whole extent of these lines, of one point where they have none.
+fn whole_of_lines(lines: &Lines) -> Extent
+    ensures { result ≡ unwrap_or lines.now.whole (whole_of 1 1 1) }
+{
+    match lines.whole {
+        Some(whole) => whole,
+        None => Extent::new([0, 0, 0, 0, 0, 0]).unwrap(),
+    }
+}
+
+/// The origin of these lines, 0 along each axis where they have none.
+fn origin_of_lines(lines: &Lines) -> [i128; 3]
+    requires { AreWithin lines.now }
+    ensures value { vector_of result ≡ unwrap_or (lines_of lines.now).origin (all_of (pos 0)) }
+    ensures within { IsOrigin (vector_of result) }
+{
+    match lines.origin {
+        Some(origin) => origin,
+        None => [0, 0, 0],
+    }
+}
+
+/// A unit, in billionths.
+const UNIT: i128 = 1_000_000_000;
+
+/// The spacing of these lines, 1 along each axis where they have none.
+fn spacing_of_lines(lines: &Lines) -> [i128; 3]
+    requires { AreWithin lines.now }
+    ensures value { vector_of result ≡ unwrap_or (lines_of lines.now).spacing (all_of (pos (10 ^ 9))) }
+    ensures within { IsSpacing (vector_of result) }
+{
+    match lines.spacing {
+        Some(spacing) => spacing,
+        None => [UNIT, UNIT, UNIT],
+    }
+}
+
+/// The header that three lines make.
+fn header_of_lines(binary: bool, lines: Lines) -> ImageHeader
+    requires { AreWithin lines }
+    ensures value { header_seen result ≡ header_of binary (lines_of lines) }
+    ensures within { HasLimits result }
+{
+    ImageHeader {
+        binary,
+        whole: whole_of_lines(&lines),
+        origin: origin_of_lines(&lines),
+        spacing: spacing_of_lines(&lines),
+    }
+}
+
+/// Three header lines, and the header that they make.
+#[tactic(auto, unfolding(crate::specs::Steps::lines_at, crate::specs::Steps::lines_header_at))]
+fn lines_header(lexer: &mut Lexer<'_>, binary: bool) -> Result<ImageHeader, FileFault>
+    ensures read { Reads header_seen result lexer.new (lines_header_at binary lexer.old) }
+    ensures within { IfOk result HasLimits }
 {
     let none = Lines {
         whole: None,
@@ -112,18 +163,17 @@ fn three_lines(lexer: &mut Lexer<'_>, binary: bool) -> Result<Lines, FileFault>
     let first = header_line(lexer, binary, &none)?;
     let second = header_line(lexer, binary, &first)?;
     let third = header_line(lexer, binary, &second)?;
-    Ok(third)
+    Ok(header_of_lines(binary, third))
 }
 
-/// The origin where none stands: every header has one.
-const NO_ORIGIN: [i128; 3] = [0, 0, 0];
-
-/// The spacing where none stands: every header has one.
-const NO_SPACING: [i128; 3] = [1_000_000_000, 1_000_000_000, 1_000_000_000];
-
-/// The extent of one point.
-fn one_point() -> Option<Extent>
-    ensures { result ≡ Some (whole_of 1 1 1) }
+/// The header of an image.
+#[tactic(auto, unfolding(crate::specs::Steps::header_at))]
+pub(crate) fn image_header(lexer: &mut Lexer<'_>) -> Result<ImageHeader, FileFault>
+    ensures read { Reads header_seen result lexer.new (header_at lexer.old) }
+    ensures within { IfOk result HasLimits }
 {
-    Extent::new([0, 0, 0, 0, 0, 0])
+    two_lines(lexer)?;
+    let binary = form(lexer)?;
+    dataset(lexer)?;
+    lines_header(lexer, binary)
 }

@@ -7,6 +7,7 @@
 mod header;
 mod lines;
 mod magic;
+mod read;
 mod stop;
 
 pub use stop::ReadStop;
