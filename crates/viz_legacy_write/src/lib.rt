@@ -24,4 +24,6 @@ pub use style::Style;
 pub use surface::surface_text;
 
 #[cfg(test)]
+mod image_tests;
+#[cfg(test)]
 mod tests;
