@@ -68,6 +68,15 @@ billion = pos (10 ^ 9)
 abbrev pub position : ℤ → ℤ → ℕ → ℤ
 position origin spacing index = origin +ℤ spacing *ℤ pos index
 
+-- where the lowest corner of the extent lies, in billionths
+abbrev pub corner : ImageData → Vector
+corner image =
+    record {
+      x = position image.origin.x image.spacing.x image.extent.x0;
+      y = position image.origin.y image.spacing.y image.extent.y0;
+      z = position image.origin.z image.spacing.z image.extent.z0;
+    }
+
 -- the point at the indices i, j, k with a scalar, in lowest terms
 abbrev pub placed : Vector → Vector → ℕ → ℕ → ℕ → ℤ → Point
 placed origin spacing i j k scalar =

@@ -2,9 +2,9 @@
 
 ghost use Rattle.std.specs.Prelude.{◌≡◌, length, IfOk};
 ghost use Rattle.viz_extent.specs.Extent.{count_of, Has};
-ghost use Rattle.viz_dataset.specs.Images.{vector_of, IsOrigin, IsSpacing, IsImage, IsPart, IsRestricted, point_at};
+ghost use Rattle.viz_dataset.specs.Images.{vector_of, IsOrigin, IsSpacing, IsImage, IsPart, IsRestricted, corner, point_at};
 
-use crate::points::{point_of, scalar_at};
+use crate::points::{coordinate, point_of, scalar_at};
 use crate::restricted::restricted;
 use std::alloc::{AllocError, Global};
 use std::marker::Model;
@@ -120,6 +120,18 @@ impl Image {
         ensures valid { IsImage result }
     {
         Image::new(self.extent, self.origin, self.spacing, column)
+    }
+
+    /// The position of the lowest corner of the extent, in billionths.
+    pub fn corner(&self) -> [i128; 3]
+        ensures { vector_of result ≡ corner self.now }
+    {
+        let [x0, _, y0, _, z0, _] = self.extent.bounds();
+        [
+            coordinate(&self.origin[0], &self.spacing[0], x0),
+            coordinate(&self.origin[1], &self.spacing[1], y0),
+            coordinate(&self.origin[2], &self.spacing[2], z0),
+        ]
     }
 
     /// The point at the indices i, j, k, with its number as the scalar.

@@ -11,7 +11,7 @@ use viz_fraction::{Point5, point};
 const BILLION: i128 = 1_000_000_000;
 
 /// The position of an index along an axis, in billionths.
-fn coordinate(origin: &i128, spacing: &i128, index: u32) -> i128
+pub(crate) fn coordinate(origin: &i128, spacing: &i128, index: u32) -> i128
     requires origin { IsPosition origin.now }
     requires spacing { IsStep spacing.now }
     requires index { index < 2 ^ 32 }
