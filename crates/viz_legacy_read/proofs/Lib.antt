@@ -1,2 +1,3 @@
 pub mod FieldLoops
-mod HeaderLaws
+pub mod HeaderLaws
+pub mod ReadLaws

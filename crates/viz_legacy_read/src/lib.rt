@@ -4,10 +4,13 @@
 //! `specs/Reading.antt` and the files that it names; the rules are those of docs/FORMATS.md, "Reading".
 #![tactic(auto)]
 
-mod header;
+mod front;
+mod laws;
 mod lines;
 mod magic;
-mod read;
+mod reading;
 mod stop;
 
+pub use laws::{files_are_definite, headers_stop_where_files_do};
+pub use reading::{header, read};
 pub use stop::ReadStop;

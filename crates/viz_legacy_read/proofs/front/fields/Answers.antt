@@ -4,7 +4,7 @@ use Rattle.std.proofs.lemmas.Grind.{common_steps}
 use Rattle.std.proofs.lemmas.Result.{err_from_is_err_and}
 use Rattle.viz_lex.specs.Steps.{is_next}
 use Rattle.viz_legacy_read.proofs.FieldLoops.{fields-on, fields-fault, fields-end, fields-done}
-use Rattle.viz_legacy_read.proofs.header.fields.Goals as goal
+use Rattle.viz_legacy_read.proofs.front.fields.Goals as goal
 
 pub returns-then-not-is_next : goal.returns-then-not-is_next
 returns-then-not-is_next c =

@@ -7,7 +7,7 @@ ghost use Rattle.viz_legacy_read.specs.Reading.{front, IsInfo, StopsInHeader, Is
 ghost use Rattle.viz_legacy_read.specs.Steps.{image_file_at};
 ghost use Rattle.viz_legacy_read.specs.Reads.{info_of, GivesUnlessMemory};
 
-use crate::header::image_header;
+use crate::front::image_header;
 use crate::lines::ImageHeader;
 use crate::stop::ReadStop;
 use std::alloc::{AllocError, Global};
@@ -61,6 +61,7 @@ fn cells_of(whole: &Extent) -> u64
 }
 
 /// A column of zeros, of a byte each.
+#[tactic(auto, using(crate::proofs::ReadLaws::zeros_are))]
 fn zeros(alloc: Global, points: u64) -> Result<Column, AllocError>
     ensures { IfOk result (λ c. c ≡ numbers_or_zeros points None) }
 {

@@ -1,6 +1,6 @@
 use Rattle.std.proofs.Common.{◌≡◌, ◌-◌}
 use Rattle.viz_legacy_read.specs.Steps.{fields_at}
-use Rattle.viz_legacy_read.proofs.header.fields.Given as goal
+use Rattle.viz_legacy_read.proofs.front.fields.Given as goal
 
 -- what comes of the FIELDs that are left is what comes of all
 abbrev pub invariant-loop : goal.invariant-loop
