@@ -1,8 +1,8 @@
 -- Passing over FIELDs one after the other, as a loop does.
-use Rattle.std.proofs.Common.{◌≡◌, ℕ, zero, suc, ◌-◌, ◌+◌, ◌≤◌, ◌<◌, Bool, true, false, Result, Ok, Err, refl, sym, ap, ◌∙◌, arith}
+use Rattle.std.proofs.Common.{◌≡◌, ℕ, zero, suc, ◌-◌, ◌+◌, ◌≤◌, ◌<◌, Bool, true, false, Result, Ok, Err, refl, sym, ◌∙◌, arith}
 use Rattle.std.specs.Prelude.{codes}
 use Rattle.viz_lex.specs.declared.fault.FileFault.{FileFault}
-use Rattle.viz_lex.specs.Reading.{Reading, ◌>>=◌}
+use Rattle.viz_lex.specs.Reading.{Reading}
 use Rattle.viz_lex.specs.Steps.{is_next}
 use Rattle.viz_lex.specs.Readers.{skip_at}
 use Rattle.viz_legacy_read.specs.Steps.{one_field_at, fields_at}

@@ -1,14 +1,14 @@
 -- The readers of an image header decide their rules.
-use Rattle.std.proofs.Common.{◌≡◌, ◌⊎◌, ℕ, ℤ, zero, suc, ◌+◌, ◌*◌, ◌^◌, Bool, true, false, not, ◌&&◌, ◌||◌, List, [], ◌∷◌, ◌++◌, length, Option, Some, None, Result, Ok, Err, refl, sym, ap, subst, ◌∙◌, add-one}
-use Rattle.std.specs.Prelude.{codes, ok_or, nat_le, nat_lt, fold, unsigned_abs, if◌then◌else◌}
+use Rattle.std.proofs.Common.{◌≡◌, ◌⊎◌, ℕ, suc, ◌+◌, ◌*◌, ◌^◌, Bool, true, false, not, ◌&&◌, ◌||◌, List, [], ◌∷◌, ◌++◌, length, Option, Some, None, Result, Ok, Err, refl, sym, ap, subst, ◌∙◌, add-one}
+use Rattle.std.specs.Prelude.{codes, nat_le, nat_lt, fold, unsigned_abs, if◌then◌else◌}
 use Rattle.viz_extent.specs.Extent.{Bounds}
 use Rattle.viz_dataset.specs.Images.{Vector}
 use Rattle.viz_lex.specs.declared.fault.FileFault.{FileFault}
 use Rattle.viz_lex.specs.declared.fault.FileKind.TheVariants.{Form, Count, Spacing, HeaderNumber, TooMany, Unsupported}
 use Rattle.viz_lex.specs.Reading.{Reading, fault_at, ◌>>=◌}
-use Rattle.viz_lex.specs.Steps.{guard, has, same_word, due_word, due_number, due_decimal, keyword_kind, keyword_at, is_next}
+use Rattle.viz_lex.specs.Steps.{has, same_word, due_word, due_number, due_decimal, keyword_kind, keyword_at, is_next}
 use Rattle.viz_lex.specs.Readers.{skip_at, known_at}
-use Rattle.viz_lex.specs.Rules.{Rule, gives, refuses, demand, choose, follow, Decides}
+use Rattle.viz_lex.specs.Rules.{gives, follow, Decides}
 use Rattle.viz_lex.specs.Repeats.{times_knowing, skip}
 use Rattle.viz_lex.specs.Items.{word, number, decimal, keyword}
 use Rattle.viz_lex.proofs.RuleLemmas.{decides-gives, decides-refuses, decides-follow, decides-demand, decides-choose}
@@ -23,7 +23,7 @@ use Rattle.viz_attr.proofs.PassedLaws.{decides-passed_field}
 use Rattle.viz_legacy_read.specs.Header.{form, dataset, is_left_out_dataset, Line, Geometry, no_line, with_line, geometry_of, size, whole_of, sizes, origin, is_above, step, spacing, behind, one_field, header_line, header_of, header}
 use Rattle.viz_legacy_read.specs.Header.Line.{Sizes, Origin, Spacing_of}
 use Rattle.viz_legacy_read.specs.Steps.{two_lines_at, form_at, dataset_at, size_at, sizes_at, origin_at, step_at, spacing_at, behind_at, one_field_at, fields_at, header_line_at, lines_at, lines_header_at, header_at}
-use Rattle.std.proofs.Common.{◌-◌, ◌≤◌, length-append, length-drop, drop, take, inl, inr, arith}
+use Rattle.std.proofs.Common.{◌-◌, length-append, length-drop, drop, take, inl, inr, arith}
 use Rattle.viz_base.specs.declared.node.Pick.{Pick}
 use Rattle.viz_lex.specs.declared.fault.FileKind.{FileKind}
 use Rattle.viz_lex.specs.declared.fault.FileKind.TheVariants.{Magic, Title}

@@ -1,5 +1,5 @@
 -- What reading gives, beside the rules of a file.
-use Rattle.std.proofs.Common.{◌≡◌, ℕ, zero, suc, ℤ, pos, List, ◌∷◌, length, Option, Some, None, Result, Ok, Err, refl, sym, ap, subst, ◌∙◌}
+use Rattle.std.proofs.Common.{◌≡◌, ℕ, zero, suc, ℤ, pos, List, ◌∷◌, length, Option, Some, None, Ok, Err, refl, ap, subst}
 use Rattle.std.specs.Prelude.{map, replicate, IfSome}
 use Rattle.viz_base.specs.declared.node.Pick.{Pick}
 use Rattle.viz_column.specs.Numbers.{Numbers}
@@ -10,7 +10,7 @@ use Rattle.viz_legacy_read.specs.declared.stop.ReadStop.{ReadStop}
 use Rattle.viz_legacy_read.specs.declared.stop.ReadStop.TheVariants.{File, Memory}
 use Rattle.viz_legacy_read.specs.declared.lines.ImageHeader.{ImageHeader}
 use Rattle.viz_legacy_read.specs.ImageFile.{numbers_or_zeros}
-use Rattle.viz_legacy_read.specs.Reading.{front, IsInfo, Reads, Stops, StopsInHeader, IsStop}
+use Rattle.viz_legacy_read.specs.Reading.{front, IsInfo, Reads, StopsInHeader, IsStop}
 use Rattle.viz_legacy_read.specs.Reads.{StopsAt, header_seen, info_of}
 use Rattle.viz_legacy_read.specs.Steps.{header_at, image_file_at}
 use Rattle.viz_legacy_read.proofs.HeaderLaws.{decides-header, decides-image_file}

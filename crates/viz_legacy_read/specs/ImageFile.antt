@@ -3,7 +3,7 @@ use Rattle.std.specs.Prelude.{ℕ, pos, ◌-◌, ◌*◌, Option, Some, None, re
 use Rattle.viz_base.specs.declared.node.Pick.{Pick}
 use Rattle.viz_column.specs.declared.kind.Kind8.TheVariants.{U8}
 use Rattle.viz_column.specs.Numbers.{Numbers}
-use Rattle.viz_extent.specs.Extent.{Bounds, size_of, count_of}
+use Rattle.viz_extent.specs.Extent.{Bounds, count_of}
 use Rattle.viz_dataset.specs.Images.{ImageData}
 use Rattle.viz_attr.specs.Picks.{Given}
 use Rattle.viz_attr.specs.Grammar.{attributes}

@@ -3,7 +3,7 @@ use Rattle.std.specs.Prelude.{◌≡◌, ℕ, suc, ◌+◌, Bool, false, ◌&&�
 use Rattle.std.specs.List.{list_all, starts_with}
 use Rattle.viz_lex.specs.declared.fault.FileKind.{FileKind}
 use Rattle.viz_lex.specs.declared.fault.FileKind.TheVariants.{Magic, Title}
-use Rattle.viz_lex.specs.Reading.{Reading, rest_of, advanced, fault_at}
+use Rattle.viz_lex.specs.Reading.{rest_of, advanced, fault_at}
 use Rattle.viz_lex.specs.Words.{is_blank, HasNoNewline, IsNextLine}
 use Rattle.viz_lex.specs.Numbers.{is_digit}
 use Rattle.viz_lex.specs.Rules.{Rule, gives, demand, ◌>>=◌}

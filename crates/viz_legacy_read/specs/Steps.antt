@@ -1,5 +1,5 @@
 -- The readers of an image file, which proofs compare with the rules (docs/FORMATS.md, "Images").
-use Rattle.std.specs.Prelude.{ℕ, ℤ, zero, suc, ◌+◌, ◌*◌, ◌^◌, Bool, true, false, not, ◌&&◌, ◌||◌, nat_le, nat_lt, List, length, codes, Some, ok_or, Result, Ok, Err, unsigned_abs, if◌then◌else◌}
+use Rattle.std.specs.Prelude.{ℕ, ℤ, ◌+◌, ◌*◌, ◌^◌, Bool, true, false, not, ◌&&◌, ◌||◌, nat_le, nat_lt, List, length, codes, Some, ok_or, Result, Ok, Err, unsigned_abs, if◌then◌else◌}
 use Rattle.viz_base.specs.declared.node.Pick.{Pick}
 use Rattle.viz_extent.specs.Extent.{Bounds}
 use Rattle.viz_dataset.specs.Images.{Vector, ImageData}
@@ -14,7 +14,7 @@ use Rattle.viz_lex.specs.Words.{line_at, text_of}
 use Rattle.viz_lex.specs.Steps.{guard, has, same_word, due_word, due_number, due_decimal, keyword_kind, keyword_at, is_next}
 use Rattle.viz_lex.specs.Readers.{skip_at}
 use Rattle.viz_legacy_read.specs.Magic.{is_magic}
-use Rattle.viz_legacy_read.specs.Header.{is_left_out_dataset, Geometry, no_line, with_line, whole_of, is_above, Header, header_of}
+use Rattle.viz_legacy_read.specs.Header.{is_left_out_dataset, Geometry, no_line, whole_of, is_above, Header, header_of}
 use Rattle.viz_legacy_read.specs.ImageFile.{asked, image_of}
 
 -- a line

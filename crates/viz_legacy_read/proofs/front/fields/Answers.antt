@@ -1,8 +1,5 @@
-use Rattle.std.proofs.Common.{◌≡◌, ◌-◌, ◌∙◌, sym, true, false, arith}
-use Rattle.std.specs.Prelude.{codes}
-use Rattle.std.proofs.lemmas.Grind.{common_steps}
+use Rattle.std.proofs.Common.{◌-◌, ◌∙◌, sym}
 use Rattle.std.proofs.lemmas.Result.{err_from_is_err_and}
-use Rattle.viz_lex.specs.Steps.{is_next}
 use Rattle.viz_legacy_read.proofs.FieldLoops.{fields-on, fields-fault, fields-end, fields-done}
 use Rattle.viz_legacy_read.proofs.front.fields.Goals as goal
 
