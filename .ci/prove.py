@@ -144,10 +144,14 @@ def main():
                 done |= {name} if status == 0 else set()
                 failed = failed or status != 0
                 tell(name, status, seconds, "%d of %d" % (len(done), len(libraries.lines)))
-    shutil.rmtree(os.path.join(OUT, "lanes"), ignore_errors=True)
     if len(done) < len(libraries.lines):
         sys.exit("Not all libraries are proved.")
 
 
 if __name__ == "__main__":
-    main()
+    try:
+        main()
+    except KeyboardInterrupt:
+        sys.exit("Stopped. What was proved is kept.")
+    finally:
+        shutil.rmtree(os.path.join(OUT, "lanes"), ignore_errors=True)
