@@ -11,6 +11,7 @@ mod call;
 mod dir_port;
 mod files;
 mod gate;
+mod items;
 mod limits;
 mod memory_out;
 mod memory_port;
@@ -19,13 +20,16 @@ mod node;
 mod out;
 mod port;
 mod refusal;
+mod shared;
 mod std_out;
+mod steps;
 mod word;
 
 pub use bytes::Bytes;
 pub use call::{Call, ReadAnswer, WriteAnswer};
 pub use dir_port::DirPort;
 pub use gate::{Gate, OpenGate};
+pub use items::Items;
 pub use limits::{ACTORS, CACHE, FILE_LIMIT, HISTORY, NODES};
 pub use memory_out::MemoryOut;
 pub use memory_port::{FailAt, FileEntry, MemoryPort};
@@ -34,7 +38,9 @@ pub use node::{NodeId, Pick, Shape};
 pub use out::Out;
 pub use port::Port;
 pub use refusal::{Failed, ReadRefusal, WriteRefusal};
+pub use shared::Shared;
 pub use std_out::StdOut;
+pub use steps::Steps;
 pub use word::Word;
 
 #[cfg(test)]

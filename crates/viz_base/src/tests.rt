@@ -1,10 +1,12 @@
 //! Values counted by hand, and a real folder.
 
 use crate::{
-    Bytes, DirPort, FailAt, FileEntry, Gate, MemoryOut, MemoryPort, NeverFails, OpenGate, Out,
-    Port, Shape, StdOut, Word,
+    Bytes, DirPort, FailAt, FileEntry, Gate, Items, MemoryOut, MemoryPort, NeverFails, OpenGate,
+    Out, Port, Shape, Shared, StdOut, Steps, Word,
 };
 use std::alloc::Global;
+use std::cmp::Ordering;
+use std::collections::HashMap;
 use std::fs;
 use std::process::Abort;
 use std::test::Fail;
@@ -175,4 +177,44 @@ fn the_edges_answer(rt: HostRuntime) {
         workers: 1,
     };
     OpenGate.enter(u64::from(shape.pieces));
+}
+
+#[test]
+fn names_compare_by_their_bytes(rt: HostRuntime) -> Result<(), Fail> {
+    // The order of a dictionary: a shorter name stands before what it begins.
+    for (left, right, want) in [
+        ("a", "a", Ordering::Equal),
+        ("a", "aa", Ordering::Less),
+        ("b", "aa", Ordering::Greater),
+        ("Z", "a", Ordering::Less),
+    ] {
+        let a = Word::new(left.as_bytes()).ok_or("no name")?;
+        let b = Word::new(right.as_bytes()).ok_or("no name")?;
+        assert!(rt; a.cmp(&b) == want, "{left} {right}");
+        assert!(rt; a.partial_cmp(&b) == Some(want), "{left} {right}");
+        assert!(rt; (a == b) == (want == Ordering::Equal), "{left} {right}");
+        let mut seen = HashMap::new(rt.alloc());
+        seen.insert(a, 1u8)?;
+        assert!(rt;
+            seen.get(&b).is_some() == (want == Ordering::Equal),
+            "{left} {right}"
+        );
+    }
+    Ok(())
+}
+
+#[test]
+fn owners_share_a_list(rt: HostRuntime) -> Result<(), Fail> {
+    let alloc = rt.alloc();
+    let shared = Shared::new(alloc, Items::new([3, 1, 2].to_vec(alloc)?))?;
+    let copy = shared.copy()?;
+    let clone = copy.clone()?;
+    drop(shared);
+    assert_eq!(rt; copy.get().list(), [3, 1, 2].as_slice());
+    assert_eq!(rt; clone.get().list(), [3, 1, 2].as_slice());
+    let taken = Items::new([7u8].to_vec(alloc)?).take();
+    assert_eq!(rt; taken.as_slice(), [7].as_slice());
+    let mut steps = Steps::new(taken);
+    steps.tick();
+    Ok(())
 }

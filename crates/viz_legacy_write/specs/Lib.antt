@@ -1,3 +1,4 @@
 pub mod Fixed
 pub mod SurfaceText
+pub mod ImageText
 pub mod Parts

@@ -34,11 +34,11 @@ number_at-wide word place n e wide = rw (e, wide) refl
 pub number_at-some : (word : List ℕ) (place : ℕ) (n : ℤ) → whole_of word ≡ Some n → fits_i128 n ≡ true → number_at word place ≡ Ok n
 number_at-some word place n e fits = rw (e, fits) refl
 
-some_from_ok : {A : Type 0} (o : Option A) (d : FileFault) (x : A) → ok_or o d ≡ Ok x → o ≡ Some x
+pub some_from_ok : {A : Type 0} (o : Option A) (d : FileFault) (x : A) → ok_or o d ≡ Ok x → o ≡ Some x
 some_from_ok None d x e = absurd cc
 some_from_ok (Some y) d x e = ap Some (done_is _ _ e)
 
-none_from_err : {A : Type 0} (o : Option A) (d f : FileFault) → ok_or o d ≡ Err f → (o ≡ None) × (d ≡ f)
+pub none_from_err : {A : Type 0} (o : Option A) (d f : FileFault) → ok_or o d ≡ Err f → (o ≡ None) × (d ≡ f)
 none_from_err None d f e = (refl, fault_is _ _ e)
 none_from_err (Some y) d f e = absurd cc
 
@@ -152,10 +152,10 @@ whole_at-ValueRange r gap word behind h = (
 own : IsNumeralModel (λ ds. list_all is_digit ds ≡ true) digits_value
 own = numerals_by_fold _ (search rules) (λ n ds. fold (λ m b. m * 10 + (b - 48)) n ds) (search rules)
 
-natural_of-digits : (ds : List ℕ) → 0 < length ds → list_all is_digit ds ≡ true → natural_of ds ≡ Some (digits_value ds)
+pub natural_of-digits : (ds : List ℕ) → 0 < length ds → list_all is_digit ds ≡ true → natural_of ds ≡ Some (digits_value ds)
 natural_of-digits ds some digits = rw (ne_eqb (length ds) 0 (λ e. omega arith), digits) refl
 
-digit_is : (b : ℕ) → is_digit b ≡ true → (48 ≤ b) × (b ≤ 57)
+pub digit_is : (b : ℕ) → is_digit b ≡ true → (48 ≤ b) × (b ≤ 57)
 digit_is b digit = let parts = and_parts _ _ digit in (leb-true _ _ parts.0, leb-true _ _ parts.1)
 
 digit_solid : (b : ℕ) → is_digit b ≡ true → is_blank b ≡ false
@@ -163,7 +163,7 @@ digit_solid b digit =
     let within = digit_is b digit in
     or_from _ _ (and_right _ _ (lt-leb b 13 (omega arith))) (ne_eqb b 32 (λ e. omega arith))
 
-digits_solid : (ds : List ℕ) → list_all is_digit ds ≡ true → All (λ b. is_blank b ≡ false) ds
+pub digits_solid : (ds : List ℕ) → list_all is_digit ds ≡ true → All (λ b. is_blank b ≡ false) ds
 digits_solid ds digits = All-weaker (λ b. is_digit b ≡ true) (λ b. is_blank b ≡ false) digit_solid ds (AllPass-from_list_all is_digit ds digits)
 
 -- digits are a number
@@ -174,12 +174,12 @@ whole_of-digits (b ∷ bs) some digits =
     rw (ne_eqb b 45 (λ e. omega arith), ne_eqb b 43 (λ e. omega arith), natural_of-digits (b ∷ bs) some digits) refl
 
 -- what is written of a natural number
-record IsWritten (n : ℕ) (ds : List ℕ) : Type 0 where
-  some : 0 < length ds
-  digits : list_all is_digit ds ≡ true
-  value : digits_value ds ≡ n
+pub record IsWritten (n : ℕ) (ds : List ℕ) : Type 0 where
+  pub some : 0 < length ds
+  pub digits : list_all is_digit ds ≡ true
+  pub value : digits_value ds ≡ n
 
-IsWritten-decimal : (n : ℕ) → n ≤ 2 ^ 127 → IsWritten n (decimal n)
+pub IsWritten-decimal : (n : ℕ) → n ≤ 2 ^ 127 → IsWritten n (decimal n)
 IsWritten-decimal n h =
     let known = decimal_is_IsNumeral_wide n (omega arith) in record {
       some = known.0.0;

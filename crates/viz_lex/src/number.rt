@@ -8,7 +8,7 @@ use crate::fault::{FileFault, FileKind};
 /// So many digits fit 64 bits, with room for one more.
 const SHORT: usize = 18;
 
-fn is_digit(b: u8) -> bool
+pub(crate) fn is_digit(b: u8) -> bool
     ensures { result ≡ is_digit b }
 {
     matches!(b, b'0'..=b'9')
@@ -45,7 +45,7 @@ fn long_natural(text: &[u8]) -> Option<u128>
 }
 
 /// The same, by the short way where the digits are few.
-fn natural(text: &[u8]) -> Option<u128>
+pub(crate) fn natural(text: &[u8]) -> Option<u128>
     ensures value { result ≡ option_map (λ n. min n (2 ^ 128 - 1)) (natural_of text.now) }
 {
     if text.len() <= SHORT {
@@ -56,7 +56,7 @@ fn natural(text: &[u8]) -> Option<u128>
 }
 
 /// The number below zero of this size.
-fn negated(n: u128) -> i128
+pub(crate) fn negated(n: u128) -> i128
     requires { n ≤ 2 ^ 127 }
     ensures { result ≡ neg_ℤ (pos n) }
 {

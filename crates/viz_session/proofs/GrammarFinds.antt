@@ -8,7 +8,7 @@ use Rattle.viz_lex.proofs.ReadingLemmas.{done_is, bind_ok}
 use Rattle.viz_session.specs.declared.image.Sizes.{Sizes}
 use Rattle.viz_session.specs.declared.image.Vector.{Vector}
 use Rattle.viz_session.specs.Image.{AreSizes}
-use Rattle.viz_session.specs.FirstForm.Steps.{guard, same_word}
+use Rattle.viz_lex.specs.Steps.{guard, same_word}
 use Rattle.viz_session.specs.FirstForm.Header.{form_at, dataset_at, dimensions_at, origin_at, spacing_at, is_number, point_data_at, scalars_at}
 use Rattle.viz_session.specs.Grammar.{IsKeyword, IsNumber, IsCoordinate, IsStep, Each}
 use Rattle.viz_session.proofs.GrammarWords.{same_word-is, guard-Ok, AreBetween, between_then, IsKeywordRead, due_word-Ok, keyword_at-Ok}

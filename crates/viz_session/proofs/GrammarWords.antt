@@ -10,7 +10,8 @@ use Rattle.viz_lex.specs.Reading.{Reading, rest_of, advanced, ◌>>=◌}
 use Rattle.viz_lex.specs.Words.{text_of, IsWordAt}
 use Rattle.viz_lex.proofs.ReadingLemmas.{done_is, bind_ok}
 use Rattle.viz_lex.proofs.WordLemmas.{word_at-next, text_of-next, rest_of-next, word_at-Some}
-use Rattle.viz_session.specs.FirstForm.Steps.{guard, same_word, due_word, keyword_at}
+use Rattle.viz_lex.specs.Steps.{guard, same_word, due_word}
+use Rattle.viz_session.specs.FirstForm.Steps.{keyword_at}
 use Rattle.viz_session.specs.Grammar.{AreWords, IsKeyword}
 
 -- ---- tests

@@ -8,7 +8,8 @@ use Rattle.viz_lex.specs.Words.{word_at, line_at}
 use Rattle.viz_lex.specs.Numbers.{whole_at}
 use Rattle.viz_session.specs.declared.command.Filter.TheVariants.{Threshold, Contour}
 use Rattle.viz_session.specs.Image.{Image, cell_count}
-use Rattle.viz_session.specs.FirstForm.Steps.{due_word, keyword_at}
+use Rattle.viz_lex.specs.Steps.{due_word}
+use Rattle.viz_session.specs.FirstForm.Steps.{keyword_at}
 use Rattle.viz_session.specs.FirstForm.Magic.{head_at}
 use Rattle.viz_session.specs.FirstForm.Header.{form_at, dataset_at, dimension_at, dimensions_at, header_number_at, origin_at, step_at, spacing_at, point_data_at, scalars_at, header_at}
 use Rattle.viz_session.specs.FirstForm.{value_at, values_at, image_of}

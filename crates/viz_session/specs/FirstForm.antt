@@ -10,7 +10,7 @@ use Rattle.viz_lex.specs.Reading.{Reading, fault_at, ◌>>=◌}
 use Rattle.viz_lex.specs.Words.{word_at}
 use Rattle.viz_lex.specs.Numbers.{whole_at}
 use Rattle.viz_session.specs.Image.{Image, point_count}
-use Rattle.viz_session.specs.FirstForm.Steps.{guard, start_at}
+use Rattle.viz_lex.specs.Steps.{guard, start_at}
 use Rattle.viz_session.specs.FirstForm.Header.{header_at}
 
 -- a number within 32 bits

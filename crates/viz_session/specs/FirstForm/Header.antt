@@ -8,7 +8,8 @@ use Rattle.viz_lex.specs.Numbers.{whole_at}
 use Rattle.viz_session.specs.declared.image.Sizes.{Sizes}
 use Rattle.viz_session.specs.declared.image.Vector.{Vector}
 use Rattle.viz_session.specs.Image.{point_count}
-use Rattle.viz_session.specs.FirstForm.Steps.{guard, start_at, same_word, due_word, keyword_at}
+use Rattle.viz_lex.specs.Steps.{guard, start_at, same_word, due_word}
+use Rattle.viz_session.specs.FirstForm.Steps.{keyword_at}
 use Rattle.viz_session.specs.FirstForm.Magic.{head_at}
 
 -- the word ASCII

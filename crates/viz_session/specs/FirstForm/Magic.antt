@@ -7,7 +7,7 @@ use Rattle.viz_lex.specs.declared.fault.FileFault.{FileFault}
 use Rattle.viz_lex.specs.Reading.{Reading, fault_at, ◌>>=◌}
 use Rattle.viz_lex.specs.Words.{is_blank, line_at, text_of}
 use Rattle.viz_lex.specs.Numbers.{is_digit}
-use Rattle.viz_session.specs.FirstForm.Steps.{guard}
+use Rattle.viz_lex.specs.Steps.{guard}
 
 -- how many digits stand in front
 abbrev pub digits_len : List ℕ → ℕ

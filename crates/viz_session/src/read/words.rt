@@ -3,7 +3,8 @@
 ghost use Rattle.std.specs.Prelude.{◌≡◌, ◌≤◌, length};
 ghost use Rattle.viz_lex.specs.Reading.{fault_at};
 ghost use Rattle.viz_lex.specs.Numbers.{whole_at};
-ghost use Rattle.viz_session.specs.FirstForm.Steps.{start_at, same_word, due_word, keyword_at};
+ghost use Rattle.viz_lex.specs.Steps.{start_at, same_word, due_word};
+ghost use Rattle.viz_session.specs.FirstForm.Steps.{keyword_at};
 ghost use Rattle.viz_session.specs.Reads.{Reads};
 
 use viz_lex::{FileFault, FileKind, Lexer};
@@ -38,7 +39,7 @@ pub fn is_word(text: &[u8], keyword: &[u8]) -> bool
 }
 
 /// The next word, which is due: its place and its bytes.
-#[tactic(auto, unfolding(crate::specs::FirstForm::Steps::due_word))]
+#[tactic(auto, unfolding(viz_lex::specs::Steps::due_word))]
 pub fn next_word<'a>(lexer: &mut Lexer<'a>) -> Result<(u64, &'a [u8]), FileFault>
     ensures { Reads (λ word. (word.0, word.1.now)) result lexer.new (due_word lexer.old) }
 {

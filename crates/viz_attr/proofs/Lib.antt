@@ -1,0 +1,10 @@
+pub mod AttributeLaws
+pub mod CountLemmas
+pub mod FirstLaws
+pub mod FirstsLemmas
+pub mod KnownLemmas
+pub mod ListReaders
+pub mod PartLaws
+pub mod PartLoops
+pub mod PassedLaws
+pub mod ValueLoops

@@ -1,0 +1,11 @@
+pub mod Attributes
+pub mod Grammar
+pub mod Arrays
+pub mod Picks
+pub mod Types
+pub mod Values
+pub mod Counts
+pub mod Passed
+pub mod PassedSteps
+pub mod Steps
+pub mod Reads

@@ -1,0 +1,5 @@
+pub mod Numbers
+pub mod Kinds
+pub mod Bytes
+pub mod Lent
+pub mod Typed

@@ -1,0 +1,3 @@
+pub mod FieldLoops
+pub mod HeaderLaws
+pub mod ReadLaws

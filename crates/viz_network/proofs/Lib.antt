@@ -1,0 +1,16 @@
+pub mod ChangeLemmas
+pub mod RankLemmas
+pub mod UsedLemmas
+pub mod StandsLemmas
+pub mod TaleLemmas
+pub mod ConnectLemmas
+pub mod ToldLemmas
+pub mod OrderLemmas
+pub mod PartLemmas
+pub mod EditLemmas
+pub mod RemoveLemmas
+pub mod PartedLemmas
+pub mod StampLemmas
+pub mod SinceLemmas
+pub mod SoundLemmas
+pub mod HistoryLemmas

@@ -1,0 +1,3 @@
+pub mod Order
+pub mod Marks
+pub mod Since
