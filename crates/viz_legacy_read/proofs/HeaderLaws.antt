@@ -272,8 +272,8 @@ decides-made binary =
     decides-same (follow (times_knowing 3 (header_line binary)) (λ all. gives (header_of binary (geometry_of all)))) (λ r. listed binary r >>= made_listed binary) (lines_header_at binary)
     (λ r. ap (λ (o : Known). o >>= made binary) (lines_listed binary r) ∙ made_same binary (listed binary r))
     (decides-follow (times_knowing 3 (header_line binary)) _ (listed binary) _
-      (decides-times_knowing (header_line binary) (λ before. one_line binary (geometry_of before)) (decides-header_line binary) 3)
-      (λ all. decides-gives (header_of binary (geometry_of all))))
+    (decides-times_knowing (header_line binary) (λ before. one_line binary (geometry_of before)) (decides-header_line binary) 3)
+    (λ all. decides-gives (header_of binary (geometry_of all))))
 
 pub decides-header : Decides header header_at
 unfolding header_at

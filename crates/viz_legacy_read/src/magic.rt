@@ -11,6 +11,7 @@ use viz_lex::{FileFault, FileKind, Lexer};
 
 /// What the first line begins with.
 const MAGIC: &[u8] = b"# vtk DataFile Version ";
+
 /// How many digits stand in front.
 fn digits(text: &[u8]) -> usize
     ensures value { result ≡ digits_len text.now }

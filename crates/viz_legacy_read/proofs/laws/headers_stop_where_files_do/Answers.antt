@@ -5,7 +5,7 @@ pub returns-clause-stops : goal.returns-clause-stops
 returns-clause-stops c = λ bytes pick fault h. inl h
 
 pub returns-clause-further : goal.returns-clause-further
-returns-clause-further c = λ bytes pick fault h. elim h [ | inl stops ↦ inl stops | inr further ↦ inr (further.0, (further.1, further.2)) ]
+returns-clause-further c = λ bytes pick fault h. elim h [ inl stops ↦ inl stops | inr further ↦ inr (further.0, (further.1, further.2)) ]
 
 pub returns-clause-reads : goal.returns-clause-reads
 returns-clause-reads c = λ bytes pick image h. (h.1.0, (h.1.1, h.1.2))
