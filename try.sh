@@ -1,17 +1,31 @@
 #!/usr/bin/env bash
-# Builds the program and runs both examples; `out` is never committed.
+# Proves and builds the program, leaves it here as `vizrun` with the examples' files, and runs both.
+# What it makes is ignored by git.
 set -eu
-cd "$(dirname "$0")/crates/viz_cli"
-rt run > out.log 2>&1 || [ -x out/viz_cli ] || { cat out.log; rm -f out.log; exit 1; }
-rm -f out.log
-cp data/b.vtk data/c.vtk out/
-cd out
-echo '$ vizrun once b.vtk o.vtk threshold 2 3'
-./viz_cli once b.vtk o.vtk threshold 2 3
-echo '$ cat o.vtk'
-cat o.vtk
-echo '$ vizrun once c.vtk o.vtk contour 5'
-./viz_cli once c.vtk o.vtk contour 5
-echo '$ head -7 o.vtk'
-head -7 o.vtk
-echo "The program is $PWD/viz_cli; it reads and writes files of the folder that it is started in."
+cd "$(dirname "$0")"
+
+echo "Each proof is checked before the program is built. The first time that takes about"
+echo "10 minutes on four processors, later only what has changed is proved again."
+python3 .ci/prove.py
+
+echo "Proving and building the program."
+log=$PWD/out/viz_cli.log
+# Without words the program says its usage, with status 1: that it ran says that it was built.
+(cd crates/viz_cli && rt run) >"$log" 2>&1 || true
+if ! grep -q '^rt: running ' "$log"; then
+    tail -n 40 "$log"
+    echo "The program wasn't built. Above is the end of $log."
+    exit 1
+fi
+install -m 755 crates/viz_cli/out/viz_cli vizrun
+cp crates/viz_cli/data/b.vtk crates/viz_cli/data/c.vtk .
+
+type_in() {
+    echo "\$ $*"
+    "$@"
+}
+type_in ./vizrun once b.vtk o.vtk threshold 2 3
+type_in tail -n 2 o.vtk
+type_in ./vizrun once c.vtk o.vtk contour 5
+type_in head -n 7 o.vtk
+echo "The program is $PWD/vizrun. It reads and writes files of the folder that it is started in."

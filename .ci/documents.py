@@ -1,13 +1,16 @@
 #!/usr/bin/env python3
-"""Compares the documents with the code: crates, paths, `call · label`, definitions, the examples."""
+"""Compares the documents with the code: crates, paths, labels of clauses, definitions, examples."""
 import glob
 import os
 import re
+import subprocess
 import sys
 
 TOP = os.path.dirname(os.path.dirname(os.path.abspath(__file__)))
-PAGES = ["README.md"] + ["docs/%s.md" % p for p in
-                         ("ARCHITECTURE", "DEFINITIONS", "FORMATS", "DECISIONS", "GLOSSARY")]
+PROVED = "docs/PROVED.md"
+PAGES = ["README.md", PROVED] + [
+    "docs/%s.md" % page for page in
+    ("ARCHITECTURE", "DEFINITIONS", "FORMATS", "DECISIONS", "GLOSSARY")]
 SUFFIXES = (".md", ".rt", ".antt", ".txt", ".py", ".vtk", ".edit", ".sh")
 errors = []
 
@@ -30,58 +33,136 @@ def resolve(token):
     return None
 
 
-def labels():
-    """The labels of the clauses of each function, by its name alone."""
-    found = {}
-    for path in glob.glob(os.path.join(TOP, "crates/*/src/*.rt")):
-        name = None
-        for line in open(path, encoding="utf-8"):
-            head = re.match(r"\s*(?:pub )?fn (\w+)", line)
-            if head:
-                name = head.group(1)
-            clause = re.match(r"\s*(?:requires|ensures) (\w+) \{", line)
-            if name and clause:
-                found.setdefault(name, set()).add(clause.group(1))
+def in_ticks(body):
+    """What stands in code ticks, outside whole blocks of text."""
+    return re.findall(r"`([^`\n]+)`", re.sub(r"```.*?```", "", body, flags=re.S))
+
+
+def exported(crate):
+    """The names that a library hands out."""
+    path = "crates/%s/src/lib.rt" % crate
+    page = text(path) if resolve(path) else ""
+    names = re.findall(r"^pub (?:const )?(?:fn|struct|enum|trait) (\w+)", page, re.M)
+    for several, one in re.findall(r"^pub use (?:\w+::)+(?:\{([^}]*)\}|(\w+));", page, re.M):
+        names += re.findall(r"\w+", several or one)
+    return set(names)
+
+
+def owner_of(line):
+    """The type or the trait whose calls follow, where a line opens an impl or a trait."""
+    while "<" in line:
+        line, count = re.subn(r"<[^<>]*>", "", line)
+        if not count:
+            break
+    head = re.match(r"(?:pub )?(impl|trait) (?:\w+ (for) )?(\w+)", line)
+    return (head[3], head[1] == "trait" or head[2] == "for") if head else None
+
+
+def clauses(path):
+    """Each function of a file: its name, with its type's in front, whether it is public, and the
+    labels of its premises and of its promises."""
+    found, owner, labels = [], None, {}
+    for line in text(path).splitlines():
+        if line and not line[0].isspace():
+            owner = owner_of(line) or (None if line[0] == "}" else owner)
+        head = re.match(r"\s*(pub )?(?:pub\([^)]*\) )?(?:const )?fn (\w+)", line)
+        if head:
+            name = "::".join([owner[0], head[2]] if owner else [head[2]])
+            labels = {"requires": set(), "ensures": set()}
+            found.append((name, bool(head[1] or owner and owner[1]), labels))
+        clause = re.match(r"\s*(requires|ensures) (\w+) \{", line)
+        if clause and found:
+            labels[clause[1]].add(clause[2])
     return found
 
 
+class Clauses:
+    """The labels of all functions by their last name, and what each library's calls promise."""
+
+    def __init__(self):
+        self.of_any, self.of = {}, {}
+        for crate in crates():
+            self.of[crate], names = {}, exported(crate)
+            paths = glob.glob(os.path.join(TOP, "crates", crate, "src/**/*.rt"), recursive=True)
+            for name, is_public, labels in (it for path in paths for it in clauses(path)):
+                self.of_any.setdefault(name.split("::")[-1], set()).update(*labels.values())
+                if is_public and name.split("::")[0] in names:
+                    self.of[crate].setdefault(name, set()).update(labels["ensures"])
+
+    def has(self, left, label):
+        """Whether the call has the label; a call without its crate may be any of that name."""
+        crate, _, call = left.partition("::")
+        if crate in self.of:
+            return label in self.of[crate].get(call, ())
+        return label in self.of_any.get(left.split("::")[-1], ())
+
+
 def check_names(page, known):
-    body = re.sub(r"```.*?```", "", text(page), flags=re.S)
-    for token in re.findall(r"`([^`\n]+)`", body):
+    for token in in_ticks(text(page)):
         if "·" in token:
             left, word = (part.strip() for part in token.split("·"))
             if left.endswith(".antt"):
                 path = resolve(left)
-                pattern = r"^(?:abbrev pub|unfoldable pub|pub record|pub data|pub) %s\b" % re.escape(word)
-                if not path or not re.search(pattern, text(path), re.M):
+                kinds = r"^(?:abbrev pub|unfoldable pub|pub record|pub data|pub) %s\b"
+                if not path or not re.search(kinds % re.escape(word), text(path), re.M):
                     errors.append("%s: no definition `%s`" % (page, token))
-            else:
-                call = left.split("::")[-1]
-                if word not in known.get(call, ()):
-                    errors.append("%s: no clause `%s`" % (page, token))
+            elif not known.has(left, word):
+                errors.append("%s: no clause `%s`" % (page, token))
         elif token.endswith(SUFFIXES) and "/" in token and " " not in token:
             if not resolve(token):
                 errors.append("%s: no file `%s`" % (page, token))
+    body = re.sub(r"```.*?```", "", text(page), flags=re.S)
     for link in re.findall(r"\]\(([^)#]+)(?:#[^)]*)?\)", body):
         if not os.path.exists(os.path.join(TOP, os.path.dirname(page), link)):
             errors.append("%s: no page %s" % (page, link))
 
 
+def check_part(crate, body, known):
+    """In a crate's part stand calls of that crate alone, each with the label of a promise."""
+    calls, claims = known.of[crate], 0
+    for token in in_ticks(body):
+        left, dot, _ = (part.strip() for part in token.partition("·"))
+        first, _, call = left.partition("::")
+        if left.endswith(".antt"):
+            continue
+        if dot and first != crate:
+            errors.append("%s, %s: `%s` names no call of this crate" % (PROVED, crate, token))
+        elif not dot and (left in calls or first in known.of and call):
+            errors.append("%s, %s: `%s` has no label" % (PROVED, crate, token))
+        claims += bool(dot)
+    if not claims and any(calls.values()):
+        errors.append("%s, %s: no clause is named" % (PROVED, crate))
+
+
+def check_proved(known):
+    """PROVED.md has a part for each crate, and nothing is claimed without a clause."""
+    parts = re.split(r"^## (.*)$", text(PROVED), flags=re.M)
+    here = [name.strip("` ") for name in parts[1::2]]
+    if sorted(here) != sorted(crates()):
+        errors.append("%s: its parts aren't the crates of crates.txt: %s" % (PROVED, here))
+    for crate, body in zip(here, parts[2::2]):
+        if crate in known.of:
+            check_part(crate, body, known)
+
+
 def check_crates():
     here = crates()
-    rows = set(re.findall(r"^\| `(viz_\w+)` \|", text("README.md"), re.M))
-    if rows != here:
-        errors.append("README.md: crates differ from crates.txt: %s" % sorted(rows ^ here))
-    standing = set(re.findall(r"^\| \d \| `(viz_\w+)` \| stands \|", text("docs/ARCHITECTURE.md"), re.M))
-    if standing != here:
-        errors.append("docs/ARCHITECTURE.md: crates differ from crates.txt: %s" % sorted(standing ^ here))
+    for page, pattern in (("README.md", r"^\| `(viz_\w+)` \|"),
+                          ("docs/ARCHITECTURE.md", r"^\| \d \| `(viz_\w+)` \| stands \|")):
+        rows = re.findall(pattern, text(page), re.M)
+        if sorted(rows) != sorted(here):
+            errors.append("%s: its lines are not those of crates.txt: %s" % (page, sorted(rows)))
+
+
+def typed(words, answer):
+    """A command as README shows it, and what it puts."""
+    return "$ ./vizrun %s\n%s" % (words, answer)
 
 
 def check_example():
     blocks = re.findall(r"```text\n(.*?)```", text("README.md"), re.S)
     words = " ".join(text("crates/viz_cli/args").split())
-    wanted = [text("crates/viz_cli/data/b.vtk"),
-              "$ vizrun %s\n%s" % (words, text("crates/viz_cli/stdout"))]
+    wanted = [text("crates/viz_cli/data/b.vtk"), typed(words, text("crates/viz_cli/stdout"))]
     for block in wanted:
         if block not in blocks:
             errors.append("README.md: its example isn't the program's stored run:\n" + block)
@@ -105,7 +186,7 @@ def check_contour():
         ("CUBE", "FIRST_VALUES", "FIRST_LEVEL", "FIRST_REPORT", "FIRST_SURFACE"))
     if text("crates/viz_cli/data/c.vtk") != front + values:
         errors.append("crates/viz_cli/data/c.vtk isn't the file of the first contour's test")
-    for block in [front + values, "$ vizrun once c.vtk o.vtk contour %s\n%s" % (level, report)]:
+    for block in [front + values, typed("once c.vtk o.vtk contour " + level, report)]:
         if block not in blocks:
             errors.append("README.md: its contour isn't that of the test:\n" + block)
     heads = surface.index("POINTS") if "POINTS" in surface else 0
@@ -113,12 +194,28 @@ def check_contour():
         errors.append("README.md: no first lines of the contour:\n" + surface)
 
 
-known = labels()
+def check_kit():
+    """Says where README's kit isn't the one that is here. Kits change, so that fails nothing."""
+    said = re.search(r"[Pp]roved with `([^`]+)`", text("README.md"))
+    if not said:
+        errors.append("README.md: no line of the kit that it is proved with")
+        return
+    try:
+        here = subprocess.run(["rt", "version"], stdout=subprocess.PIPE, text=True).stdout.strip()
+    except OSError:
+        here = "no rt"
+    if here != said[1]:
+        print("documents: notice: README.md says %s, and here is %s" % (said[1], here))
+
+
+known = Clauses()
 for page in PAGES:
     check_names(page, known)
+check_proved(known)
 check_crates()
 check_example()
 check_contour()
+check_kit()
 for error in errors:
     print("documents:", error)
 if errors:
