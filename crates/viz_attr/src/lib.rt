@@ -18,7 +18,10 @@ mod types;
 mod values;
 
 pub use all_parts::attributes;
-pub use laws::{attributes_are_definite, other_arrays_are_counted, the_first_that_fits_is_picked};
+pub use laws::{
+    attributes_are_definite, other_arrays_are_counted, readers_decide_their_rules,
+    the_first_that_fits_is_picked,
+};
 pub use passed::pass_field;
 pub use stop::AttrStop;
 pub use types::{Stored, type_word};
