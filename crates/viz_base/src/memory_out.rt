@@ -14,6 +14,7 @@ use std::marker::Model;
 pub struct MemoryOut {
     text: Vec<u8>,
     failing: Vec<u64>,
+    answered: u64,
     puts: u64,
     faults: u64,
 }
@@ -26,6 +27,7 @@ impl Model for MemoryOut {
     ghost view = { λ o. record {
       text = o.text.items;
       failing = o.failing.items;
+      answered = o.answered;
       puts = o.puts;
       faults = o.faults;
     } };
@@ -37,11 +39,13 @@ impl MemoryOut {
         ensures text { ⟦<MemoryOut as Out>⟧.text result ≡ [] }
         ensures faults { ⟦<MemoryOut as Out>⟧.faults result ≡ 0 }
         ensures failing { result.failing ≡ failing.items }
-        ensures puts { result.puts ≡ 0 }
+        ensures answered { result.answered ≡ 0 }
+        ensures puts { ⟦<MemoryOut as Out>⟧.puts result ≡ 0 }
     {
         MemoryOut {
             text: Vec::new(alloc),
             failing,
+            answered: 0,
             puts: 0,
             faults: 0,
         }
@@ -60,34 +64,39 @@ impl Out for MemoryOut {
 
     ghost text = { λ out. out.text };
 
+    ghost puts = { λ out. out.puts };
+
     ghost faults = { λ out. out.faults };
 
     fn put(&mut self, _alloc: Global, bytes: &[u8]) -> Result<(), WriteRefusal>
         ensures appended { OnOk result (self.new.text ≡ self.old.text ++ bytes.now) }
         ensures fails { IsErrOf result WriteRefusal.Failed
-            ↔ Contains self.old.failing (one_more self.old.puts) }
+            ↔ Contains self.old.failing (one_more self.old.answered) }
 
         // What stays, and the counts.
         ensures err { OnErr result (self.new.text ≡ self.old.text) }
         ensures after { IsErrOf result WriteRefusal.Memory ⊎ (self.new ≡ record self.old {
           text = self.new.text;
+          answered = one_more self.old.answered;
           puts = one_more self.old.puts;
           faults = write_faults self.old.faults result;
         }) }
+        ensures puts { self.new.puts ≡ one_more self.old.puts }
         ensures later { self.old.faults ≤ self.new.faults }
         ensures counted { self.new.faults < 2 ^ 64 }
     {
         let faults = self.faults;
-        let number = self.puts.saturating_add(1);
+        let number = self.answered.saturating_add(1);
+        self.puts = self.puts.saturating_add(1);
         if self.failing.contains(&number) {
-            self.puts = number;
+            self.answered = number;
             self.faults = faults.saturating_add(1);
             return Err(WriteRefusal::Failed);
         }
         if self.text.extend_from_slice(bytes).is_err() {
             return Err(WriteRefusal::Memory);
         }
-        self.puts = number;
+        self.answered = number;
         Ok(())
     }
 }

@@ -1,7 +1,7 @@
 //! Text that can be appended to.
 
 ghost use Rattle.std.specs.Prelude.{◌≡◌, ℕ, ◌^◌, ◌<◌, ◌≤◌, ◌++◌, Bool, List, OnOk, IsTrue, IsErrOf};
-ghost use Rattle.viz_base.specs.Faults.{Rose};
+ghost use Rattle.viz_base.specs.Faults.{Rose, one_more};
 ghost use Rattle.viz_base.specs.Texts.{AppendsPrefix};
 
 use crate::refusal::WriteRefusal;
@@ -14,6 +14,9 @@ pub trait Out {
 
     /// The text so far.
     ghost text: { Self → List ℕ };
+
+    /// How often `put` was called, up to the greatest u64.
+    ghost puts: { Self → ℕ };
 
     /// How often a call failed, up to the greatest u64.
     ghost faults: { Self → ℕ };
@@ -31,7 +34,8 @@ pub trait Out {
         ensures err { IsTrue tells_text → IsErrOf result WriteRefusal.Memory
             → text self.new ≡ text self.old }
 
-        // The count.
+        // The counts.
+        ensures puts { puts self.new ≡ one_more (puts self.old) }
         ensures later { faults self.old ≤ faults self.new }
         ensures counted { faults self.new < 2 ^ 64 };
 }

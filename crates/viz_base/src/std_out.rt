@@ -11,6 +11,7 @@ use std::io::ErrorKind;
 #[derive(Drop)]
 pub struct StdOut<'a, R: Print> {
     rt: &'a R,
+    puts: u64,
     faults: u64,
 }
 
@@ -34,9 +35,14 @@ fn print_all<R: Print>(rt: &R, bytes: &[u8]) -> Result<(), WriteRefusal> {
 impl<'a, R: Print> StdOut<'a, R> {
     /// The output of this program.
     pub fn new(rt: &'a R) -> StdOut<'a, R>
-        ensures { ⟦<StdOut<'a, R> as Out>⟧.faults result ≡ 0 }
+        ensures puts { ⟦<StdOut<'a, R> as Out>⟧.puts result ≡ 0 }
+        ensures faults { ⟦<StdOut<'a, R> as Out>⟧.faults result ≡ 0 }
     {
-        StdOut { rt, faults: 0 }
+        StdOut {
+            rt,
+            puts: 0,
+            faults: 0,
+        }
     }
 }
 
@@ -45,10 +51,14 @@ impl<'a, R: Print> Out for StdOut<'a, R> {
 
     ghost text = { λ _. [] };
 
+    ghost puts = { λ out. out.puts };
+
     ghost faults = { λ out. out.faults };
 
     fn put(&mut self, _alloc: Global, bytes: &[u8]) -> Result<(), WriteRefusal> {
+        let puts = self.puts;
         let faults = self.faults;
+        self.puts = puts.saturating_add(1);
         let answer = print_all(self.rt, bytes);
         if let Err(WriteRefusal::Failed) = answer {
             self.faults = faults.saturating_add(1);
