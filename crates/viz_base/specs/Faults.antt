@@ -29,3 +29,9 @@ abbrev pub write_faults : ℕ → Result (Unit {0}) WriteRefusal → ℕ
 write_faults count (Ok done) = count
 write_faults count (Err writing.Failed) = one_more count
 write_faults count (Err writing.Memory) = count
+
+-- the count of answers after a put: want of memory isn't counted
+abbrev pub answers_after : ℕ → Result (Unit {0}) WriteRefusal → ℕ
+answers_after count (Ok done) = one_more count
+answers_after count (Err writing.Failed) = one_more count
+answers_after count (Err writing.Memory) = count

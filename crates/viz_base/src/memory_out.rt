@@ -1,7 +1,7 @@
 //! An output in memory, with calls that fail by a list.
 
 ghost use Rattle.std.specs.Prelude.{◌≡◌, ◌≤◌, ◌<◌, ◌^◌, ◌⊎◌, ◌↔◌, ◌++◌, [], true, Contains, OnOk, OnErr, IsErrOf};
-ghost use Rattle.viz_base.specs.Faults.{one_more, write_faults};
+ghost use Rattle.viz_base.specs.Faults.{one_more, write_faults, answers_after};
 
 use crate::out::Out;
 use crate::refusal::WriteRefusal;
@@ -39,7 +39,7 @@ impl MemoryOut {
         ensures text { ⟦<MemoryOut as Out>⟧.text result ≡ [] }
         ensures faults { ⟦<MemoryOut as Out>⟧.faults result ≡ 0 }
         ensures failing { result.failing ≡ failing.items }
-        ensures answered { result.answered ≡ 0 }
+        ensures answered { ⟦<MemoryOut as Out>⟧.answered result ≡ 0 }
         ensures puts { ⟦<MemoryOut as Out>⟧.puts result ≡ 0 }
     {
         MemoryOut {
@@ -66,6 +66,8 @@ impl Out for MemoryOut {
 
     ghost puts = { λ out. out.puts };
 
+    ghost answered = { λ out. out.answered };
+
     ghost faults = { λ out. out.faults };
 
     fn put(&mut self, _alloc: Global, bytes: &[u8]) -> Result<(), WriteRefusal>
@@ -82,6 +84,7 @@ impl Out for MemoryOut {
           faults = write_faults self.old.faults result;
         }) }
         ensures puts { self.new.puts ≡ one_more self.old.puts }
+        ensures answered { self.new.answered ≡ answers_after self.old.answered result }
         ensures later { self.old.faults ≤ self.new.faults }
         ensures counted { self.new.faults < 2 ^ 64 }
     {

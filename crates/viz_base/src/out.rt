@@ -1,7 +1,7 @@
 //! Text that can be appended to.
 
 ghost use Rattle.std.specs.Prelude.{◌≡◌, ℕ, ◌^◌, ◌<◌, ◌≤◌, ◌++◌, Bool, List, OnOk, IsTrue, IsErrOf};
-ghost use Rattle.viz_base.specs.Faults.{Rose, one_more};
+ghost use Rattle.viz_base.specs.Faults.{Rose, one_more, answers_after};
 ghost use Rattle.viz_base.specs.Texts.{AppendsPrefix};
 
 use crate::refusal::WriteRefusal;
@@ -17,6 +17,9 @@ pub trait Out {
 
     /// How often `put` was called, up to the greatest u64.
     ghost puts: { Self → ℕ };
+
+    /// How often it was answered otherwise than by want of memory, up to the greatest u64.
+    ghost answered: { Self → ℕ };
 
     /// How often a call failed, up to the greatest u64.
     ghost faults: { Self → ℕ };
@@ -36,6 +39,7 @@ pub trait Out {
 
         // The counts.
         ensures puts { puts self.new ≡ one_more (puts self.old) }
+        ensures answered { answered self.new ≡ answers_after (answered self.old) result }
         ensures later { faults self.old ≤ faults self.new }
         ensures counted { faults self.new < 2 ^ 64 };
 }
