@@ -18,3 +18,13 @@ mod threshold;
 pub use outcome::Status;
 pub use session::run;
 
+#[cfg(test)]
+mod contour_tests;
+#[cfg(test)]
+mod contour_texts;
+#[cfg(test)]
+mod image_files;
+#[cfg(test)]
+mod runs;
+#[cfg(test)]
+mod tests;
