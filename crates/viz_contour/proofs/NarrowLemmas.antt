@@ -12,19 +12,6 @@ use Rattle.viz_contour.specs.Contour.{insides}
 use Rattle.viz_contour.specs.Points.{either_crossing, IsNarrowEither, IsNarrowName}
 use Rattle.viz_contour.proofs.MembersLemmas.{get_or-map_of}
 
--- a point is inside where its value is at least the level
-pub inside_at : (level : ℤ) (values : List ℤ) (leaf : ℕ) → leaf < length values
-    → slice_index_or (insides level values) leaf false ≡ int_le level (slice_index_or values leaf (pos 0))
-inside_at level values leaf within = get_or-map_of (λ n. int_le level n) values leaf (pos 0) false within
-
--- a value is at least the level where it is at least 0 above it
-pub above_le : (level s : ℤ) → int_le (pos 0) (s -ℤ level) ≡ int_le level s
-above_le level s = cases (int_le level s) refl
-  where
-    cases : (b : Bool) → int_le level s ≡ b → int_le (pos 0) (s -ℤ level) ≡ int_le level s
-    cases true holds = sym (true_is_le (pos 0) (s -ℤ level) (omega (arith, ints, le-true level s holds))) ∙ sym holds
-    cases false fails = sym (false_is_le (pos 0) (s -ℤ level) (omega (arith, ints, le-false level s fails))) ∙ sym fails
-
 -- the crossing by values is that of the form
 pub either-edge : (f : Form) (p q a b : Point) (la lb : ℤ) → la ≡ value_of f p → lb ≡ value_of f q → a ≡ p → b ≡ q
     → either_crossing la a lb b ≡ edge_crossing f p q
