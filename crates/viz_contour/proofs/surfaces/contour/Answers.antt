@@ -1,4 +1,4 @@
-use Rattle.std.proofs.Common.{◌≡◌, Bool, ℤ, List, length, sym, ap, subst, ◌∙◌, rules}
+use Rattle.std.proofs.Common.{◌≡◌, Bool, ℤ, List, sym, ap, subst, ◌∙◌, rules}
 use Rattle.std.specs.List.{All}
 use Rattle.viz_contour.specs.declared.names.EdgeName.{EdgeName}
 use Rattle.viz_contour.specs.declared.names.Triangle.{Triangle}
