@@ -3,7 +3,7 @@ pub mod NameOrder
 pub mod NameSets
 pub mod NameRanks
 pub mod MembersLemmas
-pub mod WholeLemmas
+pub mod LeafLemmas
 pub mod NarrowLemmas
 pub mod CellLemmas
 pub mod SectionLemmas

@@ -1,29 +1,11 @@
 -- Which ends are inside, and the crossing of a name by the values at its ends.
-use Rattle.std.proofs.Common.{◌≡◌, ℕ, ◌<◌, Bool, true, false, ℤ, pos, List, length, slice_index_or, refl, sym, ap, subst, ◌∙◌, arith}
-use Rattle.std.specs.Prelude.{◌-ℤ◌, int_le}
-use Rattle.std.proofs.lemmas.Int.{ints}
-use borrow.Author.Differences.{le-true, le-false, true_is_le, false_is_le}
+use Rattle.std.proofs.Common.{◌≡◌, ℕ, ℤ, sym, ap, subst, ◌∙◌}
 use Rattle.viz_fraction.specs.declared.forms.Form.{Form}
 use Rattle.viz_fraction.specs.Points.{Point}
 use Rattle.viz_fraction.specs.Forms.{value_of}
 use Rattle.viz_fraction.specs.Crossings.{edge_crossing}
 use Rattle.viz_contour.specs.declared.names.EdgeName.{EdgeName}
-use Rattle.viz_contour.specs.Contour.{insides}
 use Rattle.viz_contour.specs.Points.{either_crossing, IsNarrowEither, IsNarrowName}
-use Rattle.viz_contour.proofs.MembersLemmas.{get_or-map_of}
-
--- a point is inside where its value is at least the level
-pub inside_at : (level : ℤ) (values : List ℤ) (leaf : ℕ) → leaf < length values
-    → slice_index_or (insides level values) leaf false ≡ int_le level (slice_index_or values leaf (pos 0))
-inside_at level values leaf within = get_or-map_of (λ n. int_le level n) values leaf (pos 0) false within
-
--- a value is at least the level where it is at least 0 above it
-pub above_le : (level s : ℤ) → int_le (pos 0) (s -ℤ level) ≡ int_le level s
-above_le level s = cases (int_le level s) refl
-  where
-    cases : (b : Bool) → int_le level s ≡ b → int_le (pos 0) (s -ℤ level) ≡ int_le level s
-    cases true holds = sym (true_is_le (pos 0) (s -ℤ level) (omega (arith, ints, le-true level s holds))) ∙ sym holds
-    cases false fails = sym (false_is_le (pos 0) (s -ℤ level) (omega (arith, ints, le-false level s fails))) ∙ sym fails
 
 -- the crossing by values is that of the form
 pub either-edge : (f : Form) (p q a b : Point) (la lb : ℤ) → la ≡ value_of f p → lb ≡ value_of f q → a ≡ p → b ≡ q

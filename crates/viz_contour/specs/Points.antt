@@ -1,13 +1,13 @@
 -- What the code of a contour's points rests on: names of cut edges (docs/FORMATS.md, "Contour").
-use Rattle.std.specs.Prelude.{◌≡◌, ◌≢◌, ◌↔◌, ℕ, ◌<◌, Bool, false, ℤ, pos, ◌≤ℤ◌, ◌<ℤ◌, List, length, slice_index_or, All, FitsSigned, int_le, if◌then◌else◌}
-use Rattle.std.specs.Int.{w32, w64}
+use Rattle.std.specs.Prelude.{◌≢◌, ◌↔◌, ℕ, ◌<◌, Bool, false, ℤ, pos, ◌≤ℤ◌, ◌<ℤ◌, List, slice_index_or, All, FitsSigned, int_le, if◌then◌else◌}
+use Rattle.std.specs.Int.{w64}
 use Rattle.viz_extent.specs.Extent.{count_of}
 use Rattle.viz_fraction.specs.declared.forms.Form.{Form}
 use Rattle.viz_fraction.specs.Points.{Point}
 use Rattle.viz_fraction.specs.Crossings.{crossing_of, IsNarrowCrossing}
+use Rattle.viz_dataset.specs.Images.{ImageData, IsImage}
 use Rattle.viz_contour.specs.declared.names.EdgeName.{EdgeName}
-use Rattle.viz_contour.specs.declared.lattice.Lattice.{Lattice}
-use Rattle.viz_contour.specs.Contour.{IsNarrowEdge, IsNarrowContour, point_at, contour_form, contour_names, insides}
+use Rattle.viz_contour.specs.Contour.{IsNarrowEdge, IsNarrowContour, point_of_leaf, contour_form, contour_names, insides}
 
 -- one of the two ends of a name is inside, and both are among so many points
 pub record IsCutName (count : ℕ) (inside : List Bool) (n : EdgeName) : Type 0 where
@@ -30,17 +30,17 @@ pub record IsNarrowName (f : Form) (at : ℕ → Point) (n : EdgeName) : Type 0 
   pub down : IsNarrowEdge f (at n.high) (at n.low)
 
 -- no crossing on the edges of names is wide
-pub record AreNarrow (level : ℤ) (l : Lattice) (values : List ℤ) (names : List EdgeName) : Type 0 where
-  pub each : All (IsNarrowName (contour_form level) (point_at l values)) names
+pub record AreNarrow (level : ℤ) (image : ImageData) (names : List EdgeName) : Type 0 where
+  pub each : All (IsNarrowName (contour_form level) (point_of_leaf image)) names
 
 -- the names of a contour are those of cut edges
 abbrev pub NamesAreCut : Type 0
 NamesAreCut =
-    (level : ℤ) (l : Lattice) (values : List ℤ) → length values ≡ count_of l.extent
-    → All (IsCutName (length values) (insides level values)) (contour_names level l values)
+    (level : ℤ) (image : ImageData)
+    → All (IsCutName (count_of image.extent) (insides level image.values.items)) (contour_names level image)
 
--- a contour of values of 32 bits is narrow exactly where the crossings of its names are
+-- the contour of an image at a level of 64 bits is narrow exactly where the crossings of its names are
 abbrev pub NarrowByNames : Type 0
 NarrowByNames =
-    (level : ℤ) (l : Lattice) (values : List ℤ) → FitsSigned w64 level → All (FitsSigned w32) values → length values ≡ count_of l.extent
-    → IsNarrowContour level l values ↔ AreNarrow level l values (contour_names level l values)
+    (level : ℤ) (image : ImageData) → FitsSigned w64 level → IsImage image
+    → IsNarrowContour level image ↔ AreNarrow level image (contour_names level image)

@@ -1,19 +1,47 @@
-//! Contours of one cube of points, and the points of single edges, reckoned by hand.
-use crate::{EdgeName, Lattice, Surface, WorkStop, contour, insides, numbered, points};
+//! Contours of one cube of points, reckoned by hand.
+use crate::{WorkStop, contour, insides, numbered};
 use std::alloc::Global;
 use std::process::Abort;
 use std::test::Fail;
+use viz_column::{Column, Number};
+use viz_dataset::{Image, is_origin, is_spacing};
 use viz_extent::Extent;
 use viz_fraction::Point5;
 
-/// The points with these bounds.
-fn lattice(bounds: [u32; 6], origin: [i64; 3], spacing: [i64; 3]) -> Option<Lattice> {
-    let extent = Extent::new(bounds)?;
-    Some(Lattice {
-        extent,
-        origin,
-        spacing,
-    })
+/// So many billionths make 1.
+const ONE: i128 = 1_000_000_000;
+
+/// The points of a single cube.
+const CUBE: [u32; 6] = [0, 1, 0, 1, 0, 1];
+
+// The image of a column, where there is one.
+fn image_of(
+    extent: Extent,
+    origin: [i128; 3],
+    spacing: [i128; 3],
+    column: Column,
+) -> Option<Image> {
+    if !is_origin(&origin) || !is_spacing(&spacing) || column.len() != extent.count() {
+        return None;
+    }
+    Some(Image::new(extent, origin, spacing, column))
+}
+
+// The image of these numbers, as values of a type.
+fn image_with<T: Number>(
+    alloc: Global,
+    bounds: [u32; 6],
+    origin: [i128; 3],
+    spacing: [i128; 3],
+    numbers: &[i128],
+) -> Result<Image, Fail> {
+    let extent = Extent::new(bounds).ok_or("an extent")?;
+    let mut values = Vec::new(alloc);
+    for n in numbers {
+        values.push(T::of_whole(*n).unwrap_or(T::zero()))?;
+    }
+    let image = image_of(extent, origin, spacing, Column::of(values)).ok_or("an image")?;
+    Ok(image)
 }
 
 /// The five numbers of a point.
@@ -21,30 +49,19 @@ fn five(p: &Point5) -> [i128; 5] {
     [p.x(), p.y(), p.z(), p.s(), p.w()]
 }
 
-/// The contour of values, one for each point.
-fn contour_of(
-    alloc: Global,
-    level: &i64,
-    lattice: &Lattice,
-    values: &[i32],
-) -> Option<Result<Surface, WorkStop>> {
-    if values.len() as u64 != lattice.extent.count() {
-        return None;
-    }
-    Some(contour(alloc, level, lattice, values))
-}
-
-// The contour at level 5 of the cube of points from 0 to 1 has these points and triangles.
-fn shows(
+// The contour of values at the cube's points, these steps from each other, has these points and
+// triangles.
+fn shows<T: Number>(
     rt: &impl Abort,
     alloc: Global,
-    values: [i32; 8],
+    level: &i64,
+    spacing: [i128; 3],
+    values: [i128; 8],
     points: &[[i128; 5]],
     triangles: &[[u32; 3]],
 ) -> Result<(), Fail> {
-    let unit = lattice([0, 1, 0, 1, 0, 1], [0, 0, 0], [1, 1, 1]).ok_or("a lattice")?;
-    assert_eq!(rt; unit.extent.count(), 8);
-    let surface = contour(alloc, &5, &unit, &values)?;
+    let image = image_with::<T>(alloc, CUBE, [0; 3], spacing, &values)?;
+    let surface = contour(alloc, level, &image)?;
     assert!(rt; surface.names.len() < 20, "{values:?}");
     let ranks = numbered(alloc, &surface.names, &surface.triangles)?;
     assert_eq!(rt; ranks.as_slice(), triangles, "{values:?}");
@@ -65,88 +82,143 @@ const LAST: [[u32; 3]; 6] = [
     [6, 0, 4],
 ];
 
-#[test]
-fn a_corner_is_cut_off(rt: HostRuntime) -> Result<(), Fail> {
-    // first-contour: five ninths of the way from each point to the last one.
-    let far = [
-        [5, 5, 5, 45, 9],
-        [9, 5, 5, 45, 9],
-        [5, 9, 5, 45, 9],
-        [9, 9, 5, 45, 9],
-        [5, 5, 9, 45, 9],
-        [9, 5, 9, 45, 9],
-        [5, 9, 9, 45, 9],
-    ];
-    shows(&rt, rt.alloc(), [0, 0, 0, 0, 0, 0, 0, 9], &far, &LAST)?;
-    // tie-at-corner: each on the last point itself.
-    let tie = [[1, 1, 1, 5, 1]; 7];
-    shows(&rt, rt.alloc(), [0, 0, 0, 0, 0, 0, 0, 5], &tie, &LAST)?;
-    // all-inside, and none.
-    shows(&rt, rt.alloc(), [9; 8], &[], &[])?;
-    shows(&rt, rt.alloc(), [4; 8], &[], &[])
+// The points on the edges from each point to the last one, so many parts of so many on the way,
+// with a scalar of so many of those parts.
+const fn far(way: i128, parts: i128, scalar: i128) -> [[i128; 5]; 7] {
+    [
+        [way, way, way, scalar, parts],
+        [parts, way, way, scalar, parts],
+        [way, parts, way, scalar, parts],
+        [parts, parts, way, scalar, parts],
+        [way, way, parts, scalar, parts],
+        [parts, way, parts, scalar, parts],
+        [way, parts, parts, scalar, parts],
+    ]
 }
 
-/// The point between two points with values, at level 0.
-fn point_between(
-    alloc: Global,
-    lattice: &Lattice,
-    a: &i32,
-    b: &i32,
-) -> Option<Result<Vec<Point5>, WorkStop>> {
-    if lattice.extent.count() != 2 || (0 <= *a) == (0 <= *b) {
-        return None;
+#[test]
+fn a_corner_is_cut_off(rt: HostRuntime) -> Result<(), Fail> {
+    let alloc = rt.alloc();
+    let unit = [ONE; 3];
+    // Five ninths of the way from each point to the last one.
+    let nine = [0, 0, 0, 0, 0, 0, 0, 9];
+    shows::<i32>(&rt, alloc, &5, unit, nine, &far(5, 9, 45), &LAST)?;
+    // Each on the last point itself, whose value is the level.
+    let five = [0, 0, 0, 0, 0, 0, 0, 5];
+    shows::<u16>(&rt, alloc, &5, unit, five, &far(1, 1, 5), &LAST)?;
+    // All inside, and none.
+    shows::<i32>(&rt, alloc, &5, unit, [9; 8], &[], &[])?;
+    shows::<i32>(&rt, alloc, &5, unit, [4; 8], &[], &[])
+}
+
+#[test]
+fn values_are_of_any_type(rt: HostRuntime) -> Result<(), Fail> {
+    let alloc = rt.alloc();
+    let unit = [ONE; 3];
+    // 8 bits and a sign: 128 parts of 255 on the way from -128 to 127.
+    let least = [-128, -128, -128, -128, -128, -128, -128, 127];
+    shows::<i8>(&rt, alloc, &0, unit, least, &far(128, 255, 0), &LAST)?;
+    // 64 bits without a sign: 5 parts of 2^64 - 1 on the way from 0, so 1 of a fifth of them.
+    const MOST: i128 = 18_446_744_073_709_551_615;
+    let most = [0, 0, 0, 0, 0, 0, 0, MOST];
+    let fifth = 3_689_348_814_741_910_323;
+    shows::<u64>(&rt, alloc, &5, unit, most, &far(1, fifth, MOST), &LAST)
+}
+
+#[test]
+fn steps_are_of_any_width(rt: HostRuntime) -> Result<(), Fail> {
+    let alloc = rt.alloc();
+    let nine = [0, 0, 0, 0, 0, 0, 0, 9];
+    // Steps of a half: five ninths of it are 5 eighteenths, and the half itself is 9 of them.
+    let mut half = far(5, 9, 45);
+    for point in &mut half {
+        point[3] = 90;
+        point[4] = 18;
     }
-    let edge = [EdgeName { low: 0, high: 1 }];
-    Some(points(alloc, &0, lattice, &[*a, *b], &edge))
+    shows::<i32>(&rt, alloc, &5, [ONE / 2; 3], nine, &half, &LAST)
 }
 
 #[test]
 fn a_point_divides_its_edge(rt: HostRuntime) -> Result<(), Fail> {
-    for (bounds, a, b, want) in [
-        // Origin 10, -1, 0 and steps of 2, 3 and -1: from (14, -1, -5) to (16, -1, -5).
-        ([2, 3, 0, 0, 5, 5], -6, 3, [46, -3, -15, 0, 3]),
-        ([2, 3, 0, 0, 5, 5], 3, -6, [44, -3, -15, 0, 3]),
-        // From (14, -1, -5) to (14, 2, -5), and a third of the way up the z axis.
-        ([2, 2, 0, 1, 5, 5], -6, 3, [14, 1, -5, 0, 1]),
-        ([2, 2, 0, 0, 5, 6], 2, -4, [42, -3, -16, 0, 3]),
+    // Origin 10, -1, 0 and steps of 2, 3 and 1: from (14, -1, 5) on.
+    let origin = [10 * ONE, -ONE, 0];
+    let spacing = [2 * ONE, 3 * ONE, ONE];
+    let bounds = [2, 3, 0, 1, 5, 6];
+    // From x = 1.25 to x = 1.75, and from a whole x = 1 to the same.
+    let quarter = [ONE / 4, 0, 0];
+    let halves = [ONE / 2, ONE, ONE];
+    let back = [-2 * ONE, 0, 0];
+    let three_quarters = [3 * ONE / 4, ONE, ONE];
+    for (bounds, origin, spacing, values, want) in [
+        // To (16, -1, 5), two thirds of the way and one.
+        (
+            bounds,
+            origin,
+            spacing,
+            [-6, 3, -6, 3, -6, 3, -6, 3],
+            [46, -3, 15, 0, 3],
+        ),
+        (
+            bounds,
+            origin,
+            spacing,
+            [3, -6, 3, -6, 3, -6, 3, -6],
+            [44, -3, 15, 0, 3],
+        ),
+        // To (14, 2, 5), and a third of the way up the z axis.
+        (
+            bounds,
+            origin,
+            spacing,
+            [-6, -6, 3, 3, -6, -6, 3, 3],
+            [14, 1, 5, 0, 1],
+        ),
+        (
+            bounds,
+            origin,
+            spacing,
+            [2, 2, 2, 2, -4, -4, -4, -4],
+            [42, -3, 16, 0, 3],
+        ),
+        // Half the way, and two thirds.
+        (
+            [2, 3, 0, 1, 0, 1],
+            quarter,
+            halves,
+            [-1, 1, -1, 1, -1, 1, -1, 1],
+            [3, 0, 0, 0, 2],
+        ),
+        (
+            [4, 5, 0, 1, 0, 1],
+            back,
+            three_quarters,
+            [-2, 1, -2, 1, -2, 1, -2, 1],
+            [3, 0, 0, 0, 2],
+        ),
     ] {
-        let row = lattice(bounds, [10, -1, 0], [2, 3, -1]).ok_or("a lattice")?;
-        let found = point_between(rt.alloc(), &row, &a, &b).ok_or("a cut edge")??;
-        assert_eq!(rt; found.len(), 1, "{bounds:?} {a} {b}");
-        assert_eq!(rt; five(&found[0]), want, "{bounds:?} {a} {b}");
+        let image = image_with::<i32>(rt.alloc(), bounds, origin, spacing, &values)?;
+        let found = contour(rt.alloc(), &0, &image)?;
+        let first = found.points.first().ok_or("a point")?;
+        assert_eq!(rt; five(first), want, "{bounds:?} {values:?}");
     }
     Ok(())
 }
 
-// Far from 0 by 2^94, weights of 2^31 make a number wide, and weights below 10 don't.
+// Far from 0 by 2^59, weights of 2^63 make a number wide, and weights below 10 don't.
 #[test]
 fn a_wide_crossing_is_refused(rt: HostRuntime) -> Result<(), Fail> {
-    const HIGHEST: u32 = 2_147_483_647;
-    let far = lattice(
-        [HIGHEST - 1, HIGHEST, 0, 1, 0, 1],
-        [i64::MAX, 0, 0],
-        [i64::MAX, 1, 1],
-    )
-    .ok_or("a lattice")?;
-    for (outside, inside, refused) in [(i32::MIN, i32::MAX, true), (-5, 4, false)] {
+    for (outside, inside, refused) in [
+        (-9_223_372_036_854_775_808, 9_223_372_036_854_775_807, true),
+        (-5, 4, false),
+    ] {
         let values = [
             outside, outside, outside, outside, outside, outside, outside, inside,
         ];
-        let answer = contour_of(rt.alloc(), &0, &far, &values).ok_or("a value for each point")?;
+        let far = [ONE * ONE * ONE, 0, 0];
+        let image = image_with::<i64>(rt.alloc(), CUBE, far, [ONE; 3], &values)?;
+        let answer = contour(rt.alloc(), &0, &image);
         assert_eq!(rt;
             matches!(answer, Err(WorkStop::TooWide)),
-            refused,
-            "{values:?}"
-        );
-        let row = lattice(
-            [HIGHEST - 1, HIGHEST, 0, 0, 0, 0],
-            [i64::MAX; 3],
-            [i64::MAX; 3],
-        )
-        .ok_or("a lattice")?;
-        let point = point_between(rt.alloc(), &row, &outside, &inside).ok_or("a cut edge")?;
-        assert_eq!(rt;
-            matches!(point, Err(WorkStop::TooWide)),
             refused,
             "{values:?}"
         );
@@ -162,6 +234,17 @@ fn a_value_equal_to_the_level_is_inside(rt: HostRuntime) -> Result<(), Fail> {
         // Levels that 32 bits can't hold.
         (i64::MIN, [true; 6]),
         (i64::MAX, [false; 6]),
+    ] {
+        let inside = insides(rt.alloc(), &level, &values)?;
+        assert_eq!(rt; inside.as_slice(), want.as_slice(), "{level}");
+    }
+    // Values that no level reaches, and one that the highest one is.
+    let values = [0, 9_223_372_036_854_775_807, 1 << 63, u64::MAX];
+    for (level, want) in [
+        (i64::MIN, [true; 4]),
+        (-1, [true; 4]),
+        (1, [false, true, true, true]),
+        (i64::MAX, [false, true, true, true]),
     ] {
         let inside = insides(rt.alloc(), &level, &values)?;
         assert_eq!(rt; inside.as_slice(), want.as_slice(), "{level}");

@@ -1,22 +1,24 @@
-//! The points of a contour: which points of the grid are inside, and the crossing of each name.
-ghost use Rattle.std.specs.Prelude.{◌≡◌, ◌≢◌, ◌^◌, ◌<◌, ◌≤◌, pos, ◌-ℤ◌, ◌↔◌, map, length, All, IfOk, OnOk, IsOk, true, false, int_le, unsigned_abs, FitsSigned};
-ghost use Rattle.std.specs.Int.{w32, w64};
+//! The points of a contour: which points of the image are inside, and the crossing of each name.
+ghost use Rattle.std.specs.Prelude.{◌≡◌, ◌≢◌, ◌^◌, ◌<◌, ◌≤◌, pos, ◌-ℤ◌, ◌*ℤ◌, ◌↔◌, map, All, IfOk, OnOk, IsOk, true, false, int_le, unsigned_abs, FitsSigned};
+ghost use Rattle.std.specs.Int.{w64};
 ghost use Rattle.viz_extent.specs.Extent.{count_of};
+ghost use Rattle.viz_fraction.specs.Points.{IsNarrow};
+ghost use Rattle.viz_fraction.specs.Forms.{value_of};
 ghost use Rattle.viz_fraction.specs.Crossings.{crossing_of, IsNarrowCrossing};
-ghost use Rattle.viz_contour.specs.Contour.{insides, placed, point_at, contour_form, point_of_name};
+ghost use Rattle.viz_contour.specs.Contour.{insides, point_of_leaf, contour_form, point_of_name};
 ghost use Rattle.viz_contour.specs.Points.{IsCutName, IsNarrowName, AreNarrow, IsNarrowEither, either_crossing};
 
-use crate::lattice::Lattice;
 use crate::names::EdgeName;
 use crate::stop::WorkStop;
 use std::alloc::{AllocError, Global};
+use viz_column::{Lent, Number};
+use viz_dataset::Image;
 use viz_fraction::{Point5, TooWide, crossing, is_inside};
 
 /// Which points are inside: those whose value is at least the level.
-pub fn insides(alloc: Global, level: &i64, values: &[i32]) -> Result<Vec<bool>, AllocError>
-    ensures value { IfOk result (λ v. v.items ≡ insides level.now values.now) }
+pub fn insides<T: Number>(alloc: Global, level: &i64, values: &[T]) -> Result<Vec<bool>, AllocError>
+    ensures value { IfOk result (λ v. v.items ≡ insides level.now (map T.value values.now)) }
     ensures fits { OnOk result (FitsSigned w64 level.now) }
-    ensures each_fits { OnOk result (All (FitsSigned w32) values.now) }
 {
     let least = *level;
     let mut inside = Vec::with_capacity(alloc, values.len())?;
@@ -27,11 +29,31 @@ pub fn insides(alloc: Global, level: &i64, values: &[i32]) -> Result<Vec<bool>, 
 }
 
 /// A value that is at least the level.
-fn is_at_least(level: i64, value: &i32) -> bool
-    ensures at_least { result ≡ int_le level value.now }
-    ensures fits { FitsSigned w32 value.now }
+fn is_at_least<T: Number>(level: i64, value: &T) -> bool
+    ensures { result ≡ int_le level (T.value value.now) }
 {
-    level <= i64::from(*value)
+    i128::from(level) <= value.whole()
+}
+
+/// The same of an image, of whatever type its values are.
+pub(crate) fn image_insides(
+    alloc: Global,
+    level: &i64,
+    image: &Image,
+) -> Result<Vec<bool>, AllocError>
+    ensures value { IfOk result (λ v. v.items ≡ insides level.now image.now.values.items) }
+    ensures fits { OnOk result (FitsSigned w64 level.now) }
+{
+    match image.column().slice() {
+        Lent::I8(values) => insides(alloc, level, values),
+        Lent::U8(values) => insides(alloc, level, values),
+        Lent::I16(values) => insides(alloc, level, values),
+        Lent::U16(values) => insides(alloc, level, values),
+        Lent::I32(values) => insides(alloc, level, values),
+        Lent::U32(values) => insides(alloc, level, values),
+        Lent::I64(values) => insides(alloc, level, values),
+        Lent::U64(values) => insides(alloc, level, values),
+    }
 }
 
 /// The points of names, in their order: the crossing on the edge of each.
@@ -42,24 +64,25 @@ fn is_at_least(level: i64, value: &i32) -> bool
 pub fn points(
     alloc: Global,
     level: &i64,
-    lattice: &Lattice,
-    values: &[i32],
+    image: &Image,
     names: &[EdgeName],
 ) -> Result<Vec<Point5>, WorkStop>
-    requires full { length values.now ≡ count_of lattice.now.extent }
-    requires cut { All (IsCutName (length values.now) (insides level.now values.now)) names.now }
-    ensures value { IfOk result (λ v. v.items ≡ map (point_of_name level.now lattice.now values.now) names.now) }
-    ensures ok { OnOk result (AreNarrow level.now lattice.now values.now names.now) }
-    ensures too_wide { result ≡ Err WorkStop.TooWide → AreNarrow level.now lattice.now values.now names.now → ⊥ }
+    requires cut { All (IsCutName (count_of image.now.extent)
+        (insides level.now image.now.values.items)) names.now }
+    ensures value { IfOk result (λ v.
+        v.items ≡ map (point_of_name level.now image.now) names.now) }
+    ensures ok { OnOk result (AreNarrow level.now image.now names.now) }
+    ensures too_wide { result ≡ Err WorkStop.TooWide
+        → AreNarrow level.now image.now names.now → ⊥ }
 {
     let mut points = Vec::with_capacity(alloc, names.len())?;
     for name in names {
-        points.push(point_of_name(level, lattice, values, name)?)?;
+        points.push(point_of_name(level, image, name)?)?;
     }
     Ok(points)
 }
 
-/// An end of an edge: its point, and how far its value is above the level.
+/// An end of an edge: its point, and the value of the contour's form there.
 #[derive(Clone, Copy)]
 struct End {
     point: Point5,
@@ -67,40 +90,78 @@ struct End {
 }
 
 /// The crossing on the edge of a name.
-fn point_of_name(
-    level: &i64,
-    lattice: &Lattice,
-    values: &[i32],
-    name: &EdgeName,
-) -> Result<Point5, TooWide>
-    requires full { length values.now ≡ count_of lattice.now.extent }
-    requires cut { IsCutName (length values.now) (insides level.now values.now) name.now }
-    ensures value { IfOk result (λ p. p ≡ point_of_name level.now lattice.now values.now name.now) }
-    ensures succeeds { IsOk result ↔ IsNarrowName (contour_form level.now) (point_at lattice.now values.now) name.now }
+fn point_of_name(level: &i64, image: &Image, name: &EdgeName) -> Result<Point5, TooWide>
+    requires cut { IsCutName (count_of image.now.extent)
+        (insides level.now image.now.values.items) name.now }
+    ensures value { IfOk result (λ p. p ≡ point_of_name level.now image.now name.now) }
+    ensures succeeds { IsOk result
+        ↔ IsNarrowName (contour_form level.now) (point_of_leaf image.now) name.now }
 {
-    let low = end_at(level, lattice, name.low, &values[name.low as usize]);
-    let high = end_at(level, lattice, name.high, &values[name.high as usize]);
+    let _extent = image.extent();
+    let low = end_at(level, image, name.low);
+    let high = end_at(level, image, name.high);
     cross(&low, &high)
 }
 
-/// The end at a leaf with a value.
-fn end_at(level: &i64, lattice: &Lattice, leaf: u32, value: &i32) -> End
-    requires { leaf < count_of lattice.now.extent }
-    ensures point { result.point ≡ placed lattice.now leaf value.now }
-    ensures above { result.above ≡ value.now -ℤ level.now }
-    ensures bound { unsigned_abs result.above ≤ 2 ^ 64 }
+/// The end at a leaf.
+fn end_at(level: &i64, image: &Image, leaf: u32) -> End
+    requires { leaf < count_of image.now.extent }
+    ensures point { result.point ≡ point_of_leaf image.now leaf }
+    ensures above { result.above ≡ value_of (contour_form level.now) (point_of_leaf image.now leaf) }
+    ensures narrow { IsNarrow result.above }
 {
+    let point = leaf_point(image, leaf);
     End {
-        point: lattice.point(leaf, value),
-        above: i128::from(*value) - i128::from(*level),
+        point,
+        above: value_at(level, &point),
     }
+}
+
+/// The point of a leaf.
+fn leaf_point(image: &Image, leaf: u32) -> Point5
+    requires { leaf < count_of image.now.extent }
+    ensures value { result ≡ point_of_leaf image.now leaf }
+    ensures scalar { unsigned_abs result.s ≤ 2 ^ 96 }
+    ensures weight { unsigned_abs result.w ≤ 2 ^ 32 }
+{
+    let (i, j, k) = image.extent().place_of(u64::from(leaf));
+    image.point(i, j, k)
+}
+
+/// The value of a contour's form at a point.
+fn value_at(level: &i64, point: &Point5) -> i128
+    requires scalar { unsigned_abs point.now.s ≤ 2 ^ 96 }
+    requires weight { unsigned_abs point.now.w ≤ 2 ^ 32 }
+    ensures value { result ≡ value_of (contour_form level.now) point.now }
+    ensures narrow { IsNarrow result }
+{
+    above(&point.s(), &weighted(level, &point.w()))
+}
+
+/// A level times a weight.
+fn weighted(level: &i64, weight: &i128) -> i128
+    requires { unsigned_abs weight.now ≤ 2 ^ 32 }
+    ensures value { result ≡ level.now *ℤ weight.now }
+    ensures small { unsigned_abs result ≤ 2 ^ 96 }
+{
+    i128::from(*level) * *weight
+}
+
+/// How far a scalar is above a level, with the same weight.
+fn above(scalar: &i128, level: &i128) -> i128
+    requires scalar { unsigned_abs scalar.now ≤ 2 ^ 96 }
+    requires level { unsigned_abs level.now ≤ 2 ^ 96 }
+    ensures value { result ≡ scalar.now -ℤ level.now }
+    ensures narrow { IsNarrow result }
+{
+    *scalar - *level
 }
 
 /// The crossing between two ends of which exactly one is inside.
 fn cross(a: &End, b: &End) -> Result<Point5, TooWide>
     requires apart { int_le (pos 0) a.now.above ≢ int_le (pos 0) b.now.above }
-    requires narrow_a { unsigned_abs a.now.above ≤ 2 ^ 64 }
-    requires narrow_b { unsigned_abs b.now.above ≤ 2 ^ 64 }
+    requires narrow_a { IsNarrow a.now.above }
+    requires narrow_b { IsNarrow b.now.above }
     ensures value { IfOk result (λ p. p ≡ either_crossing a.now.above a.now.point b.now.above b.now.point) }
     ensures succeeds { IsOk result ↔ IsNarrowEither a.now.above a.now.point b.now.above b.now.point }
 {
@@ -122,8 +183,8 @@ fn is_at_least_0(value: &i128) -> bool
 fn crossing_from(la: &i128, a: &Point5, lb: &i128, b: &Point5) -> Result<Point5, TooWide>
     requires inside { int_le (pos 0) la.now ≡ true }
     requires outside { int_le (pos 0) lb.now ≡ false }
-    requires narrow_a { unsigned_abs la.now ≤ 2 ^ 64 }
-    requires narrow_b { unsigned_abs lb.now ≤ 2 ^ 64 }
+    requires narrow_a { IsNarrow la.now }
+    requires narrow_b { IsNarrow lb.now }
     ensures value { IfOk result (λ p. p ≡ crossing_of la.now a.now lb.now b.now) }
     ensures succeeds { IsOk result ↔ IsNarrowCrossing la.now a.now lb.now b.now }
 {

@@ -1,4 +1,4 @@
-//! The contour of a grid: triangles in all its tetrahedra, by named points.
+//! The contour of an image: triangles in all its tetrahedra, by named points.
 //!
 //! Contract: `contour` gives the triangles of all tetrahedra in their order, by the names of their
 //! ends, with the sorted set of the names and the crossing of each; `numbered` gives the triangles
@@ -8,7 +8,6 @@
 
 mod crossings;
 mod cube_cells;
-mod lattice;
 mod name_key;
 mod name_laws;
 mod name_list;
@@ -19,7 +18,6 @@ mod stop;
 mod surfaces;
 
 pub use crossings::{insides, points};
-pub use lattice::Lattice;
 pub use name_laws::names_are_a_set;
 pub use name_list::names_in_order;
 pub use names::{EdgeName, Triangle};

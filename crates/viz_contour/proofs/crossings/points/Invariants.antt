@@ -5,6 +5,6 @@ use Rattle.viz_contour.proofs.crossings.points.Given as goal
 
 abbrev pub invariant-loop-name : goal.invariant-loop-name
 invariant-loop-name l = record {
-  made : l.points.items ≡ map (point_of_name l.level l.lattice l.values) (take l.name-index l.names);
-  narrow : AreNarrow l.level l.lattice l.values (take l.name-index l.names);
+  made : l.points.items ≡ map (point_of_name l.level l.image) (take l.name-index l.names);
+  narrow : AreNarrow l.level l.image (take l.name-index l.names);
 }
