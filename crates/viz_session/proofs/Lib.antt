@@ -1,5 +1,7 @@
 pub mod CommandLemmas
+pub mod ContourLemmas
 pub mod ServeLemmas
 pub mod CauseLemmas
 pub mod EndLemmas
 pub mod RunLemmas
+pub mod StandardFacts

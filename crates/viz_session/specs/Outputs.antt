@@ -1,8 +1,9 @@
 -- What a filter makes of an image: a text with its numbers, or a refusal (docs/FORMATS.md, "Filters").
-use Rattle.std.specs.Prelude.{ℕ, ℤ, ◌-◌, ◌*◌, false, List, [], ◌⊎◌, length}
+use Rattle.std.specs.Prelude.{ℕ, ℤ, ◌-◌, ◌*◌, false, List, ◌⊎◌, length}
 use Rattle.viz_extent.specs.Extent.{Bounds, count_of}
 use Rattle.viz_fraction.specs.Points.{Point}
 use Rattle.viz_dataset.specs.Images.{ImageData, IsOrigin, corner}
+use Rattle.viz_contour.specs.Contour.{contour_points, contour_triangles, IsNarrowContour}
 use Rattle.viz_legacy_write.specs.Fixed.{FitCounts, FitPoints}
 use Rattle.viz_legacy_write.specs.ImageText.{image_text}
 use Rattle.viz_legacy_write.specs.SurfaceText.{surface_text}
@@ -14,15 +15,15 @@ use Rattle.viz_session.specs.Threshold.{thresholded}
 
 -- the points of its contour
 unfoldable pub image_points : ℤ → ImageData → List Point
-image_points level i = []
+image_points level i = contour_points level i
 
 -- the triangles of its contour, by the ranks of their points
 unfoldable pub image_triangles : ℤ → ImageData → List (List ℕ)
-image_triangles level i = []
+image_triangles level i = contour_triangles level i
 
 -- no number of its contour is wide
 unfoldable pub IsNarrowImage : ℤ → ImageData → Type 0
-IsNarrowImage level i = Unit {0}
+IsNarrowImage level i = IsNarrowContour level i
 
 -- ---- what is written, and its numbers
 
