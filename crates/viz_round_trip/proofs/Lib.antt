@@ -1,0 +1,17 @@
+pub mod StandingLemmas
+pub mod WordStanding
+pub mod NumberStanding
+pub mod HeadStanding
+pub mod SizeStanding
+pub mod VectorStanding
+pub mod GeometryStanding
+pub mod HeaderStanding
+pub mod ValueStanding
+pub mod RowLemmas
+pub mod BlockStanding
+pub mod TypeStanding
+pub mod ArrayStanding
+pub mod AttributeStanding
+pub mod TextLemmas
+pub mod MovedLemmas
+pub mod ImageStanding
