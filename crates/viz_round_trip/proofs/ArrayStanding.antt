@@ -1,6 +1,6 @@
 -- The attribute parts, as they are written: the points, and one array of SCALARS.
-use Rattle.std.proofs.Common.{◌≡◌, ℕ, pos, ◌+◌, ◌*◌, ◌^◌, ◌<◌, Bool, true, false, List, [], ◌∷◌, ◌++◌, length, Some, refl, sym, ap, subst, ◌∙◌, arith}
-use Rattle.std.specs.Prelude.{codes, Option, unsigned_abs}
+use Rattle.std.proofs.Common.{◌≡◌, ℕ, pos, ◌+◌, ◌*◌, ◌^◌, ◌<◌, Bool, true, List, [], ◌∷◌, ◌++◌, length, Some, refl, sym, ap, subst, ◌∙◌, arith}
+use Rattle.std.specs.Prelude.{codes}
 use Rattle.std.specs.Fmt.{digits, decimal}
 use Rattle.std.proofs.lemmas.Bool.{eq-eqb}
 use Rattle.viz_base.specs.declared.node.Pick.TheVariants.{First}
@@ -13,9 +13,9 @@ use Rattle.viz_lex.specs.Rules.{gives, demand}
 use Rattle.viz_lex.specs.Items.{word, number, keyword, metadata}
 use Rattle.viz_attr.specs.declared.parts.Association.TheVariants.{Points}
 use Rattle.viz_attr.specs.declared.types.Stored.TheVariants.{Whole}
-use Rattle.viz_attr.specs.Counts.{is_number, same_count, count_from, components}
+use Rattle.viz_attr.specs.Counts.{is_number, same_count, components}
 use Rattle.viz_attr.specs.Types as types
-use Rattle.viz_attr.specs.Picks.{Given, Head, Part, Begins, Holds}
+use Rattle.viz_attr.specs.Picks.{Given, Head, Begins, Holds}
 use Rattle.viz_attr.specs.Values.{values}
 use Rattle.viz_attr.specs.Arrays.{array, association, scalars_head, scalars}
 use Rattle.viz_legacy_write.specs.ImageText as written
@@ -74,9 +74,12 @@ stands-array : (binary : Bool) (points cells : ℕ) (n : Numbers) (old : Reading
     → (left : List ℕ) × IsBlank left × Stands (array (given binary points cells) (Begins Points ∷ []) (head_of binary points cells) (Whole n.kind) points 1) old (Holds (head_of binary points cells) (Some n)) left
 stands-array binary points cells n old all =
     let part = Holds (head_of binary points cells) (Some n) in
-    let passed = stands-no_metadata all.2.new all.0 (subst IsBlank (sym all.2.rest) all.1) all.2.rest in
-    (all.0, all.1, stands-follow (values binary true (Whole n.kind) points 1) _ old (Some n) part all.0 all.0 all.2
-    (stands-follow metadata _ all.2.new tt part all.0 all.0 passed (stands-gives part passed.new all.0 passed.rest)))
+    let passed = stands-no_metadata all.2.new all.0 (subst IsBlank (sym all.2.rest) all.1) all.2.rest in (
+      all.0,
+      all.1,
+      stands-follow (values binary true (Whole n.kind) points 1) _ old (Some n) part all.0 all.0 all.2
+          (stands-follow metadata _ all.2.new tt part all.0 all.0 passed (stands-gives part passed.new all.0 passed.rest)),
+    )
 
 pub stands-scalars : (binary : Bool) (points cells : ℕ) (n : Numbers) (rows width : ℕ) (old : Reading) → AreInRange n → length n.items ≡ points → length n.items ≡ rows * width
     → rest_of old ≡ scalars_text n (written.values_text binary rows width n) → StandsBlank binary points cells n old
@@ -92,10 +95,12 @@ stands-scalars binary points cells n rows width old within count full e =
     let c = stands-components b.new (codes "LOOKUP_TABLE" ++ table_behind) b.rest in
     let d = stands-keyword (codes "LOOKUP_TABLE") c.new (10 ∷ []) (codes "LOOKUP_TABLE") table_behind refl (record { parts = c.rest; blank = blank-one 10 refl; is_word = word-solid (codes "LOOKUP_TABLE") refl; ends = refl }) in
     let f = stands-next d.new (32 ∷ []) (codes "default") (10 ∷ values_behind) (record { parts = d.rest; blank = blank-one 32 refl; is_word = word-solid (codes "default") refl; ends = refl }) in
-    let all = stands-array binary points cells n f.new (stands-values binary n rows width points f.new within count full f.rest) in
-    (all.0, all.1,
-    stands-follow word _ old (old.place + 1, array_name) part type_behind all.0 a
-    (stands-follow (types.type_word true) _ a.new (Whole n.kind) part number_behind all.0 b
-    (stands-follow components _ b.new 1 part key_behind all.0 c
-    (stands-follow (keyword (codes "LOOKUP_TABLE")) _ c.new tt part table_behind all.0 d
-    (stands-follow word _ d.new (d.new.place + 1, codes "default") part (10 ∷ values_behind) all.0 f all.2)))))
+    let all = stands-array binary points cells n f.new (stands-values binary n rows width points f.new within count full f.rest) in (
+      all.0,
+      all.1,
+      stands-follow word _ old (old.place + 1, array_name) part type_behind all.0 a
+          (stands-follow (types.type_word true) _ a.new (Whole n.kind) part number_behind all.0 b
+          (stands-follow components _ b.new 1 part key_behind all.0 c
+          (stands-follow (keyword (codes "LOOKUP_TABLE")) _ c.new tt part table_behind all.0 d
+          (stands-follow word _ d.new (d.new.place + 1, codes "default") part (10 ∷ values_behind) all.0 f all.2)))),
+    )

@@ -1,6 +1,6 @@
 -- All attribute parts, as they are written, up to the end of the text.
 use Rattle.std.proofs.Common.{◌≡◌, ℕ, ◌+◌, ◌*◌, ◌^◌, ◌<◌, Bool, true, false, List, [], ◌∷◌, ◌++◌, length, Some, refl, sym, subst, ◌∙◌}
-use Rattle.std.specs.Prelude.{codes, ◌||◌, Option}
+use Rattle.std.specs.Prelude.{codes, ◌||◌}
 use Rattle.std.specs.Fmt.{decimal}
 use Rattle.viz_column.specs.Numbers.{Numbers, AreInRange}
 use Rattle.viz_lex.specs.Reading.{Reading, rest_of}
@@ -50,11 +50,13 @@ stands-holds binary points cells n rows width old within count full e =
     let holds = held binary points cells n in
     let mid = scalars_text n (written.values_text binary rows width n) in
     let first = stands-next old (10 ∷ []) (codes "SCALARS") mid (record { parts = e; blank = blank-one 10 refl; is_word = word-solid (codes "SCALARS") refl; ends = refl }) in
-    let second = stands-scalars binary points cells n rows width first.new within count full first.rest in
-    (second.0, second.1,
-    stands-follow word (behind g (Begins Points ∷ [])) old (old.place + 1, codes "SCALARS") (holds ∷ []) mid second.0 first
-    (stands-follow (scalars g (Begins Points ∷ []) Points) (λ part. gives (part ∷ [])) first.new holds (holds ∷ []) second.0 second.0 second.2
-    (stands-gives (holds ∷ []) second.2.new second.0 second.2.rest)))
+    let second = stands-scalars binary points cells n rows width first.new within count full first.rest in (
+      second.0,
+      second.1,
+      stands-follow word (behind g (Begins Points ∷ [])) old (old.place + 1, codes "SCALARS") (holds ∷ []) mid second.0 first
+          (stands-follow (scalars g (Begins Points ∷ []) Points) (λ part. gives (part ∷ [])) first.new holds (holds ∷ []) second.0 second.0 second.2
+          (stands-gives (holds ∷ []) second.2.new second.0 second.2.rest)),
+    )
 
 pub stands-attributes : (binary : Bool) (points cells : ℕ) (n : Numbers) (rows width : ℕ) (old : Reading) → points < 2 ^ 31 → AreInRange n → length n.items ≡ points → length n.items ≡ rows * width
     → rest_of old ≡ 10 ∷ parts_text n points (written.values_text binary rows width n)
@@ -70,6 +72,8 @@ stands-attributes binary points cells n rows width old few within count full e =
       new = b.2.new;
       is = ((a.new, not_blank _ _ _ refl e, a.is, (b.2.new, not_blank _ _ _ refl a.rest, b.2.is, refl)), subst IsBlank (sym b.2.rest) b.1);
       rest = b.2.rest;
-    } in
-    (b.0, stands-follow (parts g) (λ all. choose (is_zero g.pick || has_fit g (joined all)) (gives (picked_of g (joined all))) no_array) old all (Some n) b.0 b.0 stand
-    (stands-gives (Some n) stand.new b.0 stand.rest))
+    } in (
+      b.0,
+      stands-follow (parts g) (λ all. choose (is_zero g.pick || has_fit g (joined all)) (gives (picked_of g (joined all))) no_array) old all (Some n) b.0 b.0 stand
+          (stands-gives (Some n) stand.new b.0 stand.rest),
+    )

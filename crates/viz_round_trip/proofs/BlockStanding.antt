@@ -1,7 +1,6 @@
 -- The values of an image stand, as text or as bytes.
-use Rattle.std.proofs.Common.{◌≡◌, ℕ, ℤ, ◌+◌, ◌*◌, Bool, true, false, List, [], ◌∷◌, ◌++◌, length, refl, sym, ap, subst, ◌∙◌, arith}
+use Rattle.std.proofs.Common.{◌≡◌, ℕ, ℤ, ◌*◌, Bool, true, false, List, [], ◌∷◌, ◌++◌, length, refl, sym, ap, subst, ◌∙◌, arith}
 use Rattle.std.specs.Prelude.{Option, Some}
-use Rattle.viz_column.specs.declared.kind.Kind8.{Kind8}
 use Rattle.viz_column.specs.Kinds.{size_of}
 use Rattle.viz_column.specs.Numbers.{Numbers, AreInRange}
 use Rattle.viz_column.specs.Bytes.{block_of, numbers_in}
@@ -14,7 +13,7 @@ use Rattle.viz_lex.specs.Items.{line_end, block}
 use Rattle.viz_lex.proofs.BlockLemmas.{rest_of-block}
 use Rattle.viz_attr.specs.declared.types.Stored.TheVariants.{Whole}
 use Rattle.viz_attr.specs.Types.{bytes_of}
-use Rattle.viz_attr.specs.Values.{tuple, firsts, text_values, block_numbers, block_values, values}
+use Rattle.viz_attr.specs.Values.{tuple, firsts, block_numbers, values}
 use Rattle.viz_attr.proofs.FirstsLemmas.{firsts-one}
 use Rattle.viz_legacy_write.specs.ImageText.{rows_text, values_text}
 use Rattle.viz_round_trip.proofs.StandingLemmas.{Stands, stands-gives, stands-follow}
@@ -68,9 +67,12 @@ stands-bytes n points old within count e =
     let size = points * 1 * bytes_of (Whole n.kind) in
     let second = stands-block first.new size (block_of n) (10 ∷ []) (block_long n points count) first.rest in
     let last : Stands (gives (block_numbers true (Whole n.kind) points 1 (block_of n))) second.new (Some n) (10 ∷ []) =
-    subst (λ (o : Option Numbers). Stands (gives (block_numbers true (Whole n.kind) points 1 (block_of n))) second.new o (10 ∷ [])) (block_read n points within count) (stands-gives (block_numbers true (Whole n.kind) points 1 (block_of n)) second.new (10 ∷ []) second.rest) in
-    (10 ∷ [], blank-one 10 refl, stands-follow line_end _ old tt (Some n) (block_of n ++ 10 ∷ []) (10 ∷ []) first
-    (stands-follow (block size) (λ bytes. gives (block_numbers true (Whole n.kind) points 1 bytes)) first.new (block_of n) (Some n) (10 ∷ []) (10 ∷ []) second last))
+    subst (λ (o : Option Numbers). Stands (gives (block_numbers true (Whole n.kind) points 1 (block_of n))) second.new o (10 ∷ [])) (block_read n points within count) (stands-gives (block_numbers true (Whole n.kind) points 1 (block_of n)) second.new (10 ∷ []) second.rest) in (
+      10 ∷ [],
+      blank-one 10 refl,
+      stands-follow line_end _ old tt (Some n) (block_of n ++ 10 ∷ []) (10 ∷ []) first
+          (stands-follow (block size) (λ bytes. gives (block_numbers true (Whole n.kind) points 1 bytes)) first.new (block_of n) (Some n) (10 ∷ []) (10 ∷ []) second last),
+    )
 
 pub stands-values : (binary : Bool) (n : Numbers) (rows width points : ℕ) (old : Reading) → AreInRange n → length n.items ≡ points → length n.items ≡ rows * width → rest_of old ≡ 10 ∷ values_text binary rows width n → StandsAll binary n points old
 stands-values true n rows width points old within count full e = stands-bytes n points old within count e

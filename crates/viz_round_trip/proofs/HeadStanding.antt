@@ -1,22 +1,22 @@
 -- The two lines in front, the form and the dataset, as they are written.
-use Rattle.std.proofs.Common.{◌≡◌, ◌≢◌, ℕ, ◌+◌, Bool, true, false, not, List, [], ◌∷◌, ◌++◌, length, refl, ap, ◌∙◌}
+use Rattle.std.proofs.Common.{◌≡◌, ◌≢◌, ℕ, ◌+◌, Bool, true, false, not, List, [], ◌∷◌, ◌++◌, length, refl, ◌∙◌}
 use Rattle.std.specs.Prelude.{codes, nat_eq}
 use Rattle.std.specs.List.{list_all}
 use Rattle.std.proofs.lemmas.Bool.{eqb-false}
 use Rattle.std.proofs.lemmas.List.Elements.{All-weaker}
 use Rattle.std.proofs.lemmas.List.Sums.{AllPass-from_list_all}
 use Rattle.viz_lex.specs.declared.fault.FileKind.{FileKind}
-use Rattle.viz_lex.specs.declared.fault.FileKind.TheVariants.{Magic, Title, Form, Unsupported}
+use Rattle.viz_lex.specs.declared.fault.FileKind.TheVariants.{Magic, Title, Form}
 use Rattle.viz_lex.specs.Reading.{Reading, rest_of, advanced, fault_at}
-use Rattle.viz_lex.specs.Words.{IsBlank, HasNoNewline, IsNextLine, IsNextWord}
-use Rattle.viz_lex.specs.Steps.{same_word, keyword_kind}
+use Rattle.viz_lex.specs.Words.{HasNoNewline, IsNextLine, IsNextWord}
+use Rattle.viz_lex.specs.Steps.{same_word}
 use Rattle.viz_lex.specs.Rules.{gives, refuses, demand, choose, follow}
 use Rattle.viz_lex.specs.Items.{word, keyword}
 use Rattle.viz_lex.proofs.LineLemmas.{rest_of-line}
 use Rattle.viz_legacy_read.specs.Magic.{is_magic, line, two_lines}
-use Rattle.viz_legacy_read.specs.Header.{form, dataset, is_left_out_dataset}
+use Rattle.viz_legacy_read.specs.Header.{form, dataset}
 use Rattle.viz_legacy_write.specs.ImageText.{title_lines, form_line, dataset_line}
-use Rattle.viz_round_trip.proofs.StandingLemmas.{Stands, stands-gives, stands-follow, stands-demand, stands-first, stands-second}
+use Rattle.viz_round_trip.proofs.StandingLemmas.{Stands, stands-gives, stands-follow, stands-demand}
 use Rattle.viz_round_trip.proofs.WordStanding.{word-solid, blank-nil, blank-one, stands-next, stands-keyword}
 
 -- ---- lines

@@ -1,5 +1,5 @@
 -- The whole header, as it is written.
-use Rattle.std.proofs.Common.{◌≡◌, ℕ, Bool, List, [], ◌∷◌, ◌++◌, refl}
+use Rattle.std.proofs.Common.{◌≡◌, ℕ, Bool, List, ◌∷◌, ◌++◌}
 use Rattle.viz_lex.specs.Reading.{Reading, rest_of}
 use Rattle.viz_lex.specs.Rules.{gives}
 use Rattle.viz_lex.specs.Repeats.{times_knowing}

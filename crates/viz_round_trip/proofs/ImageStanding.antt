@@ -1,7 +1,7 @@
 -- The text of an image is a file of it.
 use Rattle.std.proofs.Common.{◌≡◌, ℕ, ◌*◌, ◌^◌, ◌<◌, Bool, List, ◌∷◌, length, Some, refl, sym, ap, subst, ◌∙◌, arith}
 use Rattle.viz_base.specs.declared.node.Pick.TheVariants.{First}
-use Rattle.viz_extent.specs.Extent.{Bounds, size_x, size_y, size_z, count_of}
+use Rattle.viz_extent.specs.Extent.{size_x, size_y, size_z, count_of}
 use Rattle.viz_dataset.specs.Images.{ImageData, corner, IsImage, IsOrigin}
 use Rattle.viz_lex.specs.Reading.{Reading, rest_of}
 use Rattle.viz_lex.specs.Rules.{gives}
@@ -34,9 +34,11 @@ stands-image binary i old is origin e =
     let tail = parts_text n (count_of i.extent) (values_of binary i) in
     let a = stands-header binary old (size_x i.extent) (size_y i.extent) (size_z i.extent) (corner i) i.spacing tail (extent_sizes i.extent is.extent) origin is.spacing (e ∙ image_parts binary i) in
     let here : rest_of a.new ≡ 10 ∷ parts_text n points (values_of binary i) = a.rest ∙ ap (λ (k : ℕ). 10 ∷ parts_text n k (values_of binary i)) (sym same) in
-    let b = stands-attributes binary points (cells_of whole) n (size_y i.extent * size_z i.extent) (size_x i.extent) a.new few is.range count full here in
-    (b.0, stands-follow header _ old h (moved i) (10 ∷ tail) b.0 a
-    (stands-follow (attributes (asked h First)) (λ column. gives (image_of h column)) a.new (Some n) (moved i) b.0 b.0 b.1 (stands-gives (moved i) b.1.new b.0 b.1.rest)))
+    let b = stands-attributes binary points (cells_of whole) n (size_y i.extent * size_z i.extent) (size_x i.extent) a.new few is.range count full here in (
+      b.0,
+      stands-follow header _ old h (moved i) (10 ∷ tail) b.0 a
+          (stands-follow (attributes (asked h First)) (λ column. gives (image_of h column)) a.new (Some n) (moved i) b.0 b.0 b.1 (stands-gives (moved i) b.1.new b.0 b.1.rest)),
+    )
 
 -- the image is read again, counted from index 0
 pub reads-moved : (binary : Bool) (i : ImageData) → IsImage i → IsOrigin (corner i) → Reads (image_text binary i) First (moved i)

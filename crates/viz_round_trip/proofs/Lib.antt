@@ -15,3 +15,4 @@ pub mod AttributeStanding
 pub mod TextLemmas
 pub mod MovedLemmas
 pub mod ImageStanding
+pub mod OnlyLemmas

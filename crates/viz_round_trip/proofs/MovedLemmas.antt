@@ -4,7 +4,7 @@ use Rattle.std.specs.Prelude.{◌+ℤ◌, ◌*ℤ◌}
 use Rattle.std.proofs.Math.IntN.{*ℤ-zero, +ℤ_idr}
 use Rattle.std.proofs.lemmas.Nat.{mul-le}
 use Rattle.viz_extent.specs.Extent.{Bounds, size_x, size_y, size_z, count_of, IsExtent}
-use Rattle.viz_dataset.specs.Images.{Vector, ImageData, position, corner}
+use Rattle.viz_dataset.specs.Images.{ImageData, position, corner}
 use Rattle.viz_round_trip.specs.RoundTrip.{from_zero, moved, BeginsAtZero}
 use Rattle.viz_round_trip.proofs.SizeStanding.{AreSizes}
 

@@ -1,14 +1,13 @@
 -- Whole numbers and decimals that stand where they are written.
-use Rattle.std.proofs.Common.{◌≡◌, ℕ, ℤ, pos, negsuc, ◌+◌, ◌^◌, ◌<◌, ◌≤◌, true, false, List, [], ◌∷◌, ◌++◌, length, Result, Ok, Err, refl, sym, ap, subst, ◌∙◌, append_assoc, arith}
-use Rattle.std.specs.Prelude.{ok_or, unsigned_abs, nat_le, FitsSigned}
+use Rattle.std.proofs.Common.{◌≡◌, ℕ, ℤ, ◌+◌, ◌^◌, ◌≤◌, true, List, ◌++◌, length, Ok, sym, ap, ◌∙◌, append_assoc}
+use Rattle.std.specs.Prelude.{ok_or, unsigned_abs, FitsSigned}
 use Rattle.std.specs.Int.{w128}
 use Rattle.std.specs.Fmt.{signed_decimal}
 use Rattle.std.proofs.lemmas.Bool.{le-leb}
 use Rattle.std.proofs.lemmas.List.{length-append}
-use Rattle.viz_lex.specs.declared.fault.FileFault.{FileFault}
 use Rattle.viz_lex.specs.declared.fault.FileKind.TheVariants.{Truncated, HeaderNumber}
 use Rattle.viz_lex.specs.declared.span.Span.{Span}
-use Rattle.viz_lex.specs.Reading.{Reading, rest_of, advanced, fault_at, ◌>>=◌}
+use Rattle.viz_lex.specs.Reading.{Reading, rest_of, advanced, fault_at}
 use Rattle.viz_lex.specs.Words.{text_of, word_at, EndsWord, IsBlank}
 use Rattle.viz_lex.specs.Numbers.{whole_at, number_at}
 use Rattle.viz_lex.specs.Decimals.{decimal_of, in_limit, limited, decimal_at}

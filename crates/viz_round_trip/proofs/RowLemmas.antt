@@ -1,9 +1,9 @@
 -- The rows of a written image are its numbers as words.
-use Rattle.std.proofs.Common.{◌≡◌, ℕ, zero, suc, ℤ, ◌+◌, ◌-◌, ◌*◌, true, List, [], ◌∷◌, ◌++◌, length, take, drop, refl, sym, ap, subst, ◌∙◌, append_assoc, length-drop, arith}
+use Rattle.std.proofs.Common.{◌≡◌, ℕ, zero, suc, ℤ, ◌+◌, ◌*◌, List, [], ◌∷◌, ◌++◌, length, take, drop, refl, sym, subst, ◌∙◌, append_assoc, length-drop, arith}
 use Rattle.std.specs.List.{flat_map}
 use Rattle.std.specs.Fmt.{signed_decimal}
 use Rattle.std.proofs.lemmas.List.{take-append-drop}
-use Rattle.viz_lex.specs.Words.{EndsWord, IsBlank}
+use Rattle.viz_lex.specs.Words.{EndsWord}
 use Rattle.viz_legacy_write.specs.ImageText.{spaced_number, row_text, rows_text}
 use Rattle.viz_round_trip.proofs.WordStanding.{blank-nil, blank-one}
 use Rattle.viz_round_trip.proofs.ValueStanding.{AreWritten, written-behind}

@@ -1,19 +1,16 @@
 -- The line of the sizes, as it is written.
-use Rattle.std.proofs.Common.{◌≡◌, ℕ, pos, ◌+◌, ◌*◌, ◌^◌, ◌<◌, ◌≤◌, true, List, [], ◌∷◌, ◌++◌, length, refl, ap, ◌∙◌, append_assoc, arith}
-use Rattle.std.specs.Prelude.{codes, nat_lt, unsigned_abs, FitsSigned}
+use Rattle.std.proofs.Common.{◌≡◌, ℕ, pos, ◌*◌, ◌^◌, ◌<◌, ◌≤◌, true, List, [], ◌∷◌, ◌++◌, refl, ap, ◌∙◌, append_assoc, arith}
+use Rattle.std.specs.Prelude.{nat_lt, unsigned_abs, FitsSigned}
 use Rattle.std.specs.Int.{w128}
-use Rattle.std.specs.List.{flat_map}
 use Rattle.std.specs.Fmt.{decimal}
 use Rattle.std.proofs.lemmas.Bool.{lt-ltb, le-leb}
 use Rattle.viz_lex.specs.declared.fault.FileKind.TheVariants.{Count, TooMany}
 use Rattle.viz_lex.specs.Reading.{Reading, rest_of, fault_at}
 use Rattle.viz_lex.specs.Words.{is_blank, EndsWord}
-use Rattle.viz_lex.specs.Rules.{gives, demand, follow}
+use Rattle.viz_lex.specs.Rules.{gives, demand}
 use Rattle.viz_lex.specs.Items.{number}
-use Rattle.viz_extent.specs.Extent.{Bounds}
 use Rattle.viz_attr.specs.Counts.{is_at_least}
 use Rattle.viz_legacy_read.specs.Header.{size, sizes, whole_of}
-use Rattle.viz_legacy_write.specs.ImageText.{spaced_size, dimensions_line}
 use Rattle.viz_round_trip.proofs.StandingLemmas.{Stands, stands-gives, stands-follow, stands-demand}
 use Rattle.viz_round_trip.proofs.WordStanding.{blank-one}
 use Rattle.viz_round_trip.proofs.NumberStanding.{stands-number}
@@ -42,9 +39,11 @@ stands-count old b n behind blank few ends e = stands-number old (b ∷ []) behi
 
 stands-size : (old : Reading) (n : ℕ) (behind : List ℕ) → 1 ≤ n → n < 2 ^ 31 → EndsWord behind → rest_of old ≡ 32 ∷ (decimal n ++ behind) → (place : ℕ) × Stands size old (place, n) behind
 stands-size old n behind some few ends e =
-    let first = stands-count old 32 n behind refl few ends e in
-    (first.0, stands-follow number (λ m. demand (is_at_least 1 m.1) (fault_at Count m.0) (gives (m.0, unsigned_abs m.1))) old (first.0, pos n) (first.0, n) behind behind first.1
-    (stands-demand _ _ _ first.1.new (first.0, n) behind (le-leb 1 n some) (stands-gives (first.0, n) first.1.new behind first.1.rest)))
+    let first = stands-count old 32 n behind refl few ends e in (
+      first.0,
+      stands-follow number (λ m. demand (is_at_least 1 m.1) (fault_at Count m.0) (gives (m.0, unsigned_abs m.1))) old (first.0, pos n) (first.0, n) behind behind first.1
+          (stands-demand _ _ _ first.1.new (first.0, n) behind (le-leb 1 n some) (stands-gives (first.0, n) first.1.new behind first.1.rest)),
+    )
 
 -- the sizes of an extent, of at most 2^31 - 1 points
 pub record AreSizes (x y z : ℕ) : Type 0 where

@@ -1,5 +1,5 @@
 -- What stands at a place by a rule, with its value, and what is left behind it: the rules that are made of others.
-use Rattle.std.proofs.Common.{◌≡◌, ℕ, zero, suc, Bool, true, false, List, [], ◌∷◌, ◌++◌, refl, subst, sym, inl, inr}
+use Rattle.std.proofs.Common.{◌≡◌, ℕ, Bool, true, false, List, refl, inl, inr}
 use Rattle.viz_lex.specs.declared.fault.FileFault.{FileFault}
 use Rattle.viz_lex.specs.Reading.{Reading, rest_of}
 use Rattle.viz_lex.specs.Rules.{Rule, gives, demand, choose, beside, follow}

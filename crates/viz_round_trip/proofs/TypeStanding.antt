@@ -1,15 +1,13 @@
 -- The word of each type names it.
-use Rattle.std.proofs.Common.{◌≡◌, ℕ, ◌+◌, Bool, true, false, not, List, [], ◌∷◌, ◌++◌, Some, refl}
+use Rattle.std.proofs.Common.{◌≡◌, ℕ, ◌+◌, true, false, not, List, [], ◌∷◌, ◌++◌, Some, refl}
 use Rattle.std.specs.Prelude.{◌&&◌}
 use Rattle.viz_column.specs.declared.kind.Kind8.{Kind8}
 use Rattle.viz_column.specs.declared.kind.Kind8.TheVariants.{I8, U8, I16, U16, I32, U32, I64, U64}
-use Rattle.viz_lex.specs.declared.fault.FileKind.TheVariants.{Keyword, FloatArray, Unsupported}
-use Rattle.viz_lex.specs.Reading.{Reading, rest_of, fault_at}
+use Rattle.viz_lex.specs.Reading.{Reading, rest_of}
 use Rattle.viz_lex.specs.Words.{EndsWord, IsWord}
 use Rattle.viz_lex.specs.Steps.{has}
-use Rattle.viz_lex.specs.Rules.{gives, demand}
+use Rattle.viz_lex.specs.Rules.{gives}
 use Rattle.viz_lex.specs.Items.{word}
-use Rattle.viz_attr.specs.declared.types.Stored.{Stored}
 use Rattle.viz_attr.specs.declared.types.Stored.TheVariants.{Whole}
 use Rattle.viz_attr.specs.Types as types
 use Rattle.viz_attr.specs.Types.{stored_of, is_left_out_type, is_real, named_by}

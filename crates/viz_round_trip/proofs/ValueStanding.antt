@@ -1,6 +1,6 @@
 -- The numbers of an image as words, each behind blanks, stand as so many values.
-use Rattle.std.proofs.Common.{◌≡◌, ℕ, zero, suc, ℤ, pos, negsuc, ◌+◌, ◌-◌, ◌^◌, ◌<◌, true, List, [], ◌∷◌, ◌++◌, length, Some, refl, sym, ap, subst, ◌∙◌, append_assoc, arith}
-use Rattle.std.specs.Prelude.{Option, nat_lt, FitsSigned}
+use Rattle.std.proofs.Common.{◌≡◌, ℕ, ℤ, pos, negsuc, ◌^◌, ◌<◌, true, List, [], ◌∷◌, ◌++◌, length, refl, sym, ap, subst, ◌∙◌, append_assoc, arith}
+use Rattle.std.specs.Prelude.{FitsSigned}
 use Rattle.std.specs.Int.{w128}
 use Rattle.std.specs.List.{list_all}
 use Rattle.std.specs.Fmt.{signed_decimal}
@@ -9,15 +9,13 @@ use Rattle.std.proofs.lemmas.List.Elements.{All-append}
 use Rattle.viz_column.specs.declared.kind.Kind8.{Kind8}
 use Rattle.viz_column.specs.declared.kind.Kind8.TheVariants.{I8, U8, I16, U16, I32, U32, I64, U64}
 use Rattle.viz_column.specs.Kinds.{fits, fits_signed, fits_unsigned}
-use Rattle.viz_column.specs.Numbers.{Numbers}
 use Rattle.viz_lex.specs.declared.fault.FileKind.TheVariants.{ValueRange}
 use Rattle.viz_lex.specs.Reading.{Reading, rest_of, fault_at}
 use Rattle.viz_lex.specs.Words.{is_blank, EndsWord, IsBlank}
 use Rattle.viz_lex.specs.Rules.{gives, demand}
 use Rattle.viz_lex.specs.Repeats.{AreTimes, times}
 use Rattle.viz_lex.specs.Items.{number}
-use Rattle.viz_attr.specs.declared.types.Stored.TheVariants.{Whole}
-use Rattle.viz_attr.specs.Values.{value, tuple, text_values}
+use Rattle.viz_attr.specs.Values.{value, tuple}
 use Rattle.viz_round_trip.proofs.StandingLemmas.{Stands, stands-gives, stands-follow, stands-demand}
 use Rattle.viz_round_trip.proofs.NumberStanding.{stands-number}
 

@@ -1,6 +1,6 @@
 -- The lines of the origin and the spacing, as they are written.
-use Rattle.std.proofs.Common.{◌≡◌, ℕ, ℤ, pos, negsuc, ◌+◌, ◌^◌, ◌≤◌, true, List, [], ◌∷◌, ◌++◌, length, refl, arith}
-use Rattle.std.specs.Prelude.{nat_le, unsigned_abs, ◌<ℤ◌, ◌≤ℤ◌}
+use Rattle.std.proofs.Common.{◌≡◌, ℕ, ℤ, pos, negsuc, ◌^◌, ◌≤◌, true, List, [], ◌∷◌, ◌++◌, refl, arith}
+use Rattle.std.specs.Prelude.{nat_le, unsigned_abs}
 use Rattle.std.proofs.Math.Dec.{leb→le, ltb→lt}
 use Rattle.std.proofs.lemmas.Bool.{lt-ltb, le-leb}
 use Rattle.viz_lex.specs.declared.fault.FileKind.TheVariants.{HeaderNumber, Spacing}

@@ -1,11 +1,11 @@
 -- Words and keywords that stand where they are written.
-use Rattle.std.proofs.Common.{◌≡◌, ◌≢◌, ℕ, ◌+◌, Bool, true, false, not, List, [], ◌∷◌, ◌++◌, length, All, Some, None, refl, arith}
+use Rattle.std.proofs.Common.{◌≡◌, ℕ, ◌+◌, Bool, true, false, not, List, [], ◌∷◌, length, refl, arith}
 use Rattle.std.specs.Prelude.{codes}
 use Rattle.std.specs.List.{list_all}
 use Rattle.std.proofs.lemmas.List.Elements.{All-nil, All-cons, All-weaker}
 use Rattle.std.proofs.lemmas.List.Sums.{AllPass-from_list_all}
 use Rattle.viz_lex.specs.Reading.{Reading, rest_of, advanced, fault_at}
-use Rattle.viz_lex.specs.Words.{is_blank, EndsWord, IsBlank, IsWord, IsNextWord}
+use Rattle.viz_lex.specs.Words.{is_blank, IsBlank, IsWord, IsNextWord}
 use Rattle.viz_lex.specs.Steps.{same_word, keyword_kind, is_next}
 use Rattle.viz_lex.specs.Rules.{gives, demand}
 use Rattle.viz_lex.specs.Items.{word, keyword, metadata}

@@ -1,19 +1,30 @@
 //! What is written is read again. A law is a function that does nothing: its contract holds of the
 //! definitions alone.
 
-ghost use Rattle.std.specs.Prelude.{Bool};
+ghost use Rattle.std.specs.Prelude.{◌≡◌, Bool};
 ghost use Rattle.viz_base.specs.declared.node.Pick.TheVariants.{First};
 ghost use Rattle.viz_dataset.specs.Images.{ImageData, corner, IsImage, IsOrigin};
-ghost use Rattle.viz_legacy_read.specs.Reading.{Reads};
+ghost use Rattle.viz_lex.specs.declared.fault.FileFault.{FileFault};
+ghost use Rattle.viz_legacy_read.specs.Reading.{Reads, Stops};
 ghost use Rattle.viz_legacy_write.specs.ImageText.{image_text};
 ghost use Rattle.viz_round_trip.specs.RoundTrip.{moved, BeginsAtZero};
 
-/// The text of an image is read as the image that it was written of, in ASCII and in BINARY. A
-/// file knows no lower bound of an extent but index 0: from another one, the points are counted
-/// from 0, and each stands where it stood.
+/// The text of an image, in ASCII or in BINARY, is read as the image that it was written of.
+///
+/// A file knows no first index but 0. So the points of an extent that begins further on are
+/// counted from 0, and each is read where it stood, with its number.
 pub fn written_images_are_read_again()
     ensures same { (binary : Bool) (i : ImageData) → IsImage i → BeginsAtZero i.extent
         → Reads (image_text binary i) First i }
     ensures moved { (binary : Bool) (i : ImageData) → IsImage i → IsOrigin (corner i)
         → Reads (image_text binary i) First (moved i) }
+{}
+
+/// Nothing else is read of such a text, and no fault is met. So `read` gives just that image of
+/// what `write_image` gave, whichever form it was given, or memory ran out.
+pub fn nothing_else_is_read()
+    ensures only { (binary : Bool) (i j : ImageData) → IsImage i → IsOrigin (corner i)
+        → Reads (image_text binary i) First j → j ≡ moved i }
+    ensures no_fault { (binary : Bool) (i : ImageData) (fault : FileFault)
+        → IsImage i → IsOrigin (corner i) → ¬ Stops (image_text binary i) First fault }
 {}
