@@ -16,3 +16,4 @@ pub mod TextLemmas
 pub mod MovedLemmas
 pub mod ImageStanding
 pub mod OnlyLemmas
+pub mod PointLemmas

@@ -24,7 +24,7 @@ extent_sizes b h =
     let few = factors_few (size_x b) (size_y b) (size_z b) (2 ^ 31) some_x some_y some_z h.count in
     record { some_x = some_x; some_y = some_y; some_z = some_z; few_x = few.0; few_y = few.1; few_z = few.2; few = h.count }
 
-size_again : (lower upper : ℕ) → upper - lower + 1 - 1 - 0 + 1 ≡ upper - lower + 1
+pub size_again : (lower upper : ℕ) → upper - lower + 1 - 1 - 0 + 1 ≡ upper - lower + 1
 size_again lower upper = omega arith
 
 -- there are as many points

@@ -7,7 +7,7 @@
 
 mod laws;
 
-pub use laws::{nothing_else_is_read, written_images_are_read_again};
+pub use laws::{moved_points_stay, nothing_else_is_read, written_images_are_read_again};
 
 #[cfg(test)]
 mod tests;

@@ -55,7 +55,10 @@ fn again<T: Number>(
         assert_eq!(*rt; column.kind(), T::kind(), "{binary}");
         assert_eq!(*rt; column.len(), numbers.len() as u64, "{binary}");
         for k in 0..column.len() {
-            assert!(*rt; numbers.get(k as usize) == Some(&column.get(k)), "{binary} {k}");
+            assert!(*rt;
+                numbers.get(k as usize) == Some(&column.get(k)),
+                "{binary} {k}"
+            );
         }
     }
     Ok(())
@@ -73,7 +76,13 @@ fn an_image_from_index_0_is_read_as_it_was(rt: HostRuntime) -> Result<(), Fail> 
         [-ONE / 2, 0, 1],
         [ONE / 4, 2 * ONE, ONE * ONE],
     );
-    again::<i16>(&rt, alloc, &rows, &rows, &[-32_768, 0, 10, 32_767, -1, 2_570])
+    again::<i16>(
+        &rt,
+        alloc,
+        &rows,
+        &rows,
+        &[-32_768, 0, 10, 32_767, -1, 2_570],
+    )
 }
 
 // The first point stands at -0.5 + 3 / 4, at 1 - 2 and at 2 + 2 * 3.
