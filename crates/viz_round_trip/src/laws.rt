@@ -21,8 +21,8 @@ pub fn written_images_are_read_again()
         → Reads (image_text binary i) First (moved i) }
 {}
 
-/// Nothing else is read of such a text, and no fault is met. So `read` gives just that image of
-/// what `write_image` gave, whichever form it was given, or memory ran out.
+/// Nothing else is read of such a text, and no fault is met. So of what `write_image` gave, in
+/// either form, `read` gives just that image where the first array is picked, or memory ran out.
 pub fn nothing_else_is_read()
     ensures only { (binary : Bool) (i j : ImageData) → IsImage i → IsOrigin (corner i)
         → Reads (image_text binary i) First j → j ≡ moved i }
