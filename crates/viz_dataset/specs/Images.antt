@@ -1,6 +1,6 @@
 -- Images: a number at each point of an extent (VTK User's Guide, "Simple legacy formats").
 use Rattle.std.specs.Prelude.{◌≡◌, ℕ, ◌^◌, ◌≤◌, ℤ, pos, ◌+ℤ◌, ◌*ℤ◌, ◌≤ℤ◌, ◌<ℤ◌, List, length, slice_index_or, unsigned_abs}
-use Rattle.viz_extent.specs.Extent.{Bounds, count_of, IsExtent, IsOnAxis, Has}
+use Rattle.viz_extent.specs.Extent.{Bounds, count_of, IsExtent, Has}
 use Rattle.viz_extent.specs.Numbering.{index_at}
 use Rattle.viz_fraction.specs.Points.{Point, numbers, reduced}
 use Rattle.viz_column.specs.Numbers.{Numbers, AreInRange}

@@ -115,7 +115,7 @@ impl Image {
 
     /// Other numbers, of any type, at the same points.
     pub fn with_column(&self, column: Column) -> Image
-        requires { length column.items ≡ length self.now.values.items }
+        requires count { length column.items ≡ length self.now.values.items }
         ensures value { result ≡ record self.now { values = column } }
         ensures valid { IsImage result }
     {
@@ -124,7 +124,7 @@ impl Image {
 
     /// The position of the lowest corner of the extent, in billionths.
     pub fn corner(&self) -> [i128; 3]
-        ensures { vector_of result ≡ corner self.now }
+        ensures value { vector_of result ≡ corner self.now }
     {
         let [x0, _, y0, _, z0, _] = self.extent.bounds();
         [
@@ -136,8 +136,8 @@ impl Image {
 
     /// The point at the indices i, j, k, with its number as the scalar.
     pub fn point(&self, i: u32, j: u32, k: u32) -> Point5
-        requires { Has self.now.extent i j k }
-        ensures { result ≡ point_at self.now i j k }
+        requires within { Has self.now.extent i j k }
+        ensures value { result ≡ point_at self.now i j k }
     {
         let scalar = scalar_at(&self.column, self.extent.index_of(i, j, k));
         point_of(&self.origin, &self.spacing, i, j, k, &scalar)
@@ -145,7 +145,7 @@ impl Image {
 
     /// The image on a part of its extent: the same positions and the same numbers there.
     pub fn restrict(&self, alloc: Global, part: &Extent) -> Result<Image, AllocError>
-        requires { IsPart self.now.extent part.now }
+        requires within { IsPart self.now.extent part.now }
         ensures value { IfOk result (IsRestricted self.now part.now) }
         ensures valid { IfOk result IsImage }
     {

@@ -112,6 +112,21 @@ fn points_lie_at_origin_and_spacing(rt: HostRuntime) -> Result<(), Fail> {
             [5, 3, 9],
             [10, 39, 36, 4, 4],
         ),
+        // Whole numbers of units that no 64 bits of billionths hold, and one axis that isn't whole.
+        (
+            [0; 6],
+            [ONE * ONE * ONE, -7 * ONE * ONE * ONE / 10, 0],
+            [ONE; 3],
+            [0, 0, 0],
+            [ONE * ONE, -700_000_000_000_000_000, 0, 0, 1],
+        ),
+        (
+            [3, 3, 0, 0, 0, 0],
+            [0, 0, -ONE / 4],
+            [ONE; 3],
+            [3, 0, 0],
+            [12, 0, -1, 0, 4],
+        ),
         // The least spacing.
         (
             [0, 1, 0, 0, 0, 0],

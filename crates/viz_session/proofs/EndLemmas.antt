@@ -1,113 +1,76 @@
--- What the status of a run says of its outcome and its line.
-use Rattle.std.proofs.Common.{◌≡◌, ◌⊎◌, ℕ, List, ◌++◌, refl, sym, ◌∙◌, inl, inr}
-use Rattle.viz_base.specs.Faults.{Rose}
-use Rattle.viz_base.specs.Texts.{AppendsPrefix}
+-- What the status of a run says of the outcome that was told, and what that says of the outcome that was found.
+use Rattle.std.proofs.Common.{◌≡◌, ℕ, List, Result, Ok, Err, refl, sym, subst, ◌∙◌, inl, inr}
+use Rattle.std.specs.Prelude.{◌⊎◌}
+use Rattle.viz_base.specs.declared.out.Out as out
+use Rattle.viz_base.specs.declared.refusal.WriteRefusal.{WriteRefusal}
+use Rattle.viz_base.specs.declared.refusal.WriteRefusal.TheVariants as writing
+use Rattle.viz_session.specs.declared.outcome.Cause.{Cause}
+use Rattle.viz_session.specs.declared.outcome.Failed.{Failed}
 use Rattle.viz_session.specs.declared.outcome.Outcome.{Outcome}
 use Rattle.viz_session.specs.declared.outcome.Outcome.TheVariants as outcome
 use Rattle.viz_session.specs.declared.outcome.Status.{Status}
 use Rattle.viz_session.specs.declared.outcome.Status.TheVariants as status
-use Rattle.viz_session.specs.Report.{line_of, file_line}
-use Rattle.viz_session.specs.Account.{Settles, Tells}
+use Rattle.viz_session.specs.Account.{Settles, IsPut}
+use Rattle.viz_session.specs.Promises.{EndsRefused}
+use Rattle.viz_session.specs.Report.{status_after}
 
--- the outcome that is told is the one that was found, or want of memory
-pub settled : (found o : Outcome) → Settles found o → (o ≡ found) ⊎ (o ≡ outcome.Memory)
-settled (outcome.Written cells points) o h = h
-settled (outcome.BadFile fault) o h = inl h
-settled outcome.TooLong o h = inl h
-settled outcome.TooWide o h = inl h
-settled outcome.TooMany o h = inl h
-settled outcome.ReadFault o h = inl h
-settled outcome.WriteFault o h = inl h
-settled outcome.Memory o h = inl h
-settled outcome.Usage o h = inl h
-settled outcome.NoPort o h = inl h
+abbrev pub Answer : Type 0
+Answer = Result (Unit {0}) WriteRefusal
 
--- want of memory doesn't end as anything else
-pub memory_ends : (ended : Status) (old new : List ℕ) (before after : ℕ) → Tells outcome.Memory ended old new before after → ended ≡ status.Memory
-memory_ends ended old new before after h = elim h [ inl all ↦ all.0 | inr less ↦ elim less [ inl part ↦ part.0 | inr none ↦ none.0 ] ]
+-- what was told, and what the put answered, by the status
+abbrev pub ToldBy : Outcome → Answer → Status → Type 0
+ToldBy o a status.Done = (cells : ℕ) × (points : ℕ) × (o ≡ outcome.Written cells points) × (a ≡ Ok tt)
+ToldBy o a status.Refused = (cause : Cause) × (o ≡ outcome.Refused cause) × (a ≡ Ok tt)
+ToldBy o a status.Fault = ((failed : Failed) × (o ≡ outcome.Fault failed) × (a ≡ Ok tt)) ⊎ (a ≡ Err writing.Failed)
+ToldBy o a ended = Unit {0}
 
--- the numbers of a written file, and its line
-abbrev pub TellsWritten : Outcome → List ℕ → List ℕ → Type 0
-TellsWritten o old new = (cells : ℕ) × (points : ℕ) × (o ≡ outcome.Written cells points) × (new ≡ old ++ file_line cells points)
+told_by : (o : Outcome) (a : Answer) → ToldBy o a (status_after o a)
+told_by outcome.Usage (Ok done) = tt
+told_by outcome.NoPort (Ok done) = tt
+told_by (outcome.Written cells points) (Ok done) = (cells, points, refl, refl)
+told_by (outcome.Refused cause) (Ok done) = (cause, refl, refl)
+told_by (outcome.Fault failed) (Ok done) = inl (failed, refl, refl)
+told_by outcome.Memory (Ok done) = tt
+told_by outcome.Usage (Err writing.Failed) = tt
+told_by outcome.NoPort (Err writing.Failed) = tt
+told_by (outcome.Written cells points) (Err writing.Failed) = inr refl
+told_by (outcome.Refused cause) (Err writing.Failed) = inr refl
+told_by (outcome.Fault failed) (Err writing.Failed) = inr refl
+told_by outcome.Memory (Err writing.Failed) = tt
+told_by outcome.Usage (Err writing.Memory) = tt
+told_by outcome.NoPort (Err writing.Memory) = tt
+told_by (outcome.Written cells points) (Err writing.Memory) = tt
+told_by (outcome.Refused cause) (Err writing.Memory) = tt
+told_by (outcome.Fault failed) (Err writing.Memory) = tt
+told_by outcome.Memory (Err writing.Memory) = tt
 
--- Done is the status of a written file alone
-pub done_tells : (o : Outcome) (ended : Status) (old new : List ℕ) (before after : ℕ) → Tells o ended old new before after → ended ≡ status.Done → TellsWritten o old new
-done_tells (outcome.Written cells points) ended old new before after h is =
-    elim h [ inl all ↦ (cells, points, refl, all.1) | inr less ↦ elim less [ inl part ↦ absurd (let e : status.Fault ≡ status.Done = sym part.0 ∙ is in cc) | inr none ↦ absurd (let e : status.Memory ≡ status.Done = sym none.0 ∙ is in cc) ] ]
-done_tells (outcome.BadFile fault) ended old new before after h is =
-    elim h [ inl all ↦ absurd (let e : status.Refused ≡ status.Done = sym all.0 ∙ is in cc) | inr less ↦ elim less [ inl part ↦ absurd (let e : status.Fault ≡ status.Done = sym part.0 ∙ is in cc) | inr none ↦ absurd (let e : status.Memory ≡ status.Done = sym none.0 ∙ is in cc) ] ]
-done_tells outcome.TooLong ended old new before after h is =
-    elim h [ inl all ↦ absurd (let e : status.Refused ≡ status.Done = sym all.0 ∙ is in cc) | inr less ↦ elim less [ inl part ↦ absurd (let e : status.Fault ≡ status.Done = sym part.0 ∙ is in cc) | inr none ↦ absurd (let e : status.Memory ≡ status.Done = sym none.0 ∙ is in cc) ] ]
-done_tells outcome.TooWide ended old new before after h is =
-    elim h [ inl all ↦ absurd (let e : status.Refused ≡ status.Done = sym all.0 ∙ is in cc) | inr less ↦ elim less [ inl part ↦ absurd (let e : status.Fault ≡ status.Done = sym part.0 ∙ is in cc) | inr none ↦ absurd (let e : status.Memory ≡ status.Done = sym none.0 ∙ is in cc) ] ]
-done_tells outcome.TooMany ended old new before after h is =
-    elim h [ inl all ↦ absurd (let e : status.Refused ≡ status.Done = sym all.0 ∙ is in cc) | inr less ↦ elim less [ inl part ↦ absurd (let e : status.Fault ≡ status.Done = sym part.0 ∙ is in cc) | inr none ↦ absurd (let e : status.Memory ≡ status.Done = sym none.0 ∙ is in cc) ] ]
-done_tells outcome.ReadFault ended old new before after h is =
-    elim h [ inl all ↦ absurd (let e : status.Fault ≡ status.Done = sym all.0 ∙ is in cc) | inr less ↦ elim less [ inl part ↦ absurd (let e : status.Fault ≡ status.Done = sym part.0 ∙ is in cc) | inr none ↦ absurd (let e : status.Memory ≡ status.Done = sym none.0 ∙ is in cc) ] ]
-done_tells outcome.WriteFault ended old new before after h is =
-    elim h [ inl all ↦ absurd (let e : status.Fault ≡ status.Done = sym all.0 ∙ is in cc) | inr less ↦ elim less [ inl part ↦ absurd (let e : status.Fault ≡ status.Done = sym part.0 ∙ is in cc) | inr none ↦ absurd (let e : status.Memory ≡ status.Done = sym none.0 ∙ is in cc) ] ]
-done_tells outcome.Memory ended old new before after h is =
-    elim h [ inl all ↦ absurd (let e : status.Memory ≡ status.Done = sym all.0 ∙ is in cc) | inr less ↦ elim less [ inl part ↦ absurd (let e : status.Memory ≡ status.Done = sym part.0 ∙ is in cc) | inr none ↦ absurd (let e : status.Memory ≡ status.Done = sym none.0 ∙ is in cc) ] ]
-done_tells outcome.Usage ended old new before after h is =
-    elim h [ inl all ↦ absurd (let e : status.Usage ≡ status.Done = sym all.0 ∙ is in cc) | inr less ↦ elim less [ inl part ↦ absurd (let e : status.Usage ≡ status.Done = sym part.0 ∙ is in cc) | inr none ↦ absurd (let e : status.Usage ≡ status.Done = sym none.0 ∙ is in cc) ] ]
-done_tells outcome.NoPort ended old new before after h is =
-    elim h [ inl all ↦ absurd (let e : status.Script ≡ status.Done = sym all.0 ∙ is in cc) | inr less ↦ elim less [ inl part ↦ absurd (let e : status.Script ≡ status.Done = sym part.0 ∙ is in cc) | inr none ↦ absurd (let e : status.Memory ≡ status.Done = sym none.0 ∙ is in cc) ] ]
+-- the same of a status that is known
+pub told_at : (o : Outcome) (a : Answer) (ended known : Status) → ended ≡ status_after o a → ended ≡ known → ToldBy o a known
+told_at o a ended known e is = subst (ToldBy o a) (sym e ∙ is) (told_by o a)
 
--- a file or an image was refused
-abbrev pub IsRefusal : Outcome → Type 0
-IsRefusal (outcome.BadFile fault) = Unit {0}
-IsRefusal outcome.TooLong = Unit {0}
-IsRefusal outcome.TooWide = Unit {0}
-IsRefusal outcome.TooMany = Unit {0}
-IsRefusal o = ⊥
+-- what is told was found, where it isn't want of memory
+pub found_is : (found told o : Outcome) → Settles found told → told ≡ o → (outcome.Memory ≡ o → ⊥) → found ≡ o
+found_is found told o settles is apart = elim settles [
+  | inl same ↦ sym same ∙ is
+  | inr memory ↦ absurd (apart (sym memory.1 ∙ is))
+]
 
--- Refused is the status of these alone, behind their whole line
-pub refused_tells : (o : Outcome) (ended : Status) (old new : List ℕ) (before after : ℕ) → Tells o ended old new before after → ended ≡ status.Refused → IsRefusal o × (new ≡ old ++ line_of o)
-refused_tells (outcome.Written cells points) ended old new before after h is =
-    elim h [ inl all ↦ absurd (let e : status.Done ≡ status.Refused = sym all.0 ∙ is in cc) | inr less ↦ elim less [ inl part ↦ absurd (let e : status.Fault ≡ status.Refused = sym part.0 ∙ is in cc) | inr none ↦ absurd (let e : status.Memory ≡ status.Refused = sym none.0 ∙ is in cc) ] ]
-refused_tells (outcome.BadFile fault) ended old new before after h is =
-    elim h [ inl all ↦ (tt, all.1) | inr less ↦ elim less [ inl part ↦ absurd (let e : status.Fault ≡ status.Refused = sym part.0 ∙ is in cc) | inr none ↦ absurd (let e : status.Memory ≡ status.Refused = sym none.0 ∙ is in cc) ] ]
-refused_tells outcome.TooLong ended old new before after h is =
-    elim h [ inl all ↦ (tt, all.1) | inr less ↦ elim less [ inl part ↦ absurd (let e : status.Fault ≡ status.Refused = sym part.0 ∙ is in cc) | inr none ↦ absurd (let e : status.Memory ≡ status.Refused = sym none.0 ∙ is in cc) ] ]
-refused_tells outcome.TooWide ended old new before after h is =
-    elim h [ inl all ↦ (tt, all.1) | inr less ↦ elim less [ inl part ↦ absurd (let e : status.Fault ≡ status.Refused = sym part.0 ∙ is in cc) | inr none ↦ absurd (let e : status.Memory ≡ status.Refused = sym none.0 ∙ is in cc) ] ]
-refused_tells outcome.TooMany ended old new before after h is =
-    elim h [ inl all ↦ (tt, all.1) | inr less ↦ elim less [ inl part ↦ absurd (let e : status.Fault ≡ status.Refused = sym part.0 ∙ is in cc) | inr none ↦ absurd (let e : status.Memory ≡ status.Refused = sym none.0 ∙ is in cc) ] ]
-refused_tells outcome.ReadFault ended old new before after h is =
-    elim h [ inl all ↦ absurd (let e : status.Fault ≡ status.Refused = sym all.0 ∙ is in cc) | inr less ↦ elim less [ inl part ↦ absurd (let e : status.Fault ≡ status.Refused = sym part.0 ∙ is in cc) | inr none ↦ absurd (let e : status.Memory ≡ status.Refused = sym none.0 ∙ is in cc) ] ]
-refused_tells outcome.WriteFault ended old new before after h is =
-    elim h [ inl all ↦ absurd (let e : status.Fault ≡ status.Refused = sym all.0 ∙ is in cc) | inr less ↦ elim less [ inl part ↦ absurd (let e : status.Fault ≡ status.Refused = sym part.0 ∙ is in cc) | inr none ↦ absurd (let e : status.Memory ≡ status.Refused = sym none.0 ∙ is in cc) ] ]
-refused_tells outcome.Memory ended old new before after h is =
-    elim h [ inl all ↦ absurd (let e : status.Memory ≡ status.Refused = sym all.0 ∙ is in cc) | inr less ↦ elim less [ inl part ↦ absurd (let e : status.Memory ≡ status.Refused = sym part.0 ∙ is in cc) | inr none ↦ absurd (let e : status.Memory ≡ status.Refused = sym none.0 ∙ is in cc) ] ]
-refused_tells outcome.Usage ended old new before after h is =
-    elim h [ inl all ↦ absurd (let e : status.Usage ≡ status.Refused = sym all.0 ∙ is in cc) | inr less ↦ elim less [ inl part ↦ absurd (let e : status.Usage ≡ status.Refused = sym part.0 ∙ is in cc) | inr none ↦ absurd (let e : status.Usage ≡ status.Refused = sym none.0 ∙ is in cc) ] ]
-refused_tells outcome.NoPort ended old new before after h is =
-    elim h [ inl all ↦ absurd (let e : status.Script ≡ status.Refused = sym all.0 ∙ is in cc) | inr less ↦ elim less [ inl part ↦ absurd (let e : status.Script ≡ status.Refused = sym part.0 ∙ is in cc) | inr none ↦ absurd (let e : status.Memory ≡ status.Refused = sym none.0 ∙ is in cc) ] ]
+-- ---- where a command is refused, or memory ran out
 
--- the whole line of a fault of the port; or first bytes of a line
-abbrev pub TellsFault : Outcome → List ℕ → List ℕ → ℕ → ℕ → Type 0
-TellsFault o old new before after =
-    ((o ≡ outcome.ReadFault) × (new ≡ old ++ line_of o)) ⊎ (((o ≡ outcome.WriteFault) × (new ≡ old ++ line_of o)) ⊎ (Rose before after × AppendsPrefix old (line_of o) new))
+module _ {O : Type 0} (m : out.Ghosts O) (cause : Cause) (old new : O) where
+  refused_by : (a : Answer) (ended : Status) → ended ≡ status_after (outcome.Refused cause) a → IsPut m (outcome.Refused cause) a old new → EndsRefused m cause old new ended
+  refused_by (Ok done) ended e put = inl (e, put.text)
+  refused_by (Err writing.Failed) ended e put = inr (inl (e, put.cause refl))
+  refused_by (Err writing.Memory) ended e put = inr (inr e)
 
--- Fault is the status of these alone
-pub fault_tells : (o : Outcome) (ended : Status) (old new : List ℕ) (before after : ℕ) → Tells o ended old new before after → ended ≡ status.Fault → TellsFault o old new before after
-fault_tells (outcome.Written cells points) ended old new before after h is =
-    elim h [ inl all ↦ absurd (let e : status.Done ≡ status.Fault = sym all.0 ∙ is in cc) | inr less ↦ elim less [ inl part ↦ inr (inr (part.1, part.2)) | inr none ↦ absurd (let e : status.Memory ≡ status.Fault = sym none.0 ∙ is in cc) ] ]
-fault_tells (outcome.BadFile fault) ended old new before after h is =
-    elim h [ inl all ↦ absurd (let e : status.Refused ≡ status.Fault = sym all.0 ∙ is in cc) | inr less ↦ elim less [ inl part ↦ inr (inr (part.1, part.2)) | inr none ↦ absurd (let e : status.Memory ≡ status.Fault = sym none.0 ∙ is in cc) ] ]
-fault_tells outcome.TooLong ended old new before after h is =
-    elim h [ inl all ↦ absurd (let e : status.Refused ≡ status.Fault = sym all.0 ∙ is in cc) | inr less ↦ elim less [ inl part ↦ inr (inr (part.1, part.2)) | inr none ↦ absurd (let e : status.Memory ≡ status.Fault = sym none.0 ∙ is in cc) ] ]
-fault_tells outcome.TooWide ended old new before after h is =
-    elim h [ inl all ↦ absurd (let e : status.Refused ≡ status.Fault = sym all.0 ∙ is in cc) | inr less ↦ elim less [ inl part ↦ inr (inr (part.1, part.2)) | inr none ↦ absurd (let e : status.Memory ≡ status.Fault = sym none.0 ∙ is in cc) ] ]
-fault_tells outcome.TooMany ended old new before after h is =
-    elim h [ inl all ↦ absurd (let e : status.Refused ≡ status.Fault = sym all.0 ∙ is in cc) | inr less ↦ elim less [ inl part ↦ inr (inr (part.1, part.2)) | inr none ↦ absurd (let e : status.Memory ≡ status.Fault = sym none.0 ∙ is in cc) ] ]
-fault_tells outcome.ReadFault ended old new before after h is =
-    elim h [ inl all ↦ inl (refl, all.1) | inr less ↦ elim less [ inl part ↦ inr (inr (part.1, part.2)) | inr none ↦ absurd (let e : status.Memory ≡ status.Fault = sym none.0 ∙ is in cc) ] ]
-fault_tells outcome.WriteFault ended old new before after h is =
-    elim h [ inl all ↦ inr (inl (refl, all.1)) | inr less ↦ elim less [ inl part ↦ inr (inr (part.1, part.2)) | inr none ↦ absurd (let e : status.Memory ≡ status.Fault = sym none.0 ∙ is in cc) ] ]
-fault_tells outcome.Memory ended old new before after h is =
-    elim h [ inl all ↦ absurd (let e : status.Memory ≡ status.Fault = sym all.0 ∙ is in cc) | inr less ↦ elim less [ inl part ↦ absurd (let e : status.Memory ≡ status.Fault = sym part.0 ∙ is in cc) | inr none ↦ absurd (let e : status.Memory ≡ status.Fault = sym none.0 ∙ is in cc) ] ]
-fault_tells outcome.Usage ended old new before after h is =
-    elim h [ inl all ↦ absurd (let e : status.Usage ≡ status.Fault = sym all.0 ∙ is in cc) | inr less ↦ elim less [ inl part ↦ absurd (let e : status.Usage ≡ status.Fault = sym part.0 ∙ is in cc) | inr none ↦ absurd (let e : status.Usage ≡ status.Fault = sym none.0 ∙ is in cc) ] ]
-fault_tells outcome.NoPort ended old new before after h is =
-    elim h [ inl all ↦ absurd (let e : status.Script ≡ status.Fault = sym all.0 ∙ is in cc) | inr less ↦ elim less [ inl part ↦ absurd (let e : status.Script ≡ status.Fault = sym part.0 ∙ is in cc) | inr none ↦ absurd (let e : status.Memory ≡ status.Fault = sym none.0 ∙ is in cc) ] ]
+  memory_by : (a : Answer) (ended : Status) → ended ≡ status_after outcome.Memory a → EndsRefused m cause old new ended
+  memory_by (Ok done) ended e = inr (inr e)
+  memory_by (Err writing.Failed) ended e = inr (inr e)
+  memory_by (Err writing.Memory) ended e = inr (inr e)
+
+  pub refused_ends : (found told : Outcome) (a : Answer) (ended : Status) → (found ≡ outcome.Memory) ⊎ (found ≡ outcome.Refused cause) → Settles found told
+      → ended ≡ status_after told a → IsPut m told a old new → EndsRefused m cause old new ended
+  refused_ends found told a ended (inl memory) (inl same) e put = memory_by a ended (subst (λ (o : Outcome). ended ≡ status_after o a) (same ∙ memory) e)
+  refused_ends found told a ended (inr refused) (inl same) e put =
+      refused_by a ended (subst (λ (o : Outcome). ended ≡ status_after o a) (same ∙ refused) e) (subst (λ (o : Outcome). IsPut m o a old new) (same ∙ refused) put)
+  refused_ends found told a ended is (inr memory) e put = memory_by a ended (subst (λ (o : Outcome). ended ≡ status_after o a) memory.1 e)

@@ -1,117 +1,146 @@
--- What a run did to the outside: calls of a port, files, and the text put (docs/DEFINITIONS.md, "The account of a command").
-use Rattle.std.specs.Prelude.{◌≡◌, ℕ, ◌≤◌, Bool, List, [], ◌∷◌, ◌++◌, ◌⊎◌, ◌↔◌, Ok, Err, Option, Some, None, IsTrue}
-use Rattle.viz_base.specs.Faults.{Rose}
-use Rattle.viz_base.specs.Files.{Files, SameFiles, SameOthers, KeepsPrefix}
+-- What a run did to the outside: calls of a port, files, and the line put (docs/DEFINITIONS.md, "The account of a run").
+use Rattle.std.specs.Prelude.{◌≡◌, ℕ, ◌≤◌, List, [], ◌∷◌, ◌++◌, ◌⊎◌, Result, Ok, Err, Option, Some, None, IsTrue}
+use Rattle.viz_base.specs.declared.node.Pick.TheVariants.{First}
+use Rattle.viz_base.specs.Faults.{Rose, one_more, answers_after}
+use Rattle.viz_base.specs.Files.{Files, SameFiles, SameOthers, IsLonger, KeepsPrefix}
 use Rattle.viz_base.specs.Texts.{AppendsPrefix}
+use Rattle.viz_base.specs.declared.port.Port as port
+use Rattle.viz_base.specs.declared.out.Out as out
 use Rattle.viz_base.specs.declared.call.Call.{Call}
 use Rattle.viz_base.specs.declared.call.Call.TheVariants.{Read, Write}
+use Rattle.viz_base.specs.declared.call.ReadAnswer.{ReadAnswer}
 use Rattle.viz_base.specs.declared.call.ReadAnswer.TheVariants as read
+use Rattle.viz_base.specs.declared.call.WriteAnswer.{WriteAnswer}
 use Rattle.viz_base.specs.declared.call.WriteAnswer.TheVariants as write
+use Rattle.viz_base.specs.declared.refusal.WriteRefusal.{WriteRefusal}
+use Rattle.viz_base.specs.declared.refusal.WriteRefusal.TheVariants as writing
+use Rattle.viz_dataset.specs.Images.{ImageData}
+use Rattle.viz_legacy_read.specs.Reading.{Reads}
+use Rattle.viz_session.specs.declared.outcome.Cause.{Cause}
+use Rattle.viz_session.specs.declared.outcome.Failed.TheVariants as call
 use Rattle.viz_session.specs.declared.outcome.Outcome.{Outcome}
 use Rattle.viz_session.specs.declared.outcome.Outcome.TheVariants as outcome
 use Rattle.viz_session.specs.declared.outcome.Status.{Status}
-use Rattle.viz_session.specs.declared.outcome.Status.TheVariants as status
-use Rattle.viz_session.specs.Image.{Image}
-use Rattle.viz_session.specs.FirstForm.{image_of}
-use Rattle.viz_session.specs.Outputs.{output_text, cells_made, points_made, Accepts, IsTooWide, IsTooMany}
-use Rattle.viz_session.specs.Command.{Command}
-use Rattle.viz_session.specs.Report.{line_of, status_of, status_at_fault, status_at_memory}
+use Rattle.viz_session.specs.Causes.{IsCause}
+use Rattle.viz_session.specs.Command.{Command, command_of}
+use Rattle.viz_session.specs.Outputs.{output_text, cells_made, points_made, Accepts}
+use Rattle.viz_session.specs.Report.{line_of, status_after, HasMadeLine}
 
--- the bytes were read and are those of the file, where files are told
-abbrev pub Content : Type 0 → Files → List ℕ → List ℕ → Type 0
-Content told files name bytes = told → files name ≡ Some bytes
+-- ---- a port
 
--- the calls that a command's outcome stands for
-abbrev pub Gained : Command → (List ℕ → Type 0) → Outcome → List Call → Type 0
-Gained c IsContent (outcome.Written cells points) calls =
-    (bytes : List ℕ) × (i : Image) × IsContent bytes × (image_of bytes ≡ Ok i) × Accepts c.filter i
-    × (cells ≡ cells_made c.filter i) × (points ≡ points_made c.filter i)
-    × (calls ≡ Read c.input (read.Given bytes) ∷ Write c.output (output_text c.filter i) write.Written ∷ [])
-Gained c IsContent (outcome.BadFile fault) calls =
-    (bytes : List ℕ) × IsContent bytes × (image_of bytes ≡ Err fault) × (calls ≡ Read c.input (read.Given bytes) ∷ [])
-Gained c IsContent outcome.TooLong calls = (taken : ℕ) × (calls ≡ Read c.input (read.TooLong taken) ∷ [])
-Gained c IsContent outcome.TooWide calls =
-    (bytes : List ℕ) × (i : Image) × IsContent bytes × (image_of bytes ≡ Ok i) × IsTooWide c.filter i × (calls ≡ Read c.input (read.Given bytes) ∷ [])
-Gained c IsContent outcome.TooMany calls =
-    (bytes : List ℕ) × (i : Image) × IsContent bytes × (image_of bytes ≡ Ok i) × IsTooMany c.filter i × (calls ≡ Read c.input (read.Given bytes) ∷ [])
-Gained c IsContent outcome.ReadFault calls = calls ≡ Read c.input read.Failed ∷ []
-Gained c IsContent outcome.WriteFault calls =
-    (bytes : List ℕ) × (i : Image) × IsContent bytes × (image_of bytes ≡ Ok i) × Accepts c.filter i
-    × (calls ≡ Read c.input (read.Given bytes) ∷ Write c.output (output_text c.filter i) write.Failed ∷ [])
-Gained c IsContent outcome.Memory calls =
-    (calls ≡ []) ⊎ ((bytes : List ℕ) × IsContent bytes × (calls ≡ Read c.input (read.Given bytes) ∷ []))
-Gained c IsContent outcome.Usage calls = ⊥
-Gained c IsContent outcome.NoPort calls = ⊥
+-- what a command did at its port: no call that was answered; a read; or a read of an image's file, and a write
+pub data Deed : Type 0 where
+  Nothing : Deed
+  Asked : ReadAnswer → Deed
+  Answered : List ℕ → ImageData → WriteAnswer → Deed
 
--- the list of calls gained these
-abbrev pub Serves : Command → (List ℕ → Type 0) → Outcome → List Call → List Call → Type 0
-Serves c IsContent o old new = (calls : List Call) × (new ≡ old ++ calls) × Gained c IsContent o calls
+-- the calls of a deed
+abbrev pub calls_of : Command → Deed → List Call
+calls_of c Nothing = []
+calls_of c (Asked answer) = Read c.input answer ∷ []
+calls_of c (Answered bytes i answer) = Read c.input (read.Given bytes) ∷ Write c.output (output_text c.filter i) answer ∷ []
 
--- a written output has the text of its input; a failed write keeps first bytes of that text; all else stays
-abbrev pub Touches : Command → Outcome → Files → Files → Type 0
-Touches c (outcome.Written cells points) old new =
-    (bytes : List ℕ) × (i : Image) × (old c.input ≡ Some bytes) × (image_of bytes ≡ Ok i) × Accepts c.filter i × (new c.output ≡ Some (output_text c.filter i)) × SameOthers c.output old new
-Touches c outcome.WriteFault old new =
-    (bytes : List ℕ) × (i : Image) × (old c.input ≡ Some bytes) × (image_of bytes ≡ Ok i) × Accepts c.filter i × KeepsPrefix c.output (output_text c.filter i) new × SameOthers c.output old new
-Touches c o old new = SameFiles old new
+-- what the answer of a read says of the file: its bytes, or that it is longer than the limit
+abbrev pub TellsFile : Files → ℕ → List ℕ → ReadAnswer → Type 0
+TellsFile files limit name (read.Given bytes) = files name ≡ Some bytes
+TellsFile files limit name (read.TooLong taken) = IsLonger files name limit
+TellsFile files limit name read.Failed = Unit {0}
 
--- a fault is told only where the count rose
-abbrev pub HasCause : Outcome → ℕ → ℕ → Type 0
-HasCause outcome.ReadFault old new = Rose old new
-HasCause outcome.WriteFault old new = Rose old new
-HasCause o old new = Unit {0}
+-- what a write leaves in its file: the text, or first bytes of it
+abbrev pub LeavesText : List ℕ → List ℕ → WriteAnswer → Files → Type 0
+LeavesText name text write.Written new = new name ≡ Some text
+LeavesText name text write.Failed new = KeepsPrefix name text new
 
--- an outcome of a command that a port served
-abbrev pub IsOfPort : Outcome → Type 0
-IsOfPort outcome.Usage = ⊥
-IsOfPort outcome.NoPort = ⊥
-IsOfPort o = Unit {0}
+-- the files around a deed: what was read stood there, what was written stands there, and all else is as before
+abbrev pub FilesAround : Command → Deed → ℕ → Files → Files → Type 0
+FilesAround c Nothing limit old new = SameFiles old new
+FilesAround c (Asked answer) limit old new = TellsFile old limit c.input answer × SameFiles old new
+FilesAround c (Answered bytes i answer) limit old new =
+    (old c.input ≡ Some bytes) × LeavesText c.output (output_text c.filter i) answer new × SameOthers c.output old new
 
--- what a command did to the port that served it
-pub record IsServed {P : Type 0} (tells_files tells_calls : Bool) (files : P → Files) (calls : P → List Call) (faults : P → ℕ) (c : Command) (o : Outcome) (old new : P) : Type 0 where
-  pub served : IsOfPort o
-  pub told : IsTrue tells_calls → Serves c (Content (IsTrue tells_files) (files old) c.input) o (calls old) (calls new)
-  pub touched : IsTrue tells_files → Touches c o (files old) (files new)
-  pub cause : HasCause o (faults old) (faults new)
-  pub later : faults old ≤ faults new
+-- a deed that ended with a failed call
+abbrev pub HasFailed : Deed → Type 0
+HasFailed (Asked read.Failed) = Unit {0}
+HasFailed (Answered bytes i write.Failed) = Unit {0}
+HasFailed deed = ⊥
 
--- the first port served the command, and no other was called
-abbrev pub Runs : {P : Type 0} → (Command → Outcome → P → P → Type 0) → Option Command → Outcome → List P → List P → Type 0
-Runs Served None o old new = (o ≡ outcome.Usage) × (new ≡ old)
-Runs Served (Some c) o [] new = (o ≡ outcome.NoPort) × (new ≡ [])
-Runs Served (Some c) o (p ∷ ps) [] = ⊥
-Runs Served (Some c) o (p ∷ ps) (q ∷ qs) = Served c o p q × (qs ≡ ps)
+-- this was done at a port: its calls and its files where it tells them, and its count of faults
+pub record IsDoneAt {P : Type 0} (m : port.Ghosts P) (c : Command) (deed : Deed) (old new : P) : Type 0 where
+  pub calls : IsTrue m.tells_calls → m.calls new ≡ m.calls old ++ calls_of c deed
+  pub files : IsTrue m.tells_files → FilesAround c deed (m.limit old) (m.files old) (m.files new)
+  pub cause : HasFailed deed → Rose (m.faults old) (m.faults new)
+  pub later : m.faults old ≤ m.faults new
+  pub limit : m.limit new ≡ m.limit old
 
--- the outcome that is told: where memory doesn't suffice for the numbers of a written file, it is want of memory
+-- ---- outcomes
+
+-- the bytes are a file of this image, which the filter accepts
+pub record IsInput (c : Command) (bytes : List ℕ) (i : ImageData) : Type 0 where
+  pub reads : Reads bytes First i
+  pub accepts : Accepts c.filter i
+
+-- a command is refused for a cause
+abbrev pub Refuses : Command → ReadAnswer → Outcome → Type 0
+Refuses c answer o = (cause : Cause) × IsCause c.filter answer cause × (o ≡ outcome.Refused cause)
+
+-- the outcome of a command whose read was answered so, and that wrote nothing
+abbrev pub EndsUnwritten : Command → ReadAnswer → Outcome → Type 0
+EndsUnwritten c (read.Given bytes) o = (o ≡ outcome.Memory) ⊎ Refuses c (read.Given bytes) o
+EndsUnwritten c (read.TooLong taken) o = Refuses c (read.TooLong taken) o
+EndsUnwritten c read.Failed o = o ≡ outcome.Fault call.Read
+
+-- the outcome of a command that wrote the result of an image, by what the write answered
+abbrev pub EndsWritten : Command → ImageData → WriteAnswer → Outcome → Type 0
+EndsWritten c i write.Written o = o ≡ outcome.Written (cells_made c.filter i) (points_made c.filter i)
+EndsWritten c i write.Failed o = o ≡ outcome.Fault call.Write
+
+-- the outcome of a command that did this
+abbrev pub EndsIn : Command → Deed → Outcome → Type 0
+EndsIn c Nothing o = o ≡ outcome.Memory
+EndsIn c (Asked answer) o = EndsUnwritten c answer o
+EndsIn c (Answered bytes i answer) o = IsInput c bytes i × EndsWritten c i answer o
+
+-- a port served a command, with this outcome
+abbrev pub IsServed : {P : Type 0} → port.Ghosts P → Command → Outcome → P → P → Type 0
+IsServed m c o old new = (deed : Deed) × EndsIn c deed o × IsDoneAt m c deed old new
+
+-- the first port served the command of the words, and all other ports are as before
+abbrev pub Serves : {P : Type 0} → port.Ghosts P → Option Command → Outcome → List P → List P → Type 0
+Serves m None o old new = (o ≡ outcome.Usage) × (new ≡ old)
+Serves m (Some c) o [] new = (o ≡ outcome.NoPort) × (new ≡ [])
+Serves m (Some c) o (p ∷ ps) [] = ⊥
+Serves m (Some c) o (p ∷ ps) (q ∷ qs) = IsServed m c o p q × (qs ≡ ps)
+
+-- ---- the line
+
+-- the outcome that is told: want of memory, where memory ran out at the making of its line
 abbrev pub Settles : Outcome → Outcome → Type 0
-Settles (outcome.Written cells points) o = (o ≡ outcome.Written cells points) ⊎ (o ≡ outcome.Memory)
-Settles found o = o ≡ found
+Settles found told = (told ≡ found) ⊎ (HasMadeLine found × (told ≡ outcome.Memory))
 
--- the whole line was put
-abbrev pub TellsAll : Outcome → Status → List ℕ → List ℕ → Type 0
-TellsAll o ended old new = (ended ≡ status_of o) × (new ≡ old ++ line_of o)
+-- the text after a put, by its answer: the whole line, first bytes of it, or nothing more
+abbrev pub TextAfter : List ℕ → Result (Unit {0}) WriteRefusal → List ℕ → List ℕ → Type 0
+TextAfter line (Ok done) old new = new ≡ old ++ line
+TextAfter line (Err writing.Failed) old new = AppendsPrefix old line new
+TextAfter line (Err writing.Memory) old new = new ≡ old
 
--- the put failed behind some first bytes of the line, and the count rose
-abbrev pub TellsPart : Outcome → Status → List ℕ → List ℕ → ℕ → ℕ → Type 0
-TellsPart o ended old new before after = (ended ≡ status_at_fault o) × Rose before after × AppendsPrefix old (line_of o) new
+-- the line of an outcome was put once, with this answer
+pub record IsPut {O : Type 0} (m : out.Ghosts O) (told : Outcome) (answer : Result (Unit {0}) WriteRefusal) (old new : O) : Type 0 where
+  pub text : IsTrue m.tells_text → TextAfter (line_of told) answer (m.text old) (m.text new)
+  pub cause : answer ≡ Err writing.Failed → Rose (m.faults old) (m.faults new)
+  pub later : m.faults old ≤ m.faults new
+  pub once : m.puts new ≡ one_more (m.puts old)
+  pub answered : m.answered new ≡ answers_after (m.answered old) answer
 
--- memory ran out at the put
-abbrev pub TellsNothing : Outcome → Status → List ℕ → List ℕ → Type 0
-TellsNothing o ended old new = (ended ≡ status_at_memory o) × (new ≡ old)
+-- an outcome was told, and the status belongs to it
+abbrev pub IsTold : {O : Type 0} → out.Ghosts O → Outcome → Status → O → O → Type 0
+IsTold m found ended old new =
+    (told : Outcome) × (answer : Result (Unit {0}) WriteRefusal) × Settles found told × (ended ≡ status_after told answer) × IsPut m told answer old new
 
--- one of these
-abbrev pub Tells : Outcome → Status → List ℕ → List ℕ → ℕ → ℕ → Type 0
-Tells o ended old new before after = TellsAll o ended old new ⊎ (TellsPart o ended old new before after ⊎ TellsNothing o ended old new)
+-- ---- a run
 
--- the read or the write failed
-abbrev pub IsPortFault : Outcome → Type 0
-IsPortFault outcome.ReadFault = Unit {0}
-IsPortFault outcome.WriteFault = Unit {0}
-IsPortFault o = ⊥
-
--- what a run put, and its status
-pub record IsReported (tells_text : Bool) (found : Outcome) (ended : Status) (old_text new_text : List ℕ) (old_faults new_faults : ℕ) : Type 0 where
-  pub told : IsTrue tells_text → (o : Outcome) × Settles found o × Tells o ended old_text new_text old_faults new_faults
-  pub usage : (ended ≡ status.Usage) ↔ (found ≡ outcome.Usage)
-  pub cause : ended ≡ status.Fault → IsPortFault found ⊎ Rose old_faults new_faults
-  pub later : old_faults ≤ new_faults
+-- what a run was: the outcome of its words' command, what that did at the ports, and the line put of it with the status; the desk isn't used
+pub record IsRun {P O : Type 0} (ports : port.Ghosts P) (output : out.Ghosts O) (words : List (List ℕ)) (scripts new_scripts : P) (old new : List P) (before after : O) (ended : Status) : Type 0 where
+  pub found : Outcome
+  pub served : Serves ports (command_of words) found old new
+  pub desk : new_scripts ≡ scripts
+  pub told : IsTold output found ended before after

@@ -1,23 +1,23 @@
 -- What a run promises of its status, its line, its calls and the files (docs/FORMATS.md, "Report").
-use Rattle.std.specs.Prelude.{◌≡◌, ℕ, List, [], ◌∷◌, ◌++◌, ◌⊎◌, Option, Some, None}
+use Rattle.std.specs.Prelude.{◌≡◌, ℕ, List, [], ◌∷◌, ◌++◌, ◌⊎◌, Option, Some, None, IsTrue}
 use Rattle.viz_base.specs.Faults.{Rose}
-use Rattle.viz_base.specs.Files.{Files, SameFiles, SameOthers, KeepsPrefix}
 use Rattle.viz_base.specs.Texts.{AppendsPrefix}
-use Rattle.viz_base.specs.Calls.{writes_of}
-use Rattle.viz_base.specs.declared.call.Call.{Call}
-use Rattle.viz_base.specs.declared.call.Call.TheVariants.{Read, Write}
+use Rattle.viz_base.specs.declared.port.Port as port
+use Rattle.viz_base.specs.declared.out.Out as out
+use Rattle.viz_base.specs.declared.call.Call.TheVariants.{Read}
 use Rattle.viz_base.specs.declared.call.ReadAnswer.{ReadAnswer}
-use Rattle.viz_base.specs.declared.call.ReadAnswer.TheVariants as read
-use Rattle.viz_base.specs.declared.call.WriteAnswer.{WriteAnswer}
-use Rattle.viz_base.specs.declared.call.WriteAnswer.TheVariants as write
+use Rattle.viz_base.specs.declared.call.WriteAnswer.TheVariants.{Written}
+use Rattle.viz_dataset.specs.Images.{ImageData}
+use Rattle.viz_session.specs.declared.outcome.Cause.{Cause}
 use Rattle.viz_session.specs.declared.outcome.Status.{Status}
 use Rattle.viz_session.specs.declared.outcome.Status.TheVariants as status
-use Rattle.viz_session.specs.Image.{Image}
-use Rattle.viz_session.specs.Grammar.{IsFirstForm}
+use Rattle.viz_session.specs.Account.{Deed, Nothing, Asked, Answered, IsDoneAt, HasFailed, IsInput}
+use Rattle.viz_session.specs.Causes.{IsCause}
 use Rattle.viz_session.specs.Command.{Command}
-use Rattle.viz_session.specs.Account.{Content}
-use Rattle.viz_session.specs.Outputs.{output_text, cells_made, points_made, Accepts}
-use Rattle.viz_session.specs.Report.{file_line, read_fault_line, write_fault_line, no_port_line}
+use Rattle.viz_session.specs.Outputs.{cells_made, points_made}
+use Rattle.viz_session.specs.Report.{file_line, refused_line, read_fault_line, write_fault_line}
+
+-- ---- of lists of ports
 
 -- the first items are related, and the others are as before
 abbrev pub FirstOnly : {P : Type 0} → (P → P → Type 0) → List P → List P → Type 0
@@ -31,76 +31,79 @@ OthersStay [] new = new ≡ []
 OthersStay (p ∷ ps) [] = ⊥
 OthersStay (p ∷ ps) (q ∷ qs) = qs ≡ ps
 
--- the list of calls gained these
-abbrev pub Gains : {P : Type 0} → (P → List Call) → List Call → P → P → Type 0
-Gains calls gained p q = calls q ≡ calls p ++ gained
+-- the first port did this, and no other was called
+abbrev pub FirstDid : {P : Type 0} → port.Ghosts P → Command → Deed → List P → List P → Type 0
+FirstDid m c deed old new = FirstOnly (IsDoneAt m c deed) old new
 
--- the bytes are of the first form with no image
-abbrev pub IsNotFirstForm : List ℕ → Type 0
-IsNotFirstForm bytes = (i : Image) → IsFirstForm bytes i → ⊥
+-- the first port was asked for the input, and answered so
+abbrev pub FirstAnswered : {P : Type 0} → port.Ghosts P → Command → ReadAnswer → List P → List P → Type 0
+FirstAnswered m c answer old new = FirstOnly (λ p q. m.calls q ≡ m.calls p ++ Read c.input answer ∷ []) old new
 
--- a read of the input
-abbrev pub read_given : Command → List ℕ → Call
-read_given c bytes = Read c.input (read.Given bytes)
+-- the first port's count of faults rose
+abbrev pub FirstRose : {P : Type 0} → port.Ghosts P → List P → List P → Type 0
+FirstRose m old new = FirstOnly (λ p q. Rose (m.faults p) (m.faults q)) old new
 
--- a write of the output: the text of what the filter makes of the image
-abbrev pub write_output : Command → Image → WriteAnswer → Call
-write_output c i answer = Write c.output (output_text c.filter i) answer
+-- ---- of the text
 
--- nothing; or a read of the input; or that, of an image that the filter accepts, and then a write of the output
-abbrev pub IsOnce : Command → List Call → Type 0
-IsOnce c calls =
-    (calls ≡ []) ⊎ (((answer : ReadAnswer) × (calls ≡ Read c.input answer ∷ []))
-    ⊎ ((bytes : List ℕ) × (i : Image) × (answer : WriteAnswer) × IsFirstForm bytes i × Accepts c.filter i × (calls ≡ read_given c bytes ∷ write_output c i answer ∷ [])))
+-- the text gained this line, where it is told
+abbrev pub GainsLine : {O : Type 0} → out.Ghosts O → List ℕ → O → O → Type 0
+GainsLine m line old new = IsTrue m.tells_text → m.text new ≡ m.text old ++ line
 
--- no call for other words or without a port; else at most these of the first port
-abbrev pub CallsOnce : {P : Type 0} → (P → List Call) → Option Command → List P → List P → Type 0
-CallsOnce calls None old new = new ≡ old
-CallsOnce calls (Some c) [] new = new ≡ []
-CallsOnce calls (Some c) (p ∷ ps) new = FirstOnly (λ p q. (gained : List Call) × Gains calls gained p q × IsOnce c gained) (p ∷ ps) new
+-- first bytes of the line were put, and the count of faults rose
+abbrev pub IsBroken : {O : Type 0} → out.Ghosts O → List ℕ → O → O → Type 0
+IsBroken m line old new = Rose (m.faults old) (m.faults new) × AppendsPrefix (m.text old) line (m.text new)
 
--- the output has the text of its input, or first bytes of it, or all files are as before; no other file is changed
-abbrev pub WritesOnly : Command → Files → Files → Type 0
-WritesOnly c old new =
-    SameFiles old new ⊎ ((bytes : List ℕ) × (i : Image) × (old c.input ≡ Some bytes) × IsFirstForm bytes i × Accepts c.filter i × SameOthers c.output old new
-    × ((new c.output ≡ Some (output_text c.filter i)) ⊎ KeepsPrefix c.output (output_text c.filter i) new))
+-- nothing was put, since the put wasn't answered for want of memory
+abbrev pub IsUnanswered : {O : Type 0} → out.Ghosts O → O → O → Type 0
+IsUnanswered m old new = (m.text new ≡ m.text old) × (m.answered new ≡ m.answered old)
 
--- what the first port's files show, where it served a command
-abbrev pub FilesOnce : {P : Type 0} → (P → Files) → Option Command → List P → List P → Type 0
-FilesOnce files None old new = new ≡ old
-FilesOnce files (Some c) [] new = new ≡ []
-FilesOnce files (Some c) (p ∷ ps) new = FirstOnly (λ p q. WritesOnly c (files p) (files q)) (p ∷ ps) new
+-- the line was put, where the text is told, unless the put failed or memory ran out at it
+abbrev pub PutsLine : {O : Type 0} → out.Ghosts O → List ℕ → O → O → Type 0
+PutsLine m line old new = IsTrue m.tells_text → (m.text new ≡ m.text old ++ line) ⊎ (IsBroken m line old new ⊎ IsUnanswered m old new)
 
--- a run that answers Done read an image that the filter accepts, and wrote the text of what is made of it
-abbrev pub IsDone : {P : Type 0} → Type 0 → (P → Files) → (P → List Call) → Option Command → List P → List P → List ℕ → List ℕ → Type 0
-IsDone told files calls words old new old_text new_text =
-    (c : Command) × (bytes : List ℕ) × (i : Image) × (words ≡ Some c) × IsFirstForm bytes i × Accepts c.filter i
-    × FirstOnly (λ p q. Content told (files p) c.input bytes × Gains calls (read_given c bytes ∷ write_output c i write.Written ∷ []) p q
-    × (writes_of (calls q) ≡ writes_of (calls p) ++ (c.output, output_text c.filter i) ∷ [])) old new
-    × (new_text ≡ old_text ++ file_line (cells_made c.filter i) (points_made c.filter i))
+-- ---- of the statuses
 
--- the whole line was put; or first bytes of it, and the count rose; or nothing
-abbrev pub PutsLine : List ℕ → List ℕ → List ℕ → ℕ → ℕ → Type 0
-PutsLine line old_text new_text old_faults new_faults =
-    (new_text ≡ old_text ++ line) ⊎ ((Rose old_faults new_faults × AppendsPrefix old_text line new_text) ⊎ (new_text ≡ old_text))
+-- a command without a port
+abbrev pub LacksPort : {P : Type 0} → Option Command → List P → Type 0
+LacksPort (Some c) [] = Unit {0}
+LacksPort words ports = ⊥
 
--- without a port that is put, and the status is Script unless memory ran out
-abbrev pub WantsPort : {P : Type 0} → Option Command → List P → Status → List ℕ → List ℕ → ℕ → ℕ → Type 0
-WantsPort words old ended old_text new_text old_faults new_faults =
-    (c : Command) → words ≡ Some c → old ≡ [] → ((ended ≡ status.Script) ⊎ (ended ≡ status.Memory)) × PutsLine no_port_line old_text new_text old_faults new_faults
+-- Script comes for a command without a port, unless memory ran out, and for nothing else
+pub record IsScript {P : Type 0} (words : Option Command) (ports : List P) (ended : Status) : Type 0 where
+  pub only : ended ≡ status.Script → LacksPort words ports
+  pub comes : LacksPort words ports → (ended ≡ status.Script) ⊎ (ended ≡ status.Memory)
 
--- the first port's files are as before
-abbrev pub FirstKeeps : {P : Type 0} → (P → Files) → List P → List P → Type 0
-FirstKeeps files old new = FirstOnly (λ p q. SameFiles (files p) (files q)) old new
+-- a run that answers Done read an image that the filter accepts, wrote the text of what is made of it, and told its numbers
+abbrev pub IsDone : {P O : Type 0} → port.Ghosts P → out.Ghosts O → Option Command → List P → List P → O → O → Type 0
+IsDone ports output words old new before after =
+    (c : Command) × (bytes : List ℕ) × (i : ImageData) × (words ≡ Some c) × IsInput c bytes i × FirstDid ports c (Answered bytes i Written) old new
+    × GainsLine output (file_line (cells_made c.filter i) (points_made c.filter i)) before after
 
--- the first port's count rose
-abbrev pub FirstRose : {P : Type 0} → (P → ℕ) → List P → List P → Type 0
-FirstRose faults old new = FirstOnly (λ p q. Rose (faults p) (faults q)) old new
+-- a run that answers Refused read its input and did nothing else; a cause of it holds, and was told
+abbrev pub IsRefused : {P O : Type 0} → port.Ghosts P → out.Ghosts O → Option Command → List P → List P → O → O → Type 0
+IsRefused ports output words old new before after =
+    (c : Command) × (answer : ReadAnswer) × (cause : Cause) × (words ≡ Some c) × IsCause c.filter answer cause × FirstDid ports c (Asked answer) old new
+    × GainsLine output (refused_line cause) before after
 
--- a run that answers Fault: the read failed and that was put, or the write, or the put failed
-abbrev pub IsFault : {P : Type 0} → (P → List Call) → Option Command → List P → List P → List ℕ → List ℕ → ℕ → ℕ → Type 0
-IsFault calls words old new old_text new_text old_faults new_faults =
-    ((c : Command) × (words ≡ Some c) × FirstOnly (Gains calls (Read c.input read.Failed ∷ [])) old new × (new_text ≡ old_text ++ read_fault_line))
-    ⊎ (((c : Command) × (bytes : List ℕ) × (i : Image) × (words ≡ Some c)
-    × FirstOnly (Gains calls (read_given c bytes ∷ write_output c i write.Failed ∷ [])) old new × (new_text ≡ old_text ++ write_fault_line))
-    ⊎ (Rose old_faults new_faults × ((line : List ℕ) × AppendsPrefix old_text line new_text)))
+-- the status where a cause holds: Refused, with its line; Fault, where the put failed; or Memory
+abbrev pub EndsRefused : {O : Type 0} → out.Ghosts O → Cause → O → O → Status → Type 0
+EndsRefused m cause old new ended =
+    ((ended ≡ status.Refused) × GainsLine m (refused_line cause) old new) ⊎ (((ended ≡ status.Fault) × Rose (m.faults old) (m.faults new)) ⊎ (ended ≡ status.Memory))
+
+-- where the read of the input was answered so, and nothing else was called, each cause of it is told
+abbrev pub TellsCauses : {P O : Type 0} → port.Ghosts P → out.Ghosts O → Option Command → List P → List P → O → O → Status → Type 0
+TellsCauses ports output words old new before after ended =
+    (c : Command) (answer : ReadAnswer) (cause : Cause) → words ≡ Some c → IsCause c.filter answer cause → IsTrue ports.tells_calls
+    → FirstAnswered ports c answer old new → EndsRefused output cause before after ended
+
+-- the line of a failed call
+abbrev pub fault_line : Deed → List ℕ
+fault_line Nothing = []
+fault_line (Asked answer) = read_fault_line
+fault_line (Answered bytes i answer) = write_fault_line
+
+-- a run that answers Fault: a call of the first port failed, and that was told; or the put failed
+abbrev pub IsFault : {P O : Type 0} → port.Ghosts P → out.Ghosts O → Option Command → List P → List P → O → O → Type 0
+IsFault ports output words old new before after =
+    ((c : Command) × (deed : Deed) × (words ≡ Some c) × HasFailed deed × FirstDid ports c deed old new × GainsLine output (fault_line deed) before after)
+    ⊎ Rose (output.faults before) (output.faults after)

@@ -1,10 +1,15 @@
 -- The line that a run puts, and its status (docs/FORMATS.md, "Report").
-use Rattle.std.specs.Prelude.{ℕ, List, ◌++◌, codes}
+use Rattle.std.specs.Prelude.{ℕ, List, ◌++◌, codes, Result, Ok, Err}
 use Rattle.std.specs.Fmt.{decimal}
+use Rattle.viz_base.specs.declared.refusal.WriteRefusal.{WriteRefusal}
+use Rattle.viz_base.specs.declared.refusal.WriteRefusal.TheVariants as writing
+use Rattle.viz_session.specs.declared.outcome.Cause.{Cause}
+use Rattle.viz_session.specs.declared.outcome.Failed.TheVariants as call
 use Rattle.viz_session.specs.declared.outcome.Outcome.{Outcome}
 use Rattle.viz_session.specs.declared.outcome.Outcome.TheVariants as outcome
 use Rattle.viz_session.specs.declared.outcome.Status.{Status}
 use Rattle.viz_session.specs.declared.outcome.Status.TheVariants as status
+use Rattle.viz_session.specs.Causes.{cause_text}
 
 -- the words are no command
 unfoldable pub usage_line : List ℕ
@@ -18,21 +23,9 @@ no_port_line = codes "script line 0 ActorRange\n"
 unfoldable pub file_line : ℕ → ℕ → List ℕ
 file_line cells points = codes "file cells " ++ decimal cells ++ codes " points " ++ decimal points ++ codes "\n"
 
--- the file isn't of the first form
-unfoldable pub bad_file_line : List ℕ
-bad_file_line = codes "refused fault:src:BadFile(Unsupported,0)\n"
-
--- the file is too long
-unfoldable pub too_long_line : List ℕ
-too_long_line = codes "refused TooLong\n"
-
--- a number of the result is too wide
-unfoldable pub too_wide_line : List ℕ
-too_wide_line = codes "refused fault:op:TooWide\n"
-
--- the result has too many points or cells
-unfoldable pub too_many_line : List ℕ
-too_many_line = codes "refused fault:op:TooMany\n"
+-- the command is refused
+unfoldable pub refused_line : Cause → List ℕ
+refused_line cause = codes "refused " ++ cause_text cause ++ codes "\n"
 
 -- the read failed
 unfoldable pub read_fault_line : List ℕ
@@ -51,12 +44,9 @@ abbrev pub line_of : Outcome → List ℕ
 line_of outcome.Usage = usage_line
 line_of outcome.NoPort = no_port_line
 line_of (outcome.Written cells points) = file_line cells points
-line_of (outcome.BadFile fault) = bad_file_line
-line_of outcome.TooLong = too_long_line
-line_of outcome.TooWide = too_wide_line
-line_of outcome.TooMany = too_many_line
-line_of outcome.ReadFault = read_fault_line
-line_of outcome.WriteFault = write_fault_line
+line_of (outcome.Refused cause) = refused_line cause
+line_of (outcome.Fault call.Read) = read_fault_line
+line_of (outcome.Fault call.Write) = write_fault_line
 line_of outcome.Memory = memory_line
 
 -- the status where the whole line was put
@@ -64,12 +54,8 @@ abbrev pub status_of : Outcome → Status
 status_of outcome.Usage = status.Usage
 status_of outcome.NoPort = status.Script
 status_of (outcome.Written cells points) = status.Done
-status_of (outcome.BadFile fault) = status.Refused
-status_of outcome.TooLong = status.Refused
-status_of outcome.TooWide = status.Refused
-status_of outcome.TooMany = status.Refused
-status_of outcome.ReadFault = status.Fault
-status_of outcome.WriteFault = status.Fault
+status_of (outcome.Refused cause) = status.Refused
+status_of (outcome.Fault failed) = status.Fault
 status_of outcome.Memory = status.Memory
 
 -- the status where the put failed: usage, a missing port and want of memory come first
@@ -84,7 +70,14 @@ abbrev pub status_at_memory : Outcome → Status
 status_at_memory outcome.Usage = status.Usage
 status_at_memory o = status.Memory
 
--- any outcome but a written file has a line without numbers
-abbrev pub IsFixed : Outcome → Type 0
-IsFixed (outcome.Written cells points) = ⊥
-IsFixed o = Unit {0}
+-- the status of an outcome, by what the put of its line answered
+abbrev pub status_after : Outcome → Result (Unit {0}) WriteRefusal → Status
+status_after o (Ok done) = status_of o
+status_after o (Err writing.Failed) = status_at_fault o
+status_after o (Err writing.Memory) = status_at_memory o
+
+-- an outcome whose line is made of numbers or of a cause
+abbrev pub HasMadeLine : Outcome → Type 0
+HasMadeLine (outcome.Written cells points) = Unit {0}
+HasMadeLine (outcome.Refused cause) = Unit {0}
+HasMadeLine o = ⊥

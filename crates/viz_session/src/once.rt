@@ -1,54 +1,77 @@
 //! One file read, filtered and written.
 
-ghost use Rattle.std.specs.Prelude.{◌≡◌, ◌≤◌, IsTrue, Ok};
-ghost use Rattle.viz_session.specs.FirstForm.{image_of};
-ghost use Rattle.viz_session.specs.Account.{Content, IsOfPort, Serves, Touches, HasCause};
+ghost use Rattle.std.specs.Prelude.{◌≡◌, ◌<◌, ◌^◌, IfOk, IfErr};
+ghost use Rattle.viz_extent.specs.Extent.{count_of};
+ghost use Rattle.viz_base.specs.declared.node.Pick.TheVariants.{First};
+ghost use Rattle.viz_dataset.specs.Images.{IsImage};
+ghost use Rattle.viz_legacy_read.specs.Reading.{Reads, IsStop};
+ghost use Rattle.viz_session.specs.Account.{IsServed};
 ghost use Rattle.viz_session.specs.Commands.{command_view};
-ghost use Rattle.viz_session.specs.Reads.{Gives, image_view};
+ghost use Rattle.viz_session.specs.Outputs.{cube_count};
 ghost use Rattle.viz_session.specs.Made.{Makes, MakesOf};
 ghost use Rattle.viz_session.specs.declared.command.Filter.TheVariants.{Threshold};
 
 use crate::command::{Filter, Once};
 use crate::contour::contour;
-use crate::image::IntImage;
 use crate::made::Made;
-use crate::outcome::Outcome;
-use crate::read::read;
-use crate::stop::{MakeStop, ReadStop};
+use crate::outcome::{Cause, Failed, Outcome};
+use crate::stop::MakeStop;
 use crate::threshold::threshold;
-use crate::write::image_text;
 use std::alloc::Global;
-use viz_base::{Bytes, Port, ReadRefusal, WriteRefusal};
+use viz_base::{Bytes, Pick, Port, ReadRefusal, WriteRefusal};
+use viz_dataset::{Dataset, Image};
+use viz_extent::Extent;
+use viz_legacy_read::{ReadStop, read};
+use viz_legacy_write::{Style, write_image};
+
+/// How images are written.
+const STYLE: Style = Style {
+    binary: false,
+    digits: 3,
+};
 
 /// The image of a file; the bytes are given up.
-fn image_of(alloc: Global, bytes: Bytes) -> Result<IntImage, ReadStop>
-    ensures { Gives result (image_of bytes) }
+fn image_of(alloc: Global, bytes: Bytes) -> Result<Image, ReadStop>
+    ensures found { IfOk result (Reads bytes First) }
+    ensures fault { IfErr result (IsStop bytes First) }
+    ensures valid { IfOk result IsImage }
 {
-    read(alloc, bytes.list())
+    let dataset = read(alloc, bytes.list(), &Pick::First)?;
+    let Dataset::Image(image) = dataset;
+    Ok(image)
 }
 
-/// The text and the numbers of a thresholded image.
-fn thresholded(alloc: Global, image: IntImage, lo: &i64, hi: &i64) -> Result<Made, MakeStop>
-    ensures { MakesOf (Threshold lo.now hi.now) (image_view image) result }
+/// How many cubes there are between the points of an extent.
+fn cube_count(extent: &Extent) -> u64
+    ensures { result ≡ cube_count extent.now }
 {
-    let image = threshold(image, lo, hi);
-    let cells = u64::from(image.sizes.cell_count());
-    let points = u64::from(image.sizes.point_count());
-    let text = image_text(alloc, &image)?;
+    let [x0, x1, y0, y1, z0, z1] = extent.bounds();
+    let _count = extent.count();
+    u64::from(x1 - x0) * u64::from(y1 - y0) * u64::from(z1 - z0)
+}
+
+/// The text and the numbers of a thresholded image. Its input is given up before the text is made.
+fn thresholded(alloc: Global, image: Image, lo: &i64, hi: &i64) -> Result<Made, MakeStop>
+    ensures { MakesOf (Threshold lo.now hi.now) image result }
+{
+    let kept = threshold(alloc, &image, lo, hi)?;
+    drop(image);
+    let extent = kept.extent();
+    let text = write_image(alloc, &kept, &STYLE)?;
     Ok(Made {
         text,
-        cells,
-        points,
+        cells: cube_count(&extent),
+        points: extent.count(),
     })
 }
 
 /// What a filter makes of an image.
-fn made_of(alloc: Global, filter: &Filter, image: IntImage) -> Result<Made, MakeStop>
-    ensures { MakesOf filter.now (image_view image) result }
+fn made_of(alloc: Global, filter: &Filter, image: Image) -> Result<Made, MakeStop>
+    ensures { MakesOf filter.now image result }
 {
     match filter {
         Filter::Threshold { lo, hi } => thresholded(alloc, image, lo, hi),
-        Filter::Contour { level } => contour(alloc, &image, level),
+        Filter::Contour { level } => contour(alloc, image, level),
     }
 }
 
@@ -60,38 +83,28 @@ fn make(alloc: Global, filter: &Filter, bytes: Bytes) -> Result<Made, MakeStop>
     made_of(alloc, filter, image)
 }
 
-/// Reads the command's input, and writes its output where the input is of the first form and
-/// the filter accepts its image.
+/// Reads the command's input, and writes its output where the input is a file and the filter
+/// accepts its image.
 pub fn serve<P: Port>(alloc: Global, command: &Once<'_>, port: &mut P) -> Outcome
-    ensures served { IsOfPort result }
-    ensures calls { IsTrue P.tells_calls
-        → Serves (command_view command.now)
-        (Content (IsTrue P.tells_files) (P.files port.old) command.now.input.now)
-        result (P.calls port.old) (P.calls port.new) }
-    ensures files { IsTrue P.tells_files
-        → Touches (command_view command.now) result (P.files port.old) (P.files port.new) }
-    ensures cause { HasCause result (P.faults port.old) (P.faults port.new) }
-    ensures later { P.faults port.old ≤ P.faults port.new }
+    ensures { IsServed P.Port (command_view command.now) result port.old port.new }
 {
     let bytes = match port.read(alloc, command.input) {
         Ok(bytes) => bytes,
-        Err(ReadRefusal::Failed) => return Outcome::ReadFault,
-        Err(ReadRefusal::TooLong(_)) => return Outcome::TooLong,
+        Err(ReadRefusal::Failed) => return Outcome::Fault(Failed::Read),
+        Err(ReadRefusal::TooLong(_)) => return Outcome::Refused(Cause::TooLong),
         Err(ReadRefusal::Memory) => return Outcome::Memory,
     };
     let made = match make(alloc, &command.filter, bytes) {
         Ok(made) => made,
-        Err(MakeStop::File(fault)) => return Outcome::BadFile(fault),
-        Err(MakeStop::TooWide) => return Outcome::TooWide,
-        Err(MakeStop::TooMany) => return Outcome::TooMany,
+        Err(MakeStop::Refused(cause)) => return Outcome::Refused(cause),
         Err(MakeStop::Memory) => return Outcome::Memory,
     };
-    match port.write(alloc, command.output, &made.text) {
+    match port.write(alloc, command.output, made.text.list()) {
         Ok(()) => Outcome::Written {
             cells: made.cells,
             points: made.points,
         },
-        Err(WriteRefusal::Failed) => Outcome::WriteFault,
+        Err(WriteRefusal::Failed) => Outcome::Fault(Failed::Write),
         Err(WriteRefusal::Memory) => Outcome::Memory,
     }
 }

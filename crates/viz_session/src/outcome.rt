@@ -19,6 +19,26 @@ pub enum Status {
     Memory,
 }
 
+/// Why a command is refused.
+#[derive(Clone, Copy, PartialEq, Eq, Debug)]
+pub enum Cause {
+    /// The file that was to be read is too long.
+    TooLong,
+    /// The bytes that were read are no file: its first fault.
+    BadFile(FileFault),
+    /// A number of the result is too wide.
+    TooWide,
+    /// The result has too many points or cells.
+    TooMany,
+}
+
+/// Which call of a port failed.
+#[derive(Clone, Copy, PartialEq, Eq, Debug)]
+pub enum Failed {
+    Read,
+    Write,
+}
+
 /// What a run found, before its line is put.
 #[derive(Clone, Copy, PartialEq, Eq, Debug)]
 pub enum Outcome {
@@ -28,18 +48,10 @@ pub enum Outcome {
     NoPort,
     /// The file was written, with so many cells and points.
     Written { cells: u64, points: u64 },
-    /// The file that was read isn't of the first form: its first fault.
-    BadFile(FileFault),
-    /// The file that was to be read is too long.
-    TooLong,
-    /// A number of the result is too wide.
-    TooWide,
-    /// The result has too many points or cells.
-    TooMany,
-    /// The read failed.
-    ReadFault,
-    /// The write failed.
-    WriteFault,
+    /// Nothing was written, and why.
+    Refused(Cause),
+    /// A call of the port failed.
+    Fault(Failed),
     /// Want of memory.
     Memory,
 }

@@ -1,82 +1,40 @@
-//! Why a file gave no image, and why nothing was made of one.
+//! Why nothing was made of a file.
 
 ghost use Rattle.std.specs.Prelude.{◌≡◌};
-ghost use Rattle.viz_session.specs.declared.stop.ReadStop.TheVariants.{File, Memory};
-ghost use Rattle.viz_session.specs.declared.stop.MakeStop.TheVariants.{Memory as NoMemory};
-ghost use Rattle.viz_session.specs.Made.{as_make, of_work, of_write};
-ghost use Rattle.viz_lex.specs.declared.fault.FileFault.{FileFault as Fault};
+ghost use Rattle.viz_session.specs.declared.stop.MakeStop.TheVariants.{Memory};
+ghost use Rattle.viz_session.specs.Made.{of_read, of_work, of_write};
 
-use std::alloc::{AllocError, AllocFailed};
+use crate::outcome::Cause;
+use std::alloc::AllocError;
 use thiserror::Error;
 use viz_contour::WorkStop;
+use viz_legacy_read::ReadStop;
 use viz_legacy_write::WriteStop;
-use viz_lex::FileFault;
 
-/// Why a file gave no image.
-#[derive(Debug, Drop, Error)]
-pub enum ReadStop {
-    /// Its first fault.
-    #[error("the file has a fault")]
-    File(FileFault),
-    /// Want of memory.
-    #[error("out of memory")]
-    Memory,
-}
-
-impl From<FileFault> for ReadStop {
-    ghost from_gives = { λ fault stop. stop ≡ File fault };
-
-    fn from(fault: FileFault) -> ReadStop {
-        ReadStop::File(fault)
-    }
-}
-
-impl From<AllocError> for ReadStop {
-    ghost from_gives = { λ _ stop. stop ≡ Memory };
-
-    fn from(_error: AllocError) -> ReadStop {
-        ReadStop::Memory
-    }
-}
-
-impl<T: Drop> From<AllocFailed<T>> for ReadStop {
-    ghost from_gives = { λ _ stop. stop ≡ Memory };
-
-    fn from(_error: AllocFailed<T>) -> ReadStop {
-        ReadStop::Memory
-    }
-}
-
-/// Why nothing was made of a file's image.
+/// Why nothing was made of a file.
 #[derive(Debug, Drop, Error)]
 pub enum MakeStop {
-    /// The file's first fault.
-    #[error("the file has a fault")]
-    File(FileFault),
-    /// A number on the way to the result is too wide, or a number of its text.
-    #[error("a number is too wide")]
-    TooWide,
-    /// The result has too many points or cells.
-    #[error("too many points or cells")]
-    TooMany,
+    /// The file is no file of the format, or the filter refuses its image.
+    #[error("refused")]
+    Refused(Cause),
     /// Want of memory.
     #[error("out of memory")]
     Memory,
 }
 
 impl From<ReadStop> for MakeStop {
-    ghost from_gives = { λ stop made. made ≡ as_make stop };
+    ghost from_gives = { λ stop made. made ≡ of_read stop };
 
     fn from(stop: ReadStop) -> MakeStop {
         match stop {
-            ReadStop::File(fault) => MakeStop::File(fault),
+            ReadStop::File(fault) => MakeStop::Refused(Cause::BadFile(fault)),
             ReadStop::Memory => MakeStop::Memory,
         }
     }
 }
 
 impl From<AllocError> for MakeStop {
-    ghost from_gives = { λ _ stop. stop ≡ NoMemory };
+    ghost from_gives = { λ _ stop. stop ≡ Memory };
 
     fn from(_error: AllocError) -> MakeStop {
         MakeStop::Memory
@@ -88,7 +46,7 @@ impl From<WorkStop> for MakeStop {
 
     fn from(stop: WorkStop) -> MakeStop {
         match stop {
-            WorkStop::TooWide => MakeStop::TooWide,
+            WorkStop::TooWide => MakeStop::Refused(Cause::TooWide),
             WorkStop::Memory => MakeStop::Memory,
         }
     }
@@ -99,8 +57,8 @@ impl From<WriteStop> for MakeStop {
 
     fn from(stop: WriteStop) -> MakeStop {
         match stop {
-            WriteStop::TooWide => MakeStop::TooWide,
-            WriteStop::TooMany => MakeStop::TooMany,
+            WriteStop::TooWide => MakeStop::Refused(Cause::TooWide),
+            WriteStop::TooMany => MakeStop::Refused(Cause::TooMany),
             WriteStop::Memory => MakeStop::Memory,
         }
     }

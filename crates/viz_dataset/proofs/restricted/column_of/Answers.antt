@@ -1,4 +1,4 @@
-use Rattle.std.proofs.Common.{map, refl, sym, subst}
+use Rattle.std.proofs.Common.{map, sym, subst}
 use Rattle.viz_column.specs.Numbers.{Numbers}
 use Rattle.viz_dataset.specs.Rows.{AreRestricted}
 use Rattle.viz_dataset.proofs.RowLemmas.{rows-restricted}

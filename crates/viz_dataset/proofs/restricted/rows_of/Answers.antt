@@ -1,4 +1,4 @@
-use Rattle.std.proofs.Common.{length, arith}
+use Rattle.std.proofs.Common.{arith}
 use Rattle.std.proofs.lemmas.List.{length-map}
 use Rattle.viz_dataset.proofs.RowLemmas.{copied_more}
 use Rattle.viz_dataset.proofs.restricted.rows_of.Goals as goal

@@ -1,8 +1,7 @@
-use Rattle.std.proofs.Common.{◌≡◌, ◌++◌, take, drop}
-use Rattle.std.specs.Prelude.{map}
+use Rattle.std.proofs.Common.{◌≡◌, map, take}
 use Rattle.viz_session.specs.Threshold.{kept_value}
 use Rattle.viz_session.proofs.threshold.keep.Given as goal
 
--- the values so far are kept or 0, and the others are as they were
-abbrev pub invariant-loop-n : goal.invariant-loop-n
-invariant-loop-n l = l.values ≡ map (kept_value l.lo l.hi) (take l.n-index l.fn.values) ++ drop l.n-index l.fn.values
+-- the numbers so far
+abbrev pub invariant-loop-number : goal.invariant-loop-number
+invariant-loop-number g l = map g.T.Number.value l.all.items ≡ map (kept_value l.lo l.hi) (map g.T.Number.value (take l.number-index l.numbers))

@@ -1,11 +1,11 @@
-use Rattle.std.proofs.Common.{◌≡◌, ℤ, pos, ap, ◌∙◌, rules, arith}
+use Rattle.std.proofs.Common.{ℤ, ap, ◌∙◌, rules}
 use Rattle.std.specs.Prelude.{◌*ℤ◌}
-use Rattle.std.proofs.lemmas.Int.{ints, to_z-of_z}
+use Rattle.std.proofs.lemmas.Int.{to_z-of_z}
 use Rattle.std.specs.Int.{w128}
 use Rattle.viz_fraction.specs.Points.{numbers, reduced}
 use Rattle.viz_fraction.proofs.FieldsLemmas.{kept, numbers-kept}
 use Rattle.viz_dataset.specs.Images.{billion}
-use Rattle.viz_dataset.proofs.points.point_with.Goals as goal
+use Rattle.viz_dataset.proofs.points.divided_point.Goals as goal
 
 pub returns : goal.returns
 returns c =

@@ -1,0 +1,72 @@
+-- Why a command is refused: the words of each cause, and when it comes (docs/FORMATS.md, "Report").
+use Rattle.std.specs.Prelude.{◌≡◌, ℕ, List, ◌++◌, codes}
+use Rattle.std.specs.Fmt.{decimal, signed_decimal}
+use Rattle.viz_base.specs.declared.node.Pick.TheVariants.{First}
+use Rattle.viz_base.specs.declared.call.ReadAnswer.{ReadAnswer}
+use Rattle.viz_base.specs.declared.call.ReadAnswer.TheVariants as read
+use Rattle.viz_dataset.specs.Images.{ImageData}
+use Rattle.viz_legacy_read.specs.Reading.{Reads, Stops}
+use Rattle.viz_lex.specs.declared.fault.FileFault.{FileFault}
+use Rattle.viz_lex.specs.declared.fault.FileKind.{FileKind}
+use Rattle.viz_lex.specs.declared.fault.FileKind.TheVariants as kind
+use Rattle.viz_session.specs.declared.outcome.Cause.{Cause}
+use Rattle.viz_session.specs.declared.outcome.Cause.TheVariants.{TooLong, BadFile, TooWide, TooMany}
+use Rattle.viz_session.specs.Outputs.{IsTooWide, IsTooMany}
+use Rattle.viz_session.specs.declared.command.Filter.{Filter}
+
+-- the word of a kind of fault
+abbrev pub kind_text : FileKind → List ℕ
+kind_text kind.Magic = codes "Magic"
+kind_text kind.Title = codes "Title"
+kind_text kind.Form = codes "Form"
+kind_text kind.Keyword = codes "Keyword"
+kind_text kind.Number = codes "Number"
+kind_text kind.ValueRange = codes "ValueRange"
+kind_text kind.Count = codes "Count"
+kind_text kind.Index = codes "Index"
+kind_text (kind.CellType n) = codes "CellType(" ++ signed_decimal n ++ codes ")"
+kind_text kind.FloatArray = codes "FloatArray"
+kind_text kind.NoArray = codes "NoArray"
+kind_text kind.Spacing = codes "Spacing"
+kind_text kind.HeaderNumber = codes "HeaderNumber"
+kind_text kind.TooMany = codes "TooMany"
+kind_text kind.Truncated = codes "Truncated"
+kind_text kind.Unsupported = codes "Unsupported"
+kind_text kind.Sections51 = codes "Sections51"
+
+-- a kind without a number
+abbrev pub IsPlain : FileKind → Type 0
+IsPlain (kind.CellType n) = ⊥
+IsPlain k = Unit {0}
+
+-- a place behind a kind
+abbrev pub place_text : ℕ → List ℕ
+place_text place = codes "," ++ decimal place ++ codes ")"
+
+-- a fault of a file, with the place of its first byte
+unfoldable pub fault_text : FileFault → List ℕ
+fault_text f = codes "fault:src:BadFile(" ++ kind_text f.kind ++ place_text f.place
+
+-- the words of a cause
+abbrev pub cause_text : Cause → List ℕ
+cause_text TooLong = codes "TooLong"
+cause_text (BadFile fault) = fault_text fault
+cause_text TooWide = codes "fault:op:TooWide"
+cause_text TooMany = codes "fault:op:TooMany"
+
+-- the bytes are a file of an image that is so
+abbrev pub HasImage : List ℕ → (ImageData → Type 0) → Type 0
+HasImage bytes P = (i : ImageData) × Reads bytes First i × P i
+
+-- when the bytes of a file are refused for a cause
+abbrev pub IsCauseOf : Filter → List ℕ → Cause → Type 0
+IsCauseOf filter bytes TooLong = ⊥
+IsCauseOf filter bytes (BadFile fault) = Stops bytes First fault
+IsCauseOf filter bytes TooWide = HasImage bytes (IsTooWide filter)
+IsCauseOf filter bytes TooMany = HasImage bytes (IsTooMany filter)
+
+-- when a cause comes, by what the read answered
+abbrev pub IsCause : Filter → ReadAnswer → Cause → Type 0
+IsCause filter (read.TooLong taken) cause = cause ≡ TooLong
+IsCause filter (read.Given bytes) cause = IsCauseOf filter bytes cause
+IsCause filter read.Failed cause = ⊥
