@@ -1,0 +1,83 @@
+-- The two lines in front, the form and the dataset, as they are written.
+use Rattle.std.proofs.Common.{◌≡◌, ◌≢◌, ℕ, ◌+◌, Bool, true, false, not, List, [], ◌∷◌, ◌++◌, length, refl, ◌∙◌}
+use Rattle.std.specs.Prelude.{codes, nat_eq}
+use Rattle.std.specs.List.{list_all}
+use Rattle.std.proofs.lemmas.Bool.{eqb-false}
+use Rattle.std.proofs.lemmas.List.Elements.{All-weaker}
+use Rattle.std.proofs.lemmas.List.Sums.{AllPass-from_list_all}
+use Rattle.viz_lex.specs.declared.fault.FileKind.{FileKind}
+use Rattle.viz_lex.specs.declared.fault.FileKind.TheVariants.{Magic, Title, Form}
+use Rattle.viz_lex.specs.Reading.{Reading, rest_of, advanced, fault_at}
+use Rattle.viz_lex.specs.Words.{HasNoNewline, IsNextLine, IsNextWord}
+use Rattle.viz_lex.specs.Steps.{same_word}
+use Rattle.viz_lex.specs.Rules.{gives, refuses, demand, choose, follow}
+use Rattle.viz_lex.specs.Items.{word, keyword}
+use Rattle.viz_lex.proofs.LineLemmas.{rest_of-line}
+use Rattle.viz_legacy_read.specs.Magic.{is_magic, line, two_lines}
+use Rattle.viz_legacy_read.specs.Header.{form, dataset}
+use Rattle.viz_legacy_write.specs.ImageText.{title_lines, form_line, dataset_line}
+use Rattle.viz_round_trip.proofs.StandingLemmas.{Stands, stands-gives, stands-follow, stands-demand}
+use Rattle.viz_round_trip.proofs.WordStanding.{word-solid, blank-nil, blank-one, stands-next, stands-keyword}
+
+-- ---- lines
+
+differs : (b : Bool) → not b ≡ true → b ≡ false
+differs true e = absurd cc
+differs false e = refl
+
+one-line : (text : List ℕ) → list_all (λ b. not (nat_eq b 10)) text ≡ true → HasNoNewline text
+one-line text e = record {
+  each = All-weaker (λ b. not (nat_eq b 10) ≡ true) (λ b. b ≢ 10) (λ b h. eqb-false b 10 (differs (nat_eq b 10) h)) text (AllPass-from_list_all (λ b. not (nat_eq b 10)) text e);
+}
+
+stands-line : (kind : FileKind) (old : Reading) (text behind : List ℕ) → list_all (λ b. not (nat_eq b 10)) text ≡ true → rest_of old ≡ text ++ 10 ∷ behind → Stands (line kind) old text behind
+stands-line kind old text behind one e =
+    let next : IsNextLine (rest_of old) text behind = record { parts = e; one = one-line text one } in
+    record { new = advanced old (length text + 1); is = (behind, next, refl); rest = rest_of-line old text behind next }
+
+abbrev version : List ℕ
+version = codes "# vtk DataFile Version 3.0"
+
+abbrev title : List ℕ
+title = codes "vizrun image"
+
+title_parts : (behind : List ℕ) → title_lines ++ behind ≡ version ++ 10 ∷ (title ++ 10 ∷ behind)
+unfolding title_lines
+title_parts behind = refl
+
+pub stands-title : (old : Reading) (behind : List ℕ) → rest_of old ≡ title_lines ++ behind → Stands two_lines old tt behind
+stands-title old behind e =
+    let first = stands-line Magic old version (title ++ 10 ∷ behind) refl (e ∙ title_parts behind) in
+    let second = stands-line Title first.new title behind refl first.rest in
+    stands-follow (line Magic) (λ first. demand (is_magic first) (fault_at Magic 0) (follow (line Title) (λ title. gives tt))) old version tt (title ++ 10 ∷ behind) behind first
+    (stands-demand _ _ _ first.new tt behind refl
+    (stands-follow (line Title) (λ title. gives tt) first.new title tt behind behind second (stands-gives tt second.new behind second.rest)))
+
+-- ---- the form
+
+form_word : (old : Reading) (text behind : List ℕ) (binary : Bool) → IsNextWord (rest_of old) [] text behind
+    → ((new : Reading) (place : ℕ) → rest_of new ≡ behind → Stands (choose (same_word text (codes "ASCII")) (gives false) (choose (same_word text (codes "BINARY")) (gives true) (refuses (fault_at Form place)))) new binary behind)
+    → Stands form old binary behind
+form_word old text behind binary next later =
+    let first = stands-next old [] text behind next in
+    stands-follow word _ old (old.place + 0, text) binary behind behind first (later first.new (old.place + 0) first.rest)
+
+pub stands-form : (binary : Bool) (old : Reading) (behind : List ℕ) → rest_of old ≡ form_line binary ++ behind → Stands form old binary (10 ∷ behind)
+unfolding form_line
+stands-form true old behind e =
+    form_word old (codes "BINARY") (10 ∷ behind) true (record { parts = e; blank = blank-nil; is_word = word-solid (codes "BINARY") refl; ends = refl }) (λ new place rest.
+    stands-gives true new (10 ∷ behind) rest)
+stands-form false old behind e =
+    form_word old (codes "ASCII") (10 ∷ behind) false (record { parts = e; blank = blank-nil; is_word = word-solid (codes "ASCII") refl; ends = refl }) (λ new place rest.
+    stands-gives false new (10 ∷ behind) rest)
+
+-- ---- the dataset
+
+pub stands-dataset : (old : Reading) (behind : List ℕ) → rest_of old ≡ 10 ∷ (dataset_line ++ behind) → Stands dataset old tt (10 ∷ behind)
+unfolding dataset_line
+stands-dataset old behind e =
+    let first = stands-keyword (codes "DATASET") old (10 ∷ []) (codes "DATASET") (32 ∷ (codes "STRUCTURED_POINTS" ++ 10 ∷ behind)) refl (record { parts = e; blank = blank-one 10 refl; is_word = word-solid (codes "DATASET") refl; ends = refl }) in
+    let second = stands-next first.new (32 ∷ []) (codes "STRUCTURED_POINTS") (10 ∷ behind) (record { parts = first.rest; blank = blank-one 32 refl; is_word = word-solid (codes "STRUCTURED_POINTS") refl; ends = refl }) in
+    stands-follow (keyword (codes "DATASET")) _ old tt tt (32 ∷ (codes "STRUCTURED_POINTS" ++ 10 ∷ behind)) (10 ∷ behind) first
+    (stands-follow word _ first.new (first.new.place + 1, codes "STRUCTURED_POINTS") tt (10 ∷ behind) (10 ∷ behind) second
+    (stands-gives tt second.new (10 ∷ behind) second.rest))
