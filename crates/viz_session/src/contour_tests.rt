@@ -113,7 +113,7 @@ fn put_mixed(text: &mut Vec<u8>) -> Result<(), Fail> {
     Ok(())
 }
 
-// At a size where giving up for memory would show. The counts are those of docs/contour.py.
+// At a size where giving up for memory would show. The counts are those of .ci/contour.py.
 #[test]
 fn a_large_contour_is_written(rt: HostRuntime) -> Result<(), Fail> {
     let alloc = rt.alloc();
