@@ -1,6 +1,6 @@
 -- The point of a leaf: its scalar by its weight, and the value of a contour's form there.
 use Rattle.std.proofs.Common.{◌≡◌, ℕ, zero, suc, negsuc, get_or, true≢false, ◌+◌, ◌-◌, ◌*◌, ◌/◌, ◌%◌, ◌^◌, ◌<◌, ◌≤◌, Bool, true, false, ℤ, pos, List, length, slice_index_or, refl, sym, ap, subst, ◌∙◌, arith}
-use Rattle.std.specs.Prelude.{◌-ℤ◌, ◌*ℤ◌, ◌<ℤ◌, ◌≤ℤ◌, unsigned_abs, int_div, FitsSigned, int_le}
+use Rattle.std.specs.Prelude.{◌+ℤ◌, ◌-ℤ◌, ◌*ℤ◌, ◌<ℤ◌, ◌≤ℤ◌, unsigned_abs, int_div, FitsSigned, int_le}
 use Rattle.std.specs.Int.{w64}
 use Rattle.std.specs.List.{list_all}
 use Rattle.std.proofs.Math.Nat.{div-le_self, mul-le-mul, pow-le-pow_right}
@@ -14,12 +14,14 @@ use Rattle.viz_extent.specs.Numbering.{index_at}
 use Rattle.viz_extent.proofs.NumberingLemmas.{parts-of_index, index_at-by_rows, number-of_parts}
 use Rattle.viz_fraction.specs.Points.{Point, numbers, reduced, divisor_of}
 use Rattle.viz_fraction.specs.Forms.{value_of, IsNarrowValue}
-use Rattle.viz_fraction.proofs.IntegersLemmas.{abs-div, cancel, mul_left_comm, mul--ℤ}
-use Rattle.viz_fraction.proofs.PointsLemmas.{reduced_same_place, reduced_positive}
+use Rattle.viz_fraction.proofs.IntegersLemmas.{abs-div, cancel, mul_left_comm, mul-+ℤ, mul--ℤ}
+use Rattle.viz_fraction.proofs.PointsLemmas.{reduced_same_place, reduced_positive, same_point}
 use Rattle.viz_column.specs.declared.kind.Kind8.{Kind8}
 use Rattle.viz_column.specs.declared.kind.Kind8.TheVariants.{I8, U8, I16, U16, I32, U32, I64, U64}
 use Rattle.viz_column.specs.Kinds.{fits, fits_signed, fits_unsigned}
-use Rattle.viz_dataset.specs.Images.{ImageData, IsImage, billion, point_at}
+use Rattle.viz_dataset.specs.Images.{ImageData, IsImage, billion, position, placed, point_at}
+use Rattle.viz_dataset.proofs.PlaceLemmas.{reduced-units}
+use Rattle.viz_contour.specs.Units.{billions_of}
 use Rattle.viz_contour.proofs.MembersLemmas.{get_or-map_of}
 use Rattle.viz_contour.specs.Contour.{contour_form, insides, point_of_leaf}
 
@@ -94,6 +96,28 @@ weight_of p is =
 -- the weight is at most a billion
 weight_most : (image : ImageData) (leaf : ℕ) → unsigned_abs (point_of_leaf image leaf).w ≤ 10 ^ 9
 weight_most image leaf = weight_of (numbers _ _ _ _ billion) refl
+
+-- ---- units
+
+-- a position in units and in billionths
+position-units : (origin spacing : ℤ) (index : ℕ) → (origin +ℤ spacing *ℤ pos index) *ℤ billion ≡ position (origin *ℤ billion) (spacing *ℤ billion) index
+position-units origin spacing index =
+    let steps = spacing *ℤ pos index in
+    *ℤ_comm (origin +ℤ steps) billion ∙ mul-+ℤ billion origin steps
+    ∙ ap (λ n. n +ℤ billion *ℤ steps) (*ℤ_comm billion origin)
+    ∙ ap (λ n. origin *ℤ billion +ℤ n) (*ℤ_comm billion steps ∙ sym (turned spacing (pos index) billion))
+
+-- a point of an image of whole units
+pub placed-units : (origin spacing : List ℤ) (i j k : ℕ) (scalar : ℤ)
+    → reduced (numbers (slice_index_or origin 0 (pos 0) +ℤ slice_index_or spacing 0 (pos 0) *ℤ pos i) (slice_index_or origin 1 (pos 0) +ℤ slice_index_or spacing 1 (pos 0) *ℤ pos j) (slice_index_or origin 2 (pos 0) +ℤ slice_index_or spacing 2 (pos 0) *ℤ pos k) scalar (pos 1))
+    ≡ placed (billions_of origin) (billions_of spacing) i j k scalar
+placed-units origin spacing i j k scalar =
+    reduced-units _ _ _ scalar
+    ∙ ap reduced (same_point _ _
+    (position-units (slice_index_or origin 0 (pos 0)) (slice_index_or spacing 0 (pos 0)) i)
+    (position-units (slice_index_or origin 1 (pos 0)) (slice_index_or spacing 1 (pos 0)) j)
+    (position-units (slice_index_or origin 2 (pos 0)) (slice_index_or spacing 2 (pos 0)) k)
+    refl refl)
 
 -- ---- how far from 0
 

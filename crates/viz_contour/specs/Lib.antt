@@ -5,3 +5,4 @@ pub mod Triangles
 pub mod NameLaws
 pub mod Contour
 pub mod Points
+pub mod Units

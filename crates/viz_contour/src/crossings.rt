@@ -1,13 +1,15 @@
 //! The points of a contour: which points of the image are inside, and the crossing of each name.
-ghost use Rattle.std.specs.Prelude.{◌≡◌, ◌≢◌, ◌^◌, ◌<◌, ◌≤◌, pos, ◌-ℤ◌, ◌*ℤ◌, ◌↔◌, map, All, IfOk, OnOk, IsOk, true, false, int_le, unsigned_abs, FitsSigned};
+ghost use Rattle.std.specs.Prelude.{◌≡◌, ◌≢◌, ◌^◌, ◌<◌, ◌≤◌, pos, ◌-ℤ◌, ◌*ℤ◌, ◌↔◌, map, All, IfSome, IfOk, OnOk, IsOk, true, false, int_le, unsigned_abs, FitsSigned};
 ghost use Rattle.std.specs.Int.{w64};
 ghost use Rattle.viz_extent.specs.Extent.{count_of};
 ghost use Rattle.viz_fraction.specs.Points.{IsNarrow};
 ghost use Rattle.viz_fraction.specs.Forms.{value_of};
 ghost use Rattle.viz_fraction.specs.Crossings.{crossing_of, IsNarrowCrossing};
 ghost use Rattle.viz_contour.specs.Contour.{insides, point_of_leaf, contour_form, point_of_name};
+ghost use Rattle.viz_contour.specs.Units.{AreUnits};
 ghost use Rattle.viz_contour.specs.Points.{IsCutName, IsNarrowName, AreNarrow, IsNarrowEither, either_crossing};
 
+use crate::leaves::{Units, leaf_point, units_of};
 use crate::names::EdgeName;
 use crate::stop::WorkStop;
 use std::alloc::{AllocError, Global};
@@ -75,9 +77,10 @@ pub fn points(
     ensures too_wide { result ≡ Err WorkStop.TooWide
         → AreNarrow level.now image.now names.now → ⊥ }
 {
+    let units = units_of(image);
     let mut points = Vec::with_capacity(alloc, names.len())?;
     for name in names {
-        points.push(point_of_name(level, image, name)?)?;
+        points.push(point_of_name(level, image, &units, name)?)?;
     }
     Ok(points)
 }
@@ -90,7 +93,13 @@ struct End {
 }
 
 /// The crossing on the edge of a name.
-fn point_of_name(level: &i64, image: &Image, name: &EdgeName) -> Result<Point5, TooWide>
+fn point_of_name(
+    level: &i64,
+    image: &Image,
+    units: &Option<Units>,
+    name: &EdgeName,
+) -> Result<Point5, TooWide>
+    requires units { IfSome units.now (AreUnits image.now) }
     requires cut { IsCutName (count_of image.now.extent)
         (insides level.now image.now.values.items) name.now }
     ensures value { IfOk result (λ p. p ≡ point_of_name level.now image.now name.now) }
@@ -98,34 +107,24 @@ fn point_of_name(level: &i64, image: &Image, name: &EdgeName) -> Result<Point5, 
         ↔ IsNarrowName (contour_form level.now) (point_of_leaf image.now) name.now }
 {
     let _extent = image.extent();
-    let low = end_at(level, image, name.low);
-    let high = end_at(level, image, name.high);
+    let low = end_at(level, image, units, name.low);
+    let high = end_at(level, image, units, name.high);
     cross(&low, &high)
 }
 
 /// The end at a leaf.
-fn end_at(level: &i64, image: &Image, leaf: u32) -> End
-    requires { leaf < count_of image.now.extent }
+fn end_at(level: &i64, image: &Image, units: &Option<Units>, leaf: u32) -> End
+    requires units { IfSome units.now (AreUnits image.now) }
+    requires within { leaf < count_of image.now.extent }
     ensures point { result.point ≡ point_of_leaf image.now leaf }
     ensures above { result.above ≡ value_of (contour_form level.now) (point_of_leaf image.now leaf) }
     ensures narrow { IsNarrow result.above }
 {
-    let point = leaf_point(image, leaf);
+    let point = leaf_point(image, units, leaf);
     End {
         point,
         above: value_at(level, &point),
     }
-}
-
-/// The point of a leaf.
-fn leaf_point(image: &Image, leaf: u32) -> Point5
-    requires { leaf < count_of image.now.extent }
-    ensures value { result ≡ point_of_leaf image.now leaf }
-    ensures scalar { unsigned_abs result.s ≤ 2 ^ 96 }
-    ensures weight { unsigned_abs result.w ≤ 2 ^ 32 }
-{
-    let (i, j, k) = image.extent().place_of(u64::from(leaf));
-    image.point(i, j, k)
 }
 
 /// The value of a contour's form at a point.

@@ -8,6 +8,7 @@
 
 mod crossings;
 mod cube_cells;
+mod leaves;
 mod name_key;
 mod name_laws;
 mod name_list;
