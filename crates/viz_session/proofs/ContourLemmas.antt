@@ -7,7 +7,7 @@ use Rattle.viz_contour.specs.declared.names.EdgeName.{EdgeName}
 use Rattle.viz_contour.specs.declared.names.Triangle.{Triangle}
 use Rattle.viz_contour.specs.declared.stop.WorkStop.{WorkStop}
 use Rattle.viz_contour.specs.declared.stop.WorkStop.TheVariants as work
-use Rattle.viz_contour.specs.Contour.{contour_cells, contour_names, contour_points, contour_triangles, IsNarrowContour}
+use Rattle.viz_contour.specs.Contour.{contour_cells, contour_names, contour_points, IsNarrowContour}
 use Rattle.viz_contour.specs.Names.{rank_of}
 use Rattle.viz_contour.specs.Triangles.{triangle_names}
 use Rattle.viz_legacy_write.specs.declared.stop.WriteStop.{WriteStop}

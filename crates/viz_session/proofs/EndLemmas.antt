@@ -1,5 +1,5 @@
 -- What the status of a run says of the outcome that was told, and what that says of the outcome that was found.
-use Rattle.std.proofs.Common.{◌≡◌, ℕ, List, Result, Ok, Err, refl, sym, subst, ◌∙◌, inl, inr}
+use Rattle.std.proofs.Common.{◌≡◌, ℕ, Result, Ok, Err, refl, sym, subst, ◌∙◌, inl, inr}
 use Rattle.std.specs.Prelude.{◌⊎◌}
 use Rattle.viz_base.specs.declared.out.Out as out
 use Rattle.viz_base.specs.declared.refusal.WriteRefusal.{WriteRefusal}

@@ -1,11 +1,9 @@
 -- The promises of a run, from its account.
-use Rattle.std.proofs.Common.{◌≡◌, ℕ, List, [], ◌∷◌, ◌++◌, Option, Some, None, Result, Ok, Err, refl, sym, ap, subst, ◌∙◌, inl, inr}
+use Rattle.std.proofs.Common.{◌≡◌, ℕ, List, [], ◌∷◌, ◌++◌, Option, Some, None, Ok, refl, sym, ap, subst, ◌∙◌, inl, inr}
 use Rattle.std.specs.Prelude.{IsTrue, ◌⊎◌}
 use Rattle.std.proofs.lemmas.List.{append_cancel_left}
 use Rattle.viz_base.specs.declared.port.Port as port
 use Rattle.viz_base.specs.declared.out.Out as out
-use Rattle.viz_base.specs.declared.refusal.WriteRefusal.TheVariants as writing
-use Rattle.viz_base.specs.declared.call.Call.{Call}
 use Rattle.viz_base.specs.declared.call.Call.TheVariants.{Read}
 use Rattle.viz_base.specs.declared.call.ReadAnswer.{ReadAnswer}
 use Rattle.viz_base.specs.declared.call.ReadAnswer.TheVariants as read
@@ -17,12 +15,11 @@ use Rattle.viz_session.specs.declared.outcome.Outcome.{Outcome}
 use Rattle.viz_session.specs.declared.outcome.Outcome.TheVariants as outcome
 use Rattle.viz_session.specs.declared.outcome.Status.{Status}
 use Rattle.viz_session.specs.declared.outcome.Status.TheVariants as status
-use Rattle.viz_session.specs.Account.{Deed, Nothing, Asked, Answered, calls_of, EndsUnwritten, EndsIn, IsDoneAt, IsServed, Serves, IsPut, IsTold, HasFailed}
+use Rattle.viz_session.specs.Account.{Deed, Nothing, Asked, Answered, calls_of, EndsUnwritten, EndsIn, Serves, IsPut, IsTold, HasFailed}
 use Rattle.viz_session.specs.Causes.{IsCause}
 use Rattle.viz_session.specs.Command.{Command}
-use Rattle.viz_session.specs.Outputs.{cells_made}
-use Rattle.viz_session.specs.Promises.{IsDone, IsRefused, TellsCauses, IsFault, FirstDid, FirstAnswered, EndsRefused, GainsLine, fault_line}
-use Rattle.viz_session.specs.Report.{line_of, file_line}
+use Rattle.viz_session.specs.Promises.{IsDone, IsRefused, TellsCauses, IsFault, FirstDid, FirstAnswered, GainsLine, fault_line}
+use Rattle.viz_session.specs.Report.{line_of}
 use Rattle.viz_session.proofs.CauseLemmas.{one_cause}
 use Rattle.viz_session.proofs.EndLemmas.{Answer, told_at, found_is, refused_ends}
 
@@ -51,10 +48,14 @@ written_deed c (Answered bytes i write.Failed) cells points h = absurd (let e : 
 refused_deed : (c : Command) (deed : Deed) (cause : Cause) → EndsIn c deed (outcome.Refused cause)
     → (answer : ReadAnswer) × (deed ≡ Asked answer) × IsCause c.filter answer cause
 refused_deed c Nothing cause h = absurd (let e : outcome.Refused cause ≡ outcome.Memory = h in cc)
-refused_deed c (Asked (read.Given bytes)) cause h = (read.Given bytes, refl, elim h [
-  | inl e ↦ absurd (let bad : outcome.Refused cause ≡ outcome.Memory = e in cc)
-  | inr r ↦ let same : cause ≡ r.0 = (let e : outcome.Refused cause ≡ outcome.Refused r.0 = r.2 in cc) in subst (IsCause c.filter (read.Given bytes)) (sym same) r.1
-])
+refused_deed c (Asked (read.Given bytes)) cause h = (
+  read.Given bytes,
+  refl,
+  elim h [
+    | inl e ↦ absurd (let bad : outcome.Refused cause ≡ outcome.Memory = e in cc)
+    | inr r ↦ let same : cause ≡ r.0 = (let e : outcome.Refused cause ≡ outcome.Refused r.0 = r.2 in cc) in subst (IsCause c.filter (read.Given bytes)) (sym same) r.1
+  ],
+)
 refused_deed c (Asked (read.TooLong taken)) cause h =
     let same : cause ≡ h.0 = (let e : outcome.Refused cause ≡ outcome.Refused h.0 = h.2 in cc) in
     (read.TooLong taken, refl, subst (IsCause c.filter (read.TooLong taken)) (sym same) h.1)

@@ -1,6 +1,6 @@
 -- What a read and a write at a port come to together.
-use Rattle.std.proofs.Common.{◌≡◌, ℕ, ◌≤◌, List, [], ◌∷◌, ◌++◌, Some, sym, ap, subst, ◌∙◌, append_assoc, append-nil, inl, inr, arith}
-use Rattle.std.specs.Prelude.{IsTrue, ◌⊎◌}
+use Rattle.std.proofs.Common.{◌≡◌, ℕ, ◌≤◌, List, [], ◌∷◌, ◌++◌, Some, ap, subst, ◌∙◌, append_assoc, append-nil, inl, inr, arith}
+use Rattle.std.specs.Prelude.{IsTrue}
 use Rattle.viz_base.specs.Faults.{Rose}
 use Rattle.viz_base.specs.Files.{SameFiles, SameOthers}
 use Rattle.viz_base.specs.declared.port.Port as port
@@ -27,7 +27,6 @@ module _ {P : Type 0} (m : port.Ghosts P) (c : Command) (p r q : P) (bytes : Lis
     (same : m.limit r ≡ m.limit p)
     (after : m.faults r ≤ m.faults q)
     (same_after : m.limit q ≡ m.limit r) where
-
   -- a write that was answered
   pub written : (i : ImageData) (answer : WriteAnswer) (text : List ℕ) → text ≡ output_text c.filter i
       → (IsTrue m.tells_calls → m.calls q ≡ m.calls r ++ Write c.output text answer ∷ [])

@@ -1,5 +1,5 @@
 -- Values counted by hand, which pin the definitions: the text of a threshold, of a contour, and of a report, and commands.
-use Rattle.std.specs.Prelude.{◌≡◌, ℕ, ℤ, pos, negsuc, ◌*◌, ◌^◌, List, [], ◌∷◌, ◌++◌, codes, Option, Some, None, refl}
+use Rattle.std.specs.Prelude.{◌≡◌, ℕ, ℤ, pos, negsuc, ◌*◌, ◌^◌, List, [], ◌∷◌, codes, Option, Some, None, refl}
 use Rattle.std.specs.Fmt.{digits}
 use Rattle.viz_column.specs.declared.kind.Kind8.TheVariants.{I32}
 use Rattle.viz_dataset.specs.Images.{ImageData}

@@ -134,12 +134,14 @@ pub record IsPut {O : Type 0} (m : out.Ghosts O) (told : Outcome) (answer : Resu
 -- an outcome was told, and the status belongs to it
 abbrev pub IsTold : {O : Type 0} → out.Ghosts O → Outcome → Status → O → O → Type 0
 IsTold m found ended old new =
-    (told : Outcome) × (answer : Result (Unit {0}) WriteRefusal) × Settles found told × (ended ≡ status_after told answer) × IsPut m told answer old new
+    (told : Outcome) × (answer : Result (Unit {0}) WriteRefusal) × Settles found told
+    × (ended ≡ status_after told answer) × IsPut m told answer old new
 
 -- ---- a run
 
--- what a run was: the outcome of its words' command, what that did at the ports, and the line put of it with the status; the desk isn't used
-pub record IsRun {P O : Type 0} (ports : port.Ghosts P) (output : out.Ghosts O) (words : List (List ℕ)) (scripts new_scripts : P) (old new : List P) (before after : O) (ended : Status) : Type 0 where
+-- what a run was: an outcome of its words, what was done at the ports, and the line put with the status; the desk isn't used
+pub record IsRun {P O : Type 0} (ports : port.Ghosts P) (output : out.Ghosts O) (words : List (List ℕ))
+    (scripts new_scripts : P) (old new : List P) (before after : O) (ended : Status) : Type 0 where
   pub found : Outcome
   pub served : Serves ports (command_of words) found old new
   pub desk : new_scripts ≡ scripts

@@ -12,7 +12,7 @@ use Rattle.viz_legacy_write.specs.declared.stop.WriteStop.TheVariants as write
 use Rattle.viz_session.specs.declared.command.Filter.{Filter}
 use Rattle.viz_session.specs.declared.made.Made.{Made}
 use Rattle.viz_session.specs.declared.outcome.Cause.{Cause}
-use Rattle.viz_session.specs.declared.outcome.Cause.TheVariants.{BadFile, TooLong, TooWide, TooMany}
+use Rattle.viz_session.specs.declared.outcome.Cause.TheVariants.{BadFile, TooWide, TooMany}
 use Rattle.viz_session.specs.declared.stop.MakeStop.{MakeStop}
 use Rattle.viz_session.specs.declared.stop.MakeStop.TheVariants.{Refused, Memory}
 use Rattle.viz_session.specs.Causes.{IsCauseOf}

@@ -1,5 +1,5 @@
 -- What a run promises of its status, its line, its calls and the files (docs/FORMATS.md, "Report").
-use Rattle.std.specs.Prelude.{◌≡◌, ℕ, List, [], ◌∷◌, ◌++◌, ◌⊎◌, Option, Some, None, IsTrue}
+use Rattle.std.specs.Prelude.{◌≡◌, ℕ, List, [], ◌∷◌, ◌++◌, ◌⊎◌, Option, Some, IsTrue}
 use Rattle.viz_base.specs.Faults.{Rose}
 use Rattle.viz_base.specs.Texts.{AppendsPrefix}
 use Rattle.viz_base.specs.declared.port.Port as port
@@ -76,19 +76,22 @@ pub record IsScript {P : Type 0} (words : Option Command) (ports : List P) (ende
 -- a run that answers Done read an image that the filter accepts, wrote the text of what is made of it, and told its numbers
 abbrev pub IsDone : {P O : Type 0} → port.Ghosts P → out.Ghosts O → Option Command → List P → List P → O → O → Type 0
 IsDone ports output words old new before after =
-    (c : Command) × (bytes : List ℕ) × (i : ImageData) × (words ≡ Some c) × IsInput c bytes i × FirstDid ports c (Answered bytes i Written) old new
+    (c : Command) × (bytes : List ℕ) × (i : ImageData) × (words ≡ Some c) × IsInput c bytes i
+    × FirstDid ports c (Answered bytes i Written) old new
     × GainsLine output (file_line (cells_made c.filter i) (points_made c.filter i)) before after
 
 -- a run that answers Refused read its input and did nothing else; a cause of it holds, and was told
 abbrev pub IsRefused : {P O : Type 0} → port.Ghosts P → out.Ghosts O → Option Command → List P → List P → O → O → Type 0
 IsRefused ports output words old new before after =
-    (c : Command) × (answer : ReadAnswer) × (cause : Cause) × (words ≡ Some c) × IsCause c.filter answer cause × FirstDid ports c (Asked answer) old new
+    (c : Command) × (answer : ReadAnswer) × (cause : Cause) × (words ≡ Some c) × IsCause c.filter answer cause
+    × FirstDid ports c (Asked answer) old new
     × GainsLine output (refused_line cause) before after
 
 -- the status where a cause holds: Refused, with its line; Fault, where the put failed; or Memory
 abbrev pub EndsRefused : {O : Type 0} → out.Ghosts O → Cause → O → O → Status → Type 0
 EndsRefused m cause old new ended =
-    ((ended ≡ status.Refused) × GainsLine m (refused_line cause) old new) ⊎ (((ended ≡ status.Fault) × Rose (m.faults old) (m.faults new)) ⊎ (ended ≡ status.Memory))
+    ((ended ≡ status.Refused) × GainsLine m (refused_line cause) old new)
+    ⊎ (((ended ≡ status.Fault) × Rose (m.faults old) (m.faults new)) ⊎ (ended ≡ status.Memory))
 
 -- where the read of the input was answered so, and nothing else was called, each cause of it is told
 abbrev pub TellsCauses : {P O : Type 0} → port.Ghosts P → out.Ghosts O → Option Command → List P → List P → O → O → Status → Type 0
@@ -105,5 +108,6 @@ fault_line (Answered bytes i answer) = write_fault_line
 -- a run that answers Fault: a call of the first port failed, and that was told; or the put failed
 abbrev pub IsFault : {P O : Type 0} → port.Ghosts P → out.Ghosts O → Option Command → List P → List P → O → O → Type 0
 IsFault ports output words old new before after =
-    ((c : Command) × (deed : Deed) × (words ≡ Some c) × HasFailed deed × FirstDid ports c deed old new × GainsLine output (fault_line deed) before after)
+    ((c : Command) × (deed : Deed) × (words ≡ Some c) × HasFailed deed × FirstDid ports c deed old new
+    × GainsLine output (fault_line deed) before after)
     ⊎ Rose (output.faults before) (output.faults after)

@@ -20,7 +20,11 @@ fn is_within<T: Number>(number: T, lo: &i64, hi: &i64) -> bool
 fn kept<T: Number>(number: T, lo: &i64, hi: &i64) -> T
     ensures { T.value result ≡ kept_value lo.now hi.now (T.value number) }
 {
-    if is_within(number, lo, hi) { number } else { T::zero() }
+    if is_within(number, lo, hi) {
+        number
+    } else {
+        T::zero()
+    }
 }
 
 /// Each number, or 0 where it lies outside the bounds.
