@@ -120,6 +120,7 @@ fn point_of_name(
 }
 
 /// The end at another leaf, where it isn't there yet.
+#[inline(always)]
 fn move_to(end: &mut End, level: &i64, image: &Image, units: &Option<Units>, leaf: u32)
     requires units { IfSome units.now (AreUnits image.now) }
     requires end { IsEnd level.now image.now end.old }
@@ -142,6 +143,7 @@ fn first_end(level: &i64, image: &Image, units: &Option<Units>) -> End
 }
 
 /// The end at a leaf.
+#[inline(always)]
 fn end_at(level: &i64, image: &Image, units: &Option<Units>, leaf: u32) -> End
     requires units { IfSome units.now (AreUnits image.now) }
     requires within { leaf < count_of image.now.extent }
