@@ -5,6 +5,10 @@ use Rattle.viz_fraction.specs.Points.{Point}
 use Rattle.viz_fraction.specs.Forms.{value_of}
 use Rattle.viz_fraction.specs.Crossings.{edge_crossing}
 use Rattle.viz_contour.specs.declared.names.EdgeName.{EdgeName}
+use Rattle.viz_dataset.specs.Images.{ImageData}
+use Rattle.viz_contour.specs.declared.crossings.End.{End}
+use Rattle.viz_contour.specs.Contour.{point_of_leaf, contour_form}
+use Rattle.viz_contour.specs.Ends.{IsEnd}
 use Rattle.viz_contour.specs.Points.{either_crossing, IsNarrowEither, IsNarrowName}
 
 -- the crossing by values is that of the form
@@ -34,3 +38,9 @@ narrow_either f at n a b la lb is_la is_lb is_a is_b =
           let at_ends : IsNarrowEither (value_of f p) p (value_of f q) q = record { up = h.up; down = h.down } in
           subst A (sym is_la) (subst B (sym is_lb) (subst C (sym is_a) (subst D (sym is_b) at_ends))),
     )
+
+-- an end at a leaf has the point of the leaf, and the form's value there
+pub end-leaf : (level : ℤ) (image : ImageData) (e : End) (leaf : ℕ) → IsEnd level image e → e.leaf ≡ leaf
+    → (e.point ≡ point_of_leaf image leaf) × (e.above ≡ value_of (contour_form level) (point_of_leaf image leaf))
+end-leaf level image e leaf end is =
+    (end.point ∙ ap (point_of_leaf image) is, end.above ∙ ap (λ m. value_of (contour_form level) (point_of_leaf image m)) is)

@@ -6,3 +6,4 @@ pub mod NameLaws
 pub mod Contour
 pub mod Points
 pub mod Units
+pub mod Ends

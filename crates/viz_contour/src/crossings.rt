@@ -7,6 +7,7 @@ ghost use Rattle.viz_fraction.specs.Forms.{value_of};
 ghost use Rattle.viz_fraction.specs.Crossings.{crossing_of, IsNarrowCrossing};
 ghost use Rattle.viz_contour.specs.Contour.{insides, point_of_leaf, contour_form, point_of_name};
 ghost use Rattle.viz_contour.specs.Units.{AreUnits};
+ghost use Rattle.viz_contour.specs.Ends.{IsEnd};
 ghost use Rattle.viz_contour.specs.Points.{IsCutName, IsNarrowName, AreNarrow, IsNarrowEither, either_crossing};
 
 use crate::leaves::{Units, leaf_point, units_of};
@@ -79,49 +80,79 @@ pub fn points(
 {
     let units = units_of(image);
     let mut points = Vec::with_capacity(alloc, names.len())?;
+    let mut low = first_end(level, image, &units);
     for name in names {
-        points.push(point_of_name(level, image, &units, name)?)?;
+        points.push(point_of_name(level, image, &units, &mut low, name)?)?;
     }
     Ok(points)
 }
 
-/// An end of an edge: its point, and the value of the contour's form there.
+/// An end of an edge: its leaf, the point there, and the value of the contour's form.
 #[derive(Clone, Copy)]
 struct End {
+    leaf: u32,
     point: Point5,
     above: i128,
 }
 
-/// The crossing on the edge of a name.
+/// The crossing on the edge of a name. Names that ascend have the same lower end in turn, so that
+/// it is kept from one to the next.
 fn point_of_name(
     level: &i64,
     image: &Image,
     units: &Option<Units>,
+    low: &mut End,
     name: &EdgeName,
 ) -> Result<Point5, TooWide>
     requires units { IfSome units.now (AreUnits image.now) }
+    requires low { IsEnd level.now image.now low.old }
     requires cut { IsCutName (count_of image.now.extent)
         (insides level.now image.now.values.items) name.now }
+    ensures low { IsEnd level.now image.now low.new }
     ensures value { IfOk result (λ p. p ≡ point_of_name level.now image.now name.now) }
     ensures succeeds { IsOk result
         ↔ IsNarrowName (contour_form level.now) (point_of_leaf image.now) name.now }
 {
     let _extent = image.extent();
-    let low = end_at(level, image, units, name.low);
+    move_to(low, level, image, units, name.low);
     let high = end_at(level, image, units, name.high);
-    cross(&low, &high)
+    cross(low, &high)
+}
+
+/// The end at another leaf, where it isn't there yet.
+#[inline(always)]
+fn move_to(end: &mut End, level: &i64, image: &Image, units: &Option<Units>, leaf: u32)
+    requires units { IfSome units.now (AreUnits image.now) }
+    requires end { IsEnd level.now image.now end.old }
+    requires within { leaf < count_of image.now.extent }
+    ensures end { IsEnd level.now image.now end.new }
+    ensures leaf { end.new.leaf ≡ leaf }
+{
+    if end.leaf != leaf {
+        *end = end_at(level, image, units, leaf);
+    }
+}
+
+/// The end at the first leaf.
+fn first_end(level: &i64, image: &Image, units: &Option<Units>) -> End
+    requires units { IfSome units.now (AreUnits image.now) }
+    ensures end { IsEnd level.now image.now result }
+{
+    let _extent = image.extent();
+    end_at(level, image, units, 0)
 }
 
 /// The end at a leaf.
+#[inline(always)]
 fn end_at(level: &i64, image: &Image, units: &Option<Units>, leaf: u32) -> End
     requires units { IfSome units.now (AreUnits image.now) }
     requires within { leaf < count_of image.now.extent }
-    ensures point { result.point ≡ point_of_leaf image.now leaf }
-    ensures above { result.above ≡ value_of (contour_form level.now) (point_of_leaf image.now leaf) }
-    ensures narrow { IsNarrow result.above }
+    ensures end { IsEnd level.now image.now result }
+    ensures leaf { result.leaf ≡ leaf }
 {
     let point = leaf_point(image, units, leaf);
     End {
+        leaf,
         point,
         above: value_at(level, &point),
     }

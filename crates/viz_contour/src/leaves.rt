@@ -49,6 +49,7 @@ fn whole_unit(number: &i128) -> Option<i64>
 }
 
 /// The point of a leaf.
+#[inline(always)]
 pub(crate) fn leaf_point(image: &Image, units: &Option<Units>, leaf: u32) -> Point5
     requires units { IfSome units.now (AreUnits image.now) }
     requires within { leaf < count_of image.now.extent }
@@ -70,8 +71,17 @@ fn point_of(image: &Image, units: &Option<Units>, leaf: u32, i: u32, j: u32, k: 
 {
     match units {
         Some(units) => whole_point(image, units, i, j, k, &scalar_at(image, leaf)),
-        None => image.point(i, j, k),
+        None => divided_point(image, i, j, k),
     }
+}
+
+/// The point at the indices i, j, k of any image: apart, so that the other way is short.
+#[inline(never)]
+fn divided_point(image: &Image, i: u32, j: u32, k: u32) -> Point5
+    requires { Has image.now.extent i j k }
+    ensures { result ≡ point_at image.now i j k }
+{
+    image.point(i, j, k)
 }
 
 /// The number at a leaf.

@@ -15,6 +15,7 @@ loop-name-preserved c =
     let within : i < length names = omega arith in
     let here = c.in_ok-point_of_name.ensures in
     record {
+      low = here.low;
       made = grind (arith, common_steps, here.value);
       narrow = record { each = All-more (IsNarrowName (contour_form c.args.level.now) (point_of_leaf c.args.image.now)) names i none within c.loop-name.invariant.narrow.each (here.succeeds.0 refl) };
     }

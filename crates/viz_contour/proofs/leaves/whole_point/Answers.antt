@@ -1,4 +1,4 @@
-use Rattle.std.proofs.Common.{pos, slice_index_or, refl, sym, ap, ◌∙◌, rules}
+use Rattle.std.proofs.Common.{refl, sym, ap, ◌∙◌, rules}
 use Rattle.std.specs.Int.{w64}
 use Rattle.std.proofs.lemmas.Int.{to_z-of_z}
 use Rattle.viz_fraction.specs.Points.{reduced}
