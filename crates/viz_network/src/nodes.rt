@@ -32,16 +32,16 @@ pub fn rank_of(nodes: &Nodes, id: NodeId) -> Option<usize>
 }
 
 /// For each rest of a position, a rank at which its node may stand.
-pub type Guesses = [u8; 1021];
+pub type Guesses = [u8; 4093];
 
-/// Guesses for all nodes. A wrong guess costs a search, so nothing is promised of it; 1021 is a prime,
+/// Guesses for all nodes. A wrong guess costs a search, so nothing is promised of it; 4093 is a prime,
 /// so nodes whose positions are evenly spaced seldom share a rest.
 pub fn guesses_of(nodes: &Nodes) -> Guesses
     requires { length nodes.now.entries ≤ 256 }
 {
-    let mut guesses = [0; 1021];
+    let mut guesses = [0; 4093];
     for rank in 0..nodes.len() {
-        guesses[nodes[rank].id.0 as usize % 1021] = rank as u8;
+        guesses[nodes[rank].id.0 as usize % 4093] = rank as u8;
     }
     guesses
 }
@@ -52,7 +52,7 @@ pub fn guessed_rank(nodes: &Nodes, guesses: &Guesses, id: NodeId) -> Option<usiz
     ensures value { result ≡ ranked nodes.now.entries id.0 }
     ensures within { IfSome result (λ rank. rank < length nodes.now.entries) }
 {
-    let rank = guesses[id.0 as usize % 1021] as usize;
+    let rank = guesses[id.0 as usize % 4093] as usize;
     if rank < nodes.len() && nodes[rank].id == id {
         return Some(rank);
     }
