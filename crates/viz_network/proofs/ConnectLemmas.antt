@@ -1,7 +1,6 @@
--- After a connection the nodes stand in order, those downstream of its end behind all others.
-use Rattle.std.proofs.Common.{◌≡◌, ℕ, zero, suc, ◌<◌, Bool, true, false, not, cond, filter, ◌||◌, nat_eq, ◌⊎◌, inl, inr, true≢false, List, [], ◌∷◌, ◌++◌, slice_set, ◌-◌, slice_get, append-nil, Option, None, Some, refl, sym, ap, subst, ◌∙◌, arith}
+-- A node that stands in front of another can feed it: no cycle is closed, and the order stays.
+use Rattle.std.proofs.Common.{◌≡◌, ℕ, zero, suc, ◌-◌, Bool, true, false, cond, nat_eq, ◌⊎◌, inl, inr, true≢false, List, [], ◌∷◌, ◌++◌, slice_set, Option, None, Some, refl, sym, ap, subst, ◌∙◌}
 use Rattle.std.proofs.lemmas.Bool.{eqb-true, eq-eqb}
-use Rattle.std.proofs.lemmas.Option.{slice_get_within}
 use Rattle.std.specs.List.{AllByRecursion}
 use Rattle.std.specs.Option.{option_map}
 use Rattle.std.specs.Map.{lookup}
@@ -10,10 +9,10 @@ use Rattle.viz_base.specs.declared.node.NodeId.{NodeId}
 use Rattle.viz_network.specs.declared.node.Node.{Node}
 use Rattle.viz_network.specs.Network.{Network, named, node_of, change}
 use Rattle.viz_network.specs.Edits.{connected}
-use Rattle.viz_network.specs.Cone.{Tree, grow, above, either, has_node}
-use Rattle.viz_network.specs.Steps.Order.{IsBefore, IsTale, Has, IsFedFrom, Stands, parted}
-use Rattle.viz_network.proofs.TaleLemmas.{whole, node_id, holds, joined_port}
-use Rattle.viz_network.proofs.StandsLemmas.{Has-left, Has-right, Has-filter, Stands-append, early_stands, late_stands}
+use Rattle.viz_network.specs.Cone.{Tree, grow, above, either, has_node, cone_of}
+use Rattle.viz_network.specs.Steps.Order.{Has, IsFedFrom, Stands, IsOrder, comes_first}
+use Rattle.viz_network.proofs.TaleLemmas.{node_id, holds, joined_port}
+use Rattle.viz_network.proofs.StandsLemmas.{Has-left, Has-right}
 
 some_node : (a b : Node) → Some a ≡ Some b → a ≡ b
 some_node a b p = let pick : Option Node → Node = λ o. elim o [ Some z ↦ z | None ↦ a ] in ap pick p
@@ -44,34 +43,57 @@ change_node f keeps (e ∷ net) name b h x m at = by (pointwise nat_eq name e.0)
         inner true r = inl r
         inner false r = rest p x m r
 
-pub or_false : (a b : Bool) → (a || b) ≡ false → (a ≡ false) × (b ≡ false)
-or_false false b h = (refl, h)
-or_false true b h = absurd (true≢false h)
+pub same_node_id : (a b : NodeId) → a.0 ≡ b.0 → a ≡ b
+same_node_id a b e = let made : ℕ → NodeId = λ i. record { 0 = i } in ap made e
 
-module _ (net : Network) (tale : List NodeId) (t : IsTale net tale) (to : ℕ) (k : ℕ) (room : k < 256) (front : List NodeId) where
-  -- what feeds a node that isn't downstream isn't downstream
-  inputs_early : (inputs : List (Option NodeId)) → holds to (grow (above 255 net) inputs) ≡ false → AllByRecursion (IsBefore tale k) inputs
-      → AllByRecursion (IsFedFrom front) inputs → AllByRecursion (IsFedFrom (filter (λ y. not (has_node to (above 256 net y.0))) front)) inputs
-  inputs_early [] h b g = tt
-  inputs_early (None ∷ inputs) h b g = (tt, inputs_early inputs h b.1 g.1)
-  inputs_early (Some id ∷ inputs) h b g =
-      let both = or_false (has_node to (above 255 net id.0)) (holds to (grow (above 255 net) inputs)) (sym (joined_port either false (λ (n : Node). nat_eq to n.id.0) (λ b. refl) (above 255 net id.0) (grow (above 255 net) inputs)) ∙ h) in
-      let early : has_node to (above 256 net id.0) ≡ false = ap (has_node to) (whole net tale t 256 255 b.0.0 id b.0.2 (omega (arith, b.0.1, room)) (omega (arith, b.0.1, room))) ∙ both.0 in
-      (Has-filter (λ y. not (has_node to (above 256 net y.0))) front id (ap not early) g.0, inputs_early inputs both.1 b.1 g.1)
+-- a list with one node more
+has_last : (front : List NodeId) (x y : NodeId) → Has (front ++ x ∷ []) y → Has front y ⊎ (y ≡ x)
+has_last [] x y (inl e) = inr e
+has_last [] x y (inr h) = absurd h
+has_last (z ∷ front) x y (inl e) = inl (inl e)
+has_last (z ∷ front) x y (inr h) = elim (has_last front x y h) [ inl k ↦ inl (inr k) | inr e ↦ inr e ]
 
--- all that feeds a late node stands in front, early or late
-module _ (late : NodeId → Bool) (all front : List NodeId) (known : (y : NodeId) → Has front y → late y ≡ false → Has all y) where
-  has_either : (y : NodeId) → Has front y → Has (all ++ filter late front) y
-  has_either y h = by (late y) refl
+-- in front of the first place of a node no cone has it
+module _ (net : Network) (to : ℕ) where
+  clear_inputs : (front : List NodeId) → ((y : NodeId) (m : ℕ) → Has front y → has_node to (above m net y.0) ≡ false) → (m : ℕ) (inputs : List (Option NodeId))
+      → AllByRecursion (IsFedFrom front) inputs → holds to (grow (above m net) inputs) ≡ false
+  clear_inputs front clear m [] h = refl
+  clear_inputs front clear m (None ∷ inputs) h = clear_inputs front clear m inputs h.1
+  clear_inputs front clear m (Some id ∷ inputs) h =
+      joined_port either false (λ (n : Node). nat_eq to n.id.0) (λ b. refl) (above m net id.0) (grow (above m net) inputs)
+      ∙ ap (λ b. either b (holds to (grow (above m net) inputs))) (clear id m h.0) ∙ clear_inputs front clear m inputs h.1
+
+  clear_node : (front : List NodeId) → ((y : NodeId) (m : ℕ) → Has front y → has_node to (above m net y.0) ≡ false) → (x : NodeId) (n : Node) → node_of net x.0 ≡ Some n
+      → AllByRecursion (IsFedFrom front) n.inputs → nat_eq to x.0 ≡ false → (m : ℕ) → has_node to (above m net x.0) ≡ false
+  clear_node front clear x n at fed differs zero = refl
+  clear_node front clear x n at fed differs (suc m) =
+      let tree : Node → Tree = λ v. (v, grow (above m net) v.inputs) in
+      let other : nat_eq to n.id.0 ≡ false = subst (λ i. nat_eq to i ≡ false) (sym (node_id net x.0 n at)) differs in
+      ap (λ o. has_node to (option_map tree o)) at ∙ ap (λ b. either b (holds to (grow (above m net) n.inputs))) other ∙ clear_inputs front clear m n.inputs fed
+
+  clear_first : (from : ℕ) (front xs : List NodeId) → ((y : NodeId) (m : ℕ) → Has front y → has_node to (above m net y.0) ≡ false) → Stands net front xs
+      → comes_first from to xs ≡ true → (m : ℕ) → has_node to (above m net from) ≡ false
+  clear_first from front [] clear s h m = absurd (true≢false (sym h))
+  clear_first from front (x ∷ xs) clear s h m = by (nat_eq to x.0) refl h (clear_first from (front ++ x ∷ []) xs)
     where
-      by : (b : Bool) → late y ≡ b → Has (all ++ filter late front) y
-      by true e = Has-right all (filter late front) y (Has-filter late front y e h)
-      by false e = Has-left all (filter late front) y (known y h e)
+      by : (b : Bool) → nat_eq to x.0 ≡ b → cond b false (cond (nat_eq from x.0) true (comes_first from to xs)) ≡ true
+          → (((y : NodeId) (k : ℕ) → Has (front ++ x ∷ []) y → has_node to (above k net y.0) ≡ false) → Stands net (front ++ x ∷ []) xs → comes_first from to xs ≡ true → (k : ℕ) → has_node to (above k net from) ≡ false)
+          → has_node to (above m net from) ≡ false
+      by true e p rest = absurd (true≢false (sym p))
+      by false e p rest = inner (nat_eq from x.0) refl p
+        where
+          here : (k : ℕ) → has_node to (above k net x.0) ≡ false
+          here k = clear_node front clear x s.0 s.1 s.2 e k
 
-  inputs_either : (inputs : List (Option NodeId)) → AllByRecursion (IsFedFrom front) inputs → AllByRecursion (IsFedFrom (all ++ filter late front)) inputs
-  inputs_either [] h = tt
-  inputs_either (None ∷ inputs) h = (tt, inputs_either inputs h.1)
-  inputs_either (Some id ∷ inputs) h = (has_either id h.0, inputs_either inputs h.1)
+          more : (y : NodeId) (k : ℕ) → Has (front ++ x ∷ []) y → has_node to (above k net y.0) ≡ false
+          more y k h = elim (has_last front x y h) [ inl l ↦ clear y k l | inr q ↦ subst (λ (z : NodeId). has_node to (above k net z.0) ≡ false) (sym q) (here k) ]
+
+          inner : (c : Bool) → nat_eq from x.0 ≡ c → cond c true (comes_first from to xs) ≡ true → has_node to (above m net from) ≡ false
+          inner true q r = subst (λ i. has_node to (above m net i) ≡ false) (sym (eqb-true from x.0 q)) (here m)
+          inner false q r = rest more s.3 r m
+
+  pub no_cycle : (from : ℕ) (order : List NodeId) → IsOrder net order → comes_first from to order ≡ true → has_node to (cone_of net from) ≡ false
+  no_cycle from order o h = clear_first from [] order (λ y m k. absurd k) o.stands h 256
 
 -- one more connection, from a node that stands in the list
 inputs_set : (list : List NodeId) (i : ℕ) (from : NodeId) → Has list from → (inputs : List (Option NodeId)) → AllByRecursion (IsFedFrom list) inputs → AllByRecursion (IsFedFrom list) (slice_set inputs i (Some from))
@@ -79,66 +101,36 @@ inputs_set list i from h [] g = tt
 inputs_set list zero from h (o ∷ inputs) g = (h, g.1)
 inputs_set list (suc i) from h (o ∷ inputs) g = (g.0, inputs_set list i from h inputs g.1)
 
--- the nodes stand in order after a connection that closes no cycle
-module _ (net : Network) (tale : List NodeId) (t : IsTale net tale) (places : (x : NodeId) (m : Node) → node_of net x.0 ≡ Some m → (k : ℕ) × (slice_get tale k ≡ Some x))
-    (name : List ℕ) (b : Node) (found : named net name ≡ Some b) (from : NodeId) (at port : ℕ)
-    (there : Has tale from) (no_cycle : has_node b.id.0 (above 256 net from.0) ≡ false) where
-  late : NodeId → Bool
-  late y = has_node b.id.0 (above 256 net y.0)
-
-  new : Network
-  new = change (connected at port (Some from)) net name
-
-  -- what a node's mark says of it
-  split : (x : NodeId) (m : Node) → node_of net x.0 ≡ Some m → has_node b.id.0 (above 256 net x.0) ≡ (nat_eq b.id.0 m.id.0 || holds b.id.0 (grow (above 255 net) m.inputs))
-  split x m h = let tree : Node → Tree = λ v. (v, grow (above 255 net) v.inputs) in ap (λ o. has_node b.id.0 (option_map tree o)) h
-
-  after_change : (x : NodeId) (m : Node) → node_of net x.0 ≡ Some m → (node_of (change (connected at port (Some from)) net name) x.0 ≡ Some m) ⊎ ((x.0 ≡ b.id.0) × (node_of (change (connected at port (Some from)) net name) x.0 ≡ Some (connected at port (Some from) m)))
+module _ (net : Network) (name : List ℕ) (b : Node) (found : named net name ≡ Some b) (from : NodeId) (at port : ℕ) where
+  after_change : (x : NodeId) (m : Node) → node_of net x.0 ≡ Some m
+      → (node_of (change (connected at port (Some from)) net name) x.0 ≡ Some m) ⊎ ((x.0 ≡ b.id.0) × (node_of (change (connected at port (Some from)) net name) x.0 ≡ Some (connected at port (Some from) m)))
   after_change x m h = change_node (connected at port (Some from)) (λ n. refl) net name b found x.0 m h
 
-  place_small : (k : ℕ) (x : NodeId) → slice_get tale k ≡ Some x → k < 256
-  place_small k x h = omega (arith, slice_get_within tale k x h, t.short)
+  -- behind the source
+  behind_stands : (front xs : List NodeId) → Has front from → Stands net front xs → Stands (change (connected at port (Some from)) net name) front xs
+  behind_stands front [] h s = tt
+  behind_stands front (x ∷ xs) h s = by (after_change x s.0 s.1) (behind_stands (front ++ x ∷ []) xs (Has-left front (x ∷ []) from h) s.3)
+    where
+      by : (node_of (change (connected at port (Some from)) net name) x.0 ≡ Some s.0) ⊎ ((x.0 ≡ b.id.0) × (node_of (change (connected at port (Some from)) net name) x.0 ≡ Some (connected at port (Some from) s.0)))
+          → Stands (change (connected at port (Some from)) net name) (front ++ x ∷ []) xs → Stands (change (connected at port (Some from)) net name) front (x ∷ xs)
+      by (inl same) rest = (s.0, same, s.2, rest)
+      by (inr hit) rest = (connected at port (Some from) s.0, hit.1, inputs_set front (port - 1) from h s.0.inputs s.2, rest)
 
-  same_node : (x : NodeId) (m n : Node) → node_of net x.0 ≡ Some m → node_of net x.0 ≡ Some n → m ≡ n
-  same_node x m n h g = some_node m n (sym h ∙ g)
+  -- in front of the end
+  pub first_stands : (front xs : List NodeId) → Stands net front xs → comes_first from.0 b.id.0 xs ≡ true → Stands (change (connected at port (Some from)) net name) front xs
+  first_stands front [] s h = tt
+  first_stands front (x ∷ xs) s h = by (nat_eq b.id.0 x.0) refl h (first_stands (front ++ x ∷ []) xs s.3)
+    where
+      by : (t : Bool) → nat_eq b.id.0 x.0 ≡ t → cond t false (cond (nat_eq from.0 x.0) true (comes_first from.0 b.id.0 xs)) ≡ true
+          → (comes_first from.0 b.id.0 xs ≡ true → Stands (change (connected at port (Some from)) net name) (front ++ x ∷ []) xs) → Stands (change (connected at port (Some from)) net name) front (x ∷ xs)
+      by true e p rest = absurd (true≢false (sym p))
+      by false e p rest = unchanged (after_change x s.0 s.1)
+        where
+          inner : (c : Bool) → nat_eq from.0 x.0 ≡ c → cond c true (comes_first from.0 b.id.0 xs) ≡ true → Stands (change (connected at port (Some from)) net name) (front ++ x ∷ []) xs
+          inner true q r = behind_stands (front ++ x ∷ []) xs (Has-right front (x ∷ []) from (inl (same_node_id from x (eqb-true from.0 x.0 q)))) s.3
+          inner false q r = rest r
 
-  early_case : (x : NodeId) (m n : Node) → has_node b.id.0 (above 256 net x.0) ≡ false → node_of net x.0 ≡ Some m → node_of (change (connected at port (Some from)) net name) x.0 ≡ Some n
-      → (front : List NodeId) → AllByRecursion (IsFedFrom front) m.inputs → AllByRecursion (IsFedFrom (filter (λ y. not (has_node b.id.0 (above 256 net y.0))) front)) n.inputs
-  early_case x m n e h g front fed =
-      let both = or_false (nat_eq b.id.0 m.id.0) (holds b.id.0 (grow (above 255 net) m.inputs)) (sym (split x m h) ∙ e) in
-      elim (after_change x m h) [
-        | inl same ↦
-            let k = places x m h in
-            let node = t.each k.0 x k.1 in
-            let inputs = subst (λ v. AllByRecursion (IsBefore tale k.0) v.inputs) (same_node x node.0 m node.1 h) node.2 in
-            subst (λ v. AllByRecursion (IsFedFrom (filter (λ y. not (has_node b.id.0 (above 256 net y.0))) front)) v.inputs) (some_node m n (sym same ∙ g))
-            (inputs_early net tale t b.id.0 k.0 (place_small k.0 x k.1) front m.inputs both.1 inputs fed)
-        | inr hit ↦ absurd (true≢false (sym (eq-eqb b.id.0 m.id.0 (sym hit.0 ∙ sym (node_id net x.0 m h))) ∙ both.0))
-      ]
-
-  late_case : (x : NodeId) (m n : Node) → has_node b.id.0 (above 256 net x.0) ≡ true → node_of net x.0 ≡ Some m → node_of (change (connected at port (Some from)) net name) x.0 ≡ Some n
-      → (front : List NodeId) → AllByRecursion (IsFedFrom front) m.inputs
-      → ((y : NodeId) → Has front y → has_node b.id.0 (above 256 net y.0) ≡ false → Has (filter (λ y. not (has_node b.id.0 (above 256 net y.0))) tale) y)
-      → AllByRecursion (IsFedFrom (filter (λ y. not (has_node b.id.0 (above 256 net y.0))) tale ++ filter (λ y. has_node b.id.0 (above 256 net y.0)) front)) n.inputs
-  late_case x m n e h g front fed known =
-      let all = filter (λ y. not (has_node b.id.0 (above 256 net y.0))) tale in
-      let mark : NodeId → Bool = λ y. has_node b.id.0 (above 256 net y.0) in
-      let whole_list = all ++ filter mark front in
-      let source : Has whole_list from = Has-left all (filter mark front) from (Has-filter (λ y. not (mark y)) tale from (ap not no_cycle) there) in
-      let before : AllByRecursion (IsFedFrom whole_list) m.inputs = inputs_either mark all front known m.inputs fed in
-      elim (after_change x m h) [
-        | inl same ↦ subst (λ v. AllByRecursion (IsFedFrom whole_list) v.inputs) (some_node m n (sym same ∙ g)) before
-        | inr hit ↦ subst (λ v. AllByRecursion (IsFedFrom whole_list) v.inputs) (some_node (connected at port (Some from) m) n (sym hit.1 ∙ g)) (inputs_set whole_list (port - 1) from source m.inputs before)
-      ]
-
-  still_there : (x : NodeId) (m : Node) → node_of net x.0 ≡ Some m → (n : Node) × (node_of (change (connected at port (Some from)) net name) x.0 ≡ Some n)
-  still_there x m h = elim (after_change x m h) [ inl same ↦ (m, same) | inr hit ↦ (connected at port (Some from) m, hit.1) ]
-
-  pub connect_stands : Stands net [] tale → Stands (change (connected at port (Some from)) net name) [] (parted (λ y. has_node b.id.0 (above 256 net y.0)) tale)
-  connect_stands s =
-      let mark : NodeId → Bool = λ y. has_node b.id.0 (above 256 net y.0) in
-      let made = change (connected at port (Some from)) net name in
-      let all = filter (λ y. not (mark y)) tale in
-      let front = early_stands net made mark all early_case late_case still_there [] tale s in
-      let back = late_stands net made mark all early_case late_case still_there [] tale (λ y k e. Has-filter (λ z. not (mark z)) tale y (ap not e) k) s in
-      Stands-append made [] all (filter mark tale) front (subst (λ f. Stands made f (filter mark tale)) (append-nil all) back)
+          unchanged : (node_of (change (connected at port (Some from)) net name) x.0 ≡ Some s.0) ⊎ ((x.0 ≡ b.id.0) × (node_of (change (connected at port (Some from)) net name) x.0 ≡ Some (connected at port (Some from) s.0)))
+              → Stands (change (connected at port (Some from)) net name) front (x ∷ xs)
+          unchanged (inl same) = (s.0, same, s.2, inner (nat_eq from.0 x.0) refl p)
+          unchanged (inr hit) = absurd (true≢false (sym (eq-eqb b.id.0 x.0 (sym hit.0)) ∙ e))

@@ -8,11 +8,11 @@ use Rattle.viz_network.specs.declared.node.Node.{Node}
 use Rattle.viz_kinds.specs.declared.kind.Kind.{Kind}
 use Rattle.viz_network.specs.Network.{Network, named, node_of, change}
 use Rattle.viz_network.specs.Applies.{IsPast}
-use Rattle.viz_network.specs.Edits.{fresh}
+use Rattle.viz_network.specs.Edits.{fresh, connected}
 use Rattle.viz_network.specs.EqualStamps.{IsAscending}
-use Rattle.viz_network.specs.Steps.Order.{Has, IsFedFrom, Stands, IsOrder}
+use Rattle.viz_network.specs.Steps.Order.{Has, IsFedFrom, Stands, IsOrder, comes_first}
 use Rattle.viz_network.proofs.StandsLemmas.{Has-left, Has-right, Stands-append}
-use Rattle.viz_network.proofs.ConnectLemmas.{change_node}
+use Rattle.viz_network.proofs.ConnectLemmas.{change_node, first_stands}
 
 pub all_push : {A : Type 0} (P : A → Type 0) (xs : List A) (e : A) → AllByRecursion P xs → P e → AllByRecursion P (xs ++ e ∷ [])
 all_push P [] e h p = (p, tt)
@@ -152,3 +152,14 @@ pub fed_emptied : (inputs : List (Option NodeId)) (i : ℕ) (front : List NodeId
 fed_emptied [] i front h = tt
 fed_emptied (o ∷ inputs) zero front h = (tt, h.1)
 fed_emptied (o ∷ inputs) (suc i) front h = (h.0, fed_emptied inputs i front h.1)
+
+-- a connection from a node that stands in front of its end
+pub order_connect : (net : Network) (order : List NodeId) (name : List ℕ) (b : Node) (from : NodeId) (at port : ℕ) → named net name ≡ Some b → IsOrder net order
+    → comes_first from.0 b.id.0 order ≡ true → IsOrder (change (connected at port (Some from)) net name) order
+order_connect net order name b from at port found o h = record {
+  stands = first_stands net name b found from at port [] order o.stands h;
+  covers = λ x n g. (let m = change_back (connected at port (Some from)) (λ v. refl) net name x n g in subst (Has order) m.2 (o.covers x m.0 m.1));
+  ascending = change_ascending (connected at port (Some from)) (λ v. refl) net name o.ascending;
+  short = omega (arith, o.short, change_long (connected at port (Some from)) (λ v. refl) net name);
+  few = omega (arith, o.few, change_long (connected at port (Some from)) (λ v. refl) net name);
+}

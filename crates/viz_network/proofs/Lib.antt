@@ -3,6 +3,7 @@ pub mod RankLemmas
 pub mod UsedLemmas
 pub mod StandsLemmas
 pub mod TaleLemmas
+pub mod BehindLemmas
 pub mod ConnectLemmas
 pub mod ToldLemmas
 pub mod OrderLemmas

@@ -1,5 +1,5 @@
 -- What an order of all nodes gives.
-use Rattle.std.proofs.Common.{◌≡◌, ℕ, zero, suc, ◌+◌, ◌<◌, inl, inr, List, [], ◌∷◌, length, set, get_or, slice_get, Option, None, Some, IsSome, zero-add, refl, sym, ap, subst, ◌∙◌, arith}
+use Rattle.std.proofs.Common.{◌≡◌, ℕ, suc, ◌+◌, ◌<◌, inl, inr, List, [], ◌∷◌, length, set, get_or, slice_get, Option, None, Some, IsSome, zero-add, refl, sym, ap, subst, ◌∙◌, arith}
 use Rattle.std.proofs.lemmas.Option.{slice_get_within, slice_get-get_or, get_or_from_slice_get}
 use Rattle.std.specs.List.{AllByRecursion}
 use Rattle.std.specs.Option.{option_map, option_map_or}
@@ -13,7 +13,7 @@ use Rattle.viz_network.specs.Steps.Marks.{IsTold, told, ports_told}
 use Rattle.viz_network.proofs.StandsLemmas.{by_places}
 use Rattle.viz_network.proofs.TaleLemmas.{node_id}
 use Rattle.viz_network.proofs.ToldLemmas.{rank_some, next_value, told_more}
-use Rattle.viz_network.proofs.RankLemmas.{at_rank, rank_within}
+use Rattle.viz_network.proofs.RankLemmas.{at_rank, rank_within, value_entry}
 
 -- the order by places
 pub tale_of : (net : Network) (order : List NodeId) → IsOrder net order → IsTale net order
@@ -66,22 +66,16 @@ module _ {X : Type 0} (join : X → X → X) (start : X) (own : Node → X) (net
       let at = has_place order x (places_of net order o x n.0 n.1) in
       get_or_from_slice_get table r _ d (known at.0 x r (slice_get_within order at.0 x at.1) at.1 rank)
 
-  pub whole_told : (id : ℕ) → IsSome (node_of net id) → told join start own net table id ≡ total join start own (above 256 net id)
+  pub whole_told : (id : ℕ) → IsSome (node_of net id) → told start net table id ≡ total join start own (above 256 net id)
   whole_told id h =
       let n = some_of (node_of net id) h in
       let rank = rank_some net id n.0 n.1 in
       ap (λ (q : Option ℕ). option_map_or (λ i. get_or table i start) q start) rank.1 ∙ whole_table id rank.0 start h rank.1
 
--- the entry of a value
-value_entry : (net : Network) (r : ℕ) (n : Node) → slice_get (values_of net) r ≡ Some n → (e : List ℕ × Node) × (slice_get net r ≡ Some e) × (e.1 ≡ n)
-value_entry [] r n h = let bad : ⊥ = cc in absurd bad
-value_entry (e ∷ net) zero n h = (e, refl, (let same : e.1 ≡ n = cc in same))
-value_entry (e ∷ net) (suc r) n h = value_entry net r n h
-
 -- one row more of a table
 pub swept_more : {X : Type 0} (join : X → X → X) (start : X) (own : Node → X) → ((x : X) → join start x ≡ x) → (net : Network) (order : List NodeId) → IsOrder net order
     → (k r : ℕ) (d : NodeId) (table : List X) (n : Node) (v : X) → k < length order → length table ≡ 256 → IsTold join start own net order k table
-    → rank_of net (get_or order k d).0 ≡ Some r → slice_get (values_of net) r ≡ Some n → v ≡ join (own n) (ports_told join start own net table n.inputs)
+    → rank_of net (get_or order k d).0 ≡ Some r → slice_get (values_of net) r ≡ Some n → v ≡ join (own n) (ports_told join start net table n.inputs)
     → IsTold join start own net order (k + 1) (set table r v)
 swept_more join start own neutral net order o k r d table n v l size known rank at is =
     let x = get_or order k d in

@@ -2,6 +2,7 @@
 use Rattle.std.proofs.Common.{◌≡◌, ◌≢◌, ℕ, zero, suc, ◌<◌, ◌≤◌, Bool, true, false, cond, nat_eq, nat_lt, List, [], ◌∷◌, length, get_or, slice_get, Option, None, Some, Result, Ok, Err, refl, sym, ap, subst, ◌∙◌, arith}
 use Rattle.std.specs.List.{AllByRecursion}
 use Rattle.std.specs.Option.{option_map}
+use Rattle.std.specs.Map.{values_of}
 use Rattle.std.specs.Result.{result_ok}
 use Rattle.std.specs.List.Sorted.{IsSearchInRange, IsBinarySearchResult, IsNonDecreasingBy, IsPartitionPoint}
 use Rattle.std.specs.Ordering.{nat_cmp, ordering_index}
@@ -47,6 +48,18 @@ rank_at (n ∷ net) up (suc i) id e at same =
     by : (b : Bool) → nat_eq id n.1.id.0 ≡ b → rank_of net id ≡ Some i → cond b (Some 0) (option_map suc (rank_of net id)) ≡ Some (suc i)
     by true t r = absurd (omega (arith, eqb-true id n.1.id.0 t, same, all_at (λ m. n.1.id.0 < m.1.id.0) net up.0 i e at))
     by false t r = ap (option_map suc) r
+
+-- the entry of a value
+pub value_entry : (net : Network) (r : ℕ) (n : Node) → slice_get (values_of net) r ≡ Some n → (e : List ℕ × Node) × (slice_get net r ≡ Some e) × (e.1 ≡ n)
+value_entry [] r n h = let bad : ⊥ = cc in absurd bad
+value_entry (e ∷ net) zero n h = (e, refl, (let same : e.1 ≡ n = cc in same))
+value_entry (e ∷ net) (suc r) n h = value_entry net r n h
+
+-- a node's rank is the index of its value
+pub rank_at_value : (net : Network) → IsAscending net → (i id : ℕ) (n : Node) → slice_get (values_of net) i ≡ Some n → n.id.0 ≡ id → rank_of net id ≡ Some i
+rank_at_value net up i id n at same =
+    let e = value_entry net i n at in
+    rank_at net up i id e.0 e.1 (ap (λ (m : Node). m.id.0) e.2 ∙ same)
 
 -- no node, no rank
 pub rank_none : (net : Network) (id : ℕ) → ((i : ℕ) (e : List ℕ × Node) → slice_get net i ≡ Some e → e.1.id.0 ≢ id) → rank_of net id ≡ None

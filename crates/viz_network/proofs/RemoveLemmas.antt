@@ -11,7 +11,7 @@ use Rattle.viz_network.specs.Edits.{is_input, is_used}
 use Rattle.viz_network.specs.EqualStamps.{IsAscending}
 use Rattle.viz_network.specs.Steps.Order.{Has, IsFedFrom, Stands, IsOrder}
 use Rattle.viz_network.proofs.StandsLemmas.{Has-filter, filter-snoc}
-use Rattle.viz_network.proofs.ConnectLemmas.{or_false}
+use Rattle.viz_network.proofs.BehindLemmas.{or_false}
 use Rattle.viz_network.proofs.TaleLemmas.{node_id}
 
 above_named : (net : Network) (name : List ℕ) (b : Node) (a : ℕ) → AllByRecursion (λ (m : List ℕ × Node). a < m.1.id.0) net → named net name ≡ Some b → a < b.id.0

@@ -19,7 +19,8 @@ use Rattle.viz_network.specs.Edits.{known, unless, connected, valued, loaded, fr
 use Rattle.viz_network.specs.Applies.{IsPast}
 use Rattle.viz_network.specs.History.{pick, after}
 use Rattle.viz_network.specs.EqualStamps.{IsFed, IsUpTo, IsSound}
-use Rattle.viz_network.proofs.ConnectLemmas.{change_node, or_false}
+use Rattle.viz_network.proofs.BehindLemmas.{or_false}
+use Rattle.viz_network.proofs.ConnectLemmas.{change_node}
 use Rattle.viz_network.proofs.EditLemmas.{all_push, node_front, node_back, ascending_push, change_ascending}
 use Rattle.viz_network.proofs.RemoveLemmas.{named_node, without_all, without_other, without_back, without_ascending, unused}
 

@@ -38,42 +38,36 @@ pub Stands-append : (net : Network) (front xs ys : List NodeId) → Stands net f
 Stands-append net front [] ys s t = subst (λ f. Stands net f ys) (append-nil front) t
 Stands-append net front (x ∷ xs) ys s t = (s.0, s.1, s.2, Stands-append net (front ++ x ∷ []) xs ys s.3 (subst (λ f. Stands net f ys) (sym (append_assoc front (x ∷ []) xs)) t))
 
--- how a new connection changes what feeds nodes: each port is fed as before, or the node is late and the port is fed by an early node
-module _ (old new : Network) (late : NodeId → Bool) (all : List NodeId)
-    (early_fed : (x : NodeId) (m n : Node) → late x ≡ false → node_of old x.0 ≡ Some m → node_of new x.0 ≡ Some n → (front : List NodeId) → AllByRecursion (IsFedFrom front) m.inputs → AllByRecursion (IsFedFrom (filter (λ y. not (late y)) front)) n.inputs)
-    (late_fed : (x : NodeId) (m n : Node) → late x ≡ true → node_of old x.0 ≡ Some m → node_of new x.0 ≡ Some n → (front : List NodeId) → AllByRecursion (IsFedFrom front) m.inputs → ((y : NodeId) → Has front y → late y ≡ false → Has all y) → AllByRecursion (IsFedFrom (all ++ filter late front)) n.inputs)
-    (there : (x : NodeId) (m : Node) → node_of old x.0 ≡ Some m → (n : Node) × (node_of new x.0 ≡ Some n)) where
-  pub early_stands : (front xs : List NodeId) → Stands old front xs → Stands new (filter (λ y. not (late y)) front) (filter (λ y. not (late y)) xs)
+-- what feeds an early node is early, and all that feeds a late node stands in front, early or late
+module _ (net : Network) (late : NodeId → Bool) (all : List NodeId)
+    (early_fed : (x : NodeId) (n : Node) → late x ≡ false → node_of net x.0 ≡ Some n → (front : List NodeId) → AllByRecursion (IsFedFrom front) n.inputs → AllByRecursion (IsFedFrom (filter (λ y. not (late y)) front)) n.inputs)
+    (late_fed : (x : NodeId) (n : Node) → (front : List NodeId) → AllByRecursion (IsFedFrom front) n.inputs → ((y : NodeId) → Has front y → late y ≡ false → Has all y) → AllByRecursion (IsFedFrom (all ++ filter late front)) n.inputs) where
+  pub early_stands : (front xs : List NodeId) → Stands net front xs → Stands net (filter (λ y. not (late y)) front) (filter (λ y. not (late y)) xs)
   early_stands front [] s = tt
   early_stands front (x ∷ xs) s = by (late x) refl (early_stands (front ++ x ∷ []) xs s.3)
     where
-      rest : List NodeId
-      rest = filter (λ y. not (late y)) xs
+      by : (b : Bool) → late x ≡ b → Stands net (filter (λ y. not (late y)) (front ++ x ∷ [])) (filter (λ y. not (late y)) xs)
+          → Stands net (filter (λ y. not (late y)) front) (cond (not b) (x ∷ filter (λ y. not (late y)) xs) (filter (λ y. not (late y)) xs))
+      by true e r = subst (λ f. Stands net f (filter (λ y. not (late y)) xs)) (filter-snoc (λ y. not (late y)) front x ∙ ap (λ b. filter (λ y. not (late y)) front ++ cond (not b) (x ∷ []) []) e ∙ append-nil (filter (λ y. not (late y)) front)) r
+      by false e r = (
+        s.0,
+        s.1,
+        early_fed x s.0 e s.1 front s.2,
+        subst (λ f. Stands net f (filter (λ y. not (late y)) xs)) (filter-snoc (λ y. not (late y)) front x ∙ ap (λ b. filter (λ y. not (late y)) front ++ cond (not b) (x ∷ []) []) e) r,
+      )
 
-      by : (b : Bool) → late x ≡ b → Stands new (filter (λ y. not (late y)) (front ++ x ∷ [])) (filter (λ y. not (late y)) xs)
-          → Stands new (filter (λ y. not (late y)) front) (cond (not b) (x ∷ filter (λ y. not (late y)) xs) (filter (λ y. not (late y)) xs))
-      by true e r = subst (λ f. Stands new f (filter (λ y. not (late y)) xs)) (filter-snoc (λ y. not (late y)) front x ∙ ap (λ b. filter (λ y. not (late y)) front ++ cond (not b) (x ∷ []) []) e ∙ append-nil (filter (λ y. not (late y)) front)) r
-      by false e r =
-          let n = there x s.0 s.1 in (
-            n.0,
-            n.1,
-            early_fed x s.0 n.0 e s.1 n.1 front s.2,
-            subst (λ f. Stands new f (filter (λ y. not (late y)) xs)) (filter-snoc (λ y. not (late y)) front x ∙ ap (λ b. filter (λ y. not (late y)) front ++ cond (not b) (x ∷ []) []) e) r,
-          )
-
-  pub late_stands : (front xs : List NodeId) → ((y : NodeId) → Has (front ++ xs) y → late y ≡ false → Has all y) → Stands old front xs → Stands new (all ++ filter late front) (filter late xs)
+  pub late_stands : (front xs : List NodeId) → ((y : NodeId) → Has (front ++ xs) y → late y ≡ false → Has all y) → Stands net front xs → Stands net (all ++ filter late front) (filter late xs)
   late_stands front [] h s = tt
   late_stands front (x ∷ xs) h s = by (late x) refl (late_stands (front ++ x ∷ []) xs (λ y k. h y (subst (λ l. Has l y) (append_assoc front (x ∷ []) xs) k)) s.3)
     where
-      by : (b : Bool) → late x ≡ b → Stands new (all ++ filter late (front ++ x ∷ [])) (filter late xs) → Stands new (all ++ filter late front) (cond b (x ∷ filter late xs) (filter late xs))
-      by false e r = subst (λ f. Stands new (all ++ f) (filter late xs)) (filter-snoc late front x ∙ ap (λ b. filter late front ++ cond b (x ∷ []) []) e ∙ append-nil (filter late front)) r
-      by true e r =
-          let n = there x s.0 s.1 in (
-            n.0,
-            n.1,
-            late_fed x s.0 n.0 e s.1 n.1 front s.2 (λ y k. h y (Has-left front (x ∷ xs) y k)),
-            subst (λ f. Stands new f (filter late xs)) (ap (λ f. all ++ f) (filter-snoc late front x ∙ ap (λ b. filter late front ++ cond b (x ∷ []) []) e) ∙ sym (append_assoc all (filter late front) (x ∷ []))) r,
-          )
+      by : (b : Bool) → late x ≡ b → Stands net (all ++ filter late (front ++ x ∷ [])) (filter late xs) → Stands net (all ++ filter late front) (cond b (x ∷ filter late xs) (filter late xs))
+      by false e r = subst (λ f. Stands net (all ++ f) (filter late xs)) (filter-snoc late front x ∙ ap (λ b. filter late front ++ cond b (x ∷ []) []) e ∙ append-nil (filter late front)) r
+      by true e r = (
+        s.0,
+        s.1,
+        late_fed x s.0 front s.2 (λ y k. h y (Has-left front (x ∷ xs) y k)),
+        subst (λ f. Stands net f (filter late xs)) (ap (λ f. all ++ f) (filter-snoc late front x ∙ ap (λ b. filter late front ++ cond b (x ∷ []) []) e) ∙ sym (append_assoc all (filter late front) (x ∷ []))) r,
+      )
 
 -- a node before a place has an earlier place
 pub before-of : (front : List NodeId) (more : List NodeId) (y : NodeId) → Has front y → (j : ℕ) × (j < length front) × (slice_get (front ++ more) j ≡ Some y)

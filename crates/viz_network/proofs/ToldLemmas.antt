@@ -34,23 +34,23 @@ module _ {X : Type 0} (join : X → X → X) (start : X) (own : Node → X) (neu
   value id = total join start own (above 256 net id)
 
   module _ (k : ℕ) (room : k < 256) (table : List X) (known : IsTold join start own net order k table) where
-    told_value : (j : ℕ) (x : NodeId) → j < k → slice_get order j ≡ Some x → told join start own net table x.0 ≡ total join start own (above 256 net x.0)
+    told_value : (j : ℕ) (x : NodeId) → j < k → slice_get order j ≡ Some x → told start net table x.0 ≡ total join start own (above 256 net x.0)
     told_value j x l at =
         let node = t.each j x at in
         let rank = rank_some net x.0 node.0 node.1 in
         ap (λ o. option_map_or (λ i. get_or table i start) o start) rank.1 ∙ get_or_from_slice_get table rank.0 _ start (known j x rank.0 l at rank.1)
 
-    ports_value : (inputs : List (Option NodeId)) → AllByRecursion (IsBefore order k) inputs → ports_told join start own net table inputs ≡ joined join start own (grow (above 255 net) inputs)
+    ports_value : (inputs : List (Option NodeId)) → AllByRecursion (IsBefore order k) inputs → ports_told join start net table inputs ≡ joined join start own (grow (above 255 net) inputs)
     ports_value [] h = refl
     ports_value (None ∷ inputs) h = ports_value inputs h.1
     ports_value (Some id ∷ inputs) h =
-        ap (λ v. join v (ports_told join start own net table inputs)) (told_value h.0.0 id h.0.1 h.0.2)
+        ap (λ v. join v (ports_told join start net table inputs)) (told_value h.0.0 id h.0.1 h.0.2)
         ∙ ap (λ v. join (total join start own (above 256 net id.0)) v) (ports_value inputs h.1)
         ∙ ap (λ o. join (total join start own o) (joined join start own (grow (above 255 net) inputs))) (whole net order t 256 255 h.0.0 id h.0.2 (omega (arith, h.0.1, room)) (omega (arith, h.0.1, room)))
         ∙ sym (joined_port join start own neutral (above 255 net id.0) (grow (above 255 net) inputs))
 
     -- the next row of the table
-    pub next_value : (x : NodeId) (n : Node) → slice_get order k ≡ Some x → node_of net x.0 ≡ Some n → join (own n) (ports_told join start own net table n.inputs) ≡ total join start own (above 256 net x.0)
+    pub next_value : (x : NodeId) (n : Node) → slice_get order k ≡ Some x → node_of net x.0 ≡ Some n → join (own n) (ports_told join start net table n.inputs) ≡ total join start own (above 256 net x.0)
     next_value x n at found =
         let node = t.each k x at in
         let same : node.0 ≡ n = (let some : Some node.0 ≡ Some n = sym node.1 ∙ found in cc) in

@@ -9,9 +9,8 @@ ghost use Rattle.viz_network.specs.declared.edit.Edit.{Edit as Wanted};
 
 use crate::node::Node;
 use crate::nodes::{Nodes, feeds_another, node_named, put_connection, put_file, put_value};
-use crate::part::part;
 use crate::refusal::{ApplyStop, Refusal};
-use crate::sweep::{mark_of, marks_below};
+use crate::way::make_way;
 use std::alloc::AllocError;
 use viz_base::{Bytes, NODES, NodeId, Shared, Word};
 use viz_kinds::{Kind, Param, Settings, Value, allows};
@@ -127,11 +126,9 @@ pub fn connect(
         return Err(Refusal::NoPort);
     }
     let target = target.id;
-    let marks = marks_below(nodes, order, target);
-    if mark_of(nodes, &marks, target, source) {
+    if !make_way(nodes, order, source, target) {
         return Err(Refusal::WouldCycle);
     }
-    part(nodes, order, &marks, target);
     put_connection(nodes, to, at, port, Some(source));
     Ok(())
 }

@@ -15,6 +15,7 @@ mod nodes;
 mod part;
 mod refusal;
 mod sweep;
+mod way;
 
 pub use edit::Edit;
 pub use fault::{Cause, Fault, Stop};

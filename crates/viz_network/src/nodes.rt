@@ -31,6 +31,34 @@ pub fn rank_of(nodes: &Nodes, id: NodeId) -> Option<usize>
     nodes.binary_search_by_key(&id.0, |_, node| node.id.0).ok()
 }
 
+/// For each rest of a position, a rank at which its node may stand.
+pub type Guesses = [u8; 4093];
+
+/// Guesses for all nodes. A wrong guess costs a search, so nothing is promised of it; 4093 is a prime,
+/// so nodes whose positions are evenly spaced seldom share a rest.
+pub fn guesses_of(nodes: &Nodes) -> Guesses
+    requires { length nodes.now.entries ≤ 256 }
+{
+    let mut guesses = [0; 4093];
+    for rank in 0..nodes.len() {
+        guesses[nodes[rank].id.0 as usize % 4093] = rank as u8;
+    }
+    guesses
+}
+
+/// The rank of the node with this position of its Add, at once where the guess is right.
+pub fn guessed_rank(nodes: &Nodes, guesses: &Guesses, id: NodeId) -> Option<usize>
+    requires { IsAscending nodes.now.entries }
+    ensures value { result ≡ ranked nodes.now.entries id.0 }
+    ensures within { IfSome result (λ rank. rank < length nodes.now.entries) }
+{
+    let rank = guesses[id.0 as usize % 4093] as usize;
+    if rank < nodes.len() && nodes[rank].id == id {
+        return Some(rank);
+    }
+    rank_of(nodes, id)
+}
+
 /// The node with this position of its Add.
 pub fn node_at(nodes: &Nodes, id: NodeId) -> Option<&Node>
     requires { IsAscending nodes.now.entries }

@@ -9,125 +9,133 @@ ghost use Rattle.viz_network.specs.EqualStamps.{IsAscending};
 ghost use Rattle.viz_network.specs.declared.node.Node.{Node as Kept};
 
 use crate::node::Node;
-use crate::nodes::{Nodes, rank_of};
+use crate::nodes::{Guesses, Nodes, guessed_rank, guesses_of};
 use viz_base::NodeId;
 
 /// The rank of a node that is there.
-pub fn rank_in(nodes: &Nodes, id: NodeId) -> usize
+pub fn rank_in(nodes: &Nodes, guesses: &Guesses, id: NodeId) -> usize
     requires ascending { IsAscending nodes.now.entries }
     requires there { IsSome (node_of nodes.now.entries id.0) }
     ensures value { ranked nodes.now.entries id.0 ≡ Some result }
     ensures within { result < length nodes.now.entries }
 {
-    rank_of(nodes, id).unwrap()
+    guessed_rank(nodes, guesses, id).unwrap()
 }
 
 /// The mark of the node.
-pub fn mark_of(nodes: &Nodes, marks: &[bool; 256], to: NodeId, id: NodeId) -> bool
+pub fn mark_of(nodes: &Nodes, guesses: &Guesses, marks: &[bool; 256], id: NodeId) -> bool
     requires ascending { IsAscending nodes.now.entries }
     requires few { length nodes.now.entries ≤ 256 }
-    ensures { result ≡ told either false (λ n. nat_eq to.0 n.id.0) nodes.now.entries marks.now id.0 }
+    ensures { result ≡ told false nodes.now.entries marks.now id.0 }
 {
-    match rank_of(nodes, id) {
+    match guessed_rank(nodes, guesses, id) {
         Some(rank) => marks[rank],
         None => false,
     }
 }
 
-fn is_fed(nodes: &Nodes, marks: &[bool; 256], to: NodeId, input: &Option<NodeId>) -> bool
+fn is_fed(nodes: &Nodes, guesses: &Guesses, marks: &[bool; 256], input: &Option<NodeId>) -> bool
     requires ascending { IsAscending nodes.now.entries }
     requires few { length nodes.now.entries ≤ 256 }
-    ensures { result ≡ ports_told either false (λ n. nat_eq to.0 n.id.0) nodes.now.entries
-        marks.now (input.now ∷ []) }
+    ensures { result ≡ ports_told either false nodes.now.entries marks.now (input.now ∷ []) }
 {
     match input {
-        Some(id) => mark_of(nodes, marks, to, *id),
+        Some(id) => mark_of(nodes, guesses, marks, *id),
         None => false,
     }
 }
 
 // Whether a node with a mark feeds one of the ports.
-fn is_fed_by(nodes: &Nodes, marks: &[bool; 256], to: NodeId, inputs: &[Option<NodeId>]) -> bool
+fn is_fed_by(
+    nodes: &Nodes,
+    guesses: &Guesses,
+    marks: &[bool; 256],
+    inputs: &[Option<NodeId>],
+) -> bool
     requires ascending { IsAscending nodes.now.entries }
     requires few { length nodes.now.entries ≤ 256 }
-    ensures { result ≡ ports_told either false (λ n. nat_eq to.0 n.id.0) nodes.now.entries
-        marks.now inputs.now }
+    ensures { result ≡ ports_told either false nodes.now.entries marks.now inputs.now }
 {
     for input in inputs {
-        if is_fed(nodes, marks, to, input) {
+        if is_fed(nodes, guesses, marks, input) {
             return true;
         }
     }
     false
 }
 
-fn is_late(nodes: &Nodes, marks: &[bool; 256], to: NodeId, node: &Node) -> bool
+fn is_late(nodes: &Nodes, guesses: &Guesses, marks: &[bool; 256], to: NodeId, node: &Node) -> bool
     requires ascending { IsAscending nodes.now.entries }
     requires few { length nodes.now.entries ≤ 256 }
     ensures { result ≡ either (nat_eq to.0 node.now.id.0)
-        (ports_told either false (λ n. nat_eq to.0 n.id.0) nodes.now.entries marks.now
-        node.now.inputs) }
+        (ports_told either false nodes.now.entries marks.now node.now.inputs) }
 {
-    to == node.id || is_fed_by(nodes, marks, to, &node.inputs)
+    to == node.id || is_fed_by(nodes, guesses, marks, &node.inputs)
 }
 
 /// Marks the nodes, at their ranks, that are `to` or lie downstream of it.
-pub fn marks_below(nodes: &Nodes, order: &[NodeId], to: NodeId) -> [bool; 256]
+pub fn marks_below(nodes: &Nodes, guesses: &Guesses, order: &[NodeId], to: NodeId) -> [bool; 256]
     requires { IsOrder nodes.now.entries order.now }
     ensures { IsTold either false (λ n. nat_eq to.0 n.id.0) nodes.now.entries order.now
         (length order.now) result }
 {
     let mut marks = [false; 256];
     for id in order {
-        let rank = rank_in(nodes, *id);
-        marks[rank] = is_late(nodes, &marks, to, &nodes[rank]);
+        let rank = rank_in(nodes, guesses, *id);
+        marks[rank] = is_late(nodes, guesses, &marks, to, &nodes[rank]);
     }
     marks
 }
 
-fn input_stamp(nodes: &Nodes, stamps: &[u32; 256], input: &Option<NodeId>) -> u32
+fn input_stamp(nodes: &Nodes, guesses: &Guesses, stamps: &[u32; 256], input: &Option<NodeId>) -> u32
     requires ascending { IsAscending nodes.now.entries }
     requires few { length nodes.now.entries ≤ 256 }
-    ensures { result ≡ ports_told max 0 own_stamp nodes.now.entries stamps.now (input.now ∷ []) }
+    ensures { result ≡ ports_told max 0 nodes.now.entries stamps.now (input.now ∷ []) }
 {
     let Some(id) = input else {
         return 0;
     };
-    match rank_of(nodes, *id) {
+    match guessed_rank(nodes, guesses, *id) {
         Some(rank) => stamps[rank],
         None => 0,
     }
 }
 
-fn input_stamps(nodes: &Nodes, stamps: &[u32; 256], inputs: &[Option<NodeId>]) -> u32
+fn input_stamps(
+    nodes: &Nodes,
+    guesses: &Guesses,
+    stamps: &[u32; 256],
+    inputs: &[Option<NodeId>],
+) -> u32
     requires ascending { IsAscending nodes.now.entries }
     requires few { length nodes.now.entries ≤ 256 }
-    ensures { result ≡ ports_told max 0 own_stamp nodes.now.entries stamps.now inputs.now }
+    ensures { result ≡ ports_told max 0 nodes.now.entries stamps.now inputs.now }
 {
     let mut newest = 0;
     for input in inputs {
-        newest = input_stamp(nodes, stamps, input).max(newest);
+        newest = input_stamp(nodes, guesses, stamps, input).max(newest);
     }
     newest
 }
 
-fn cone_stamp(nodes: &Nodes, stamps: &[u32; 256], node: &Node) -> u32
+fn cone_stamp(nodes: &Nodes, guesses: &Guesses, stamps: &[u32; 256], node: &Node) -> u32
     requires ascending { IsAscending nodes.now.entries }
     requires few { length nodes.now.entries ≤ 256 }
     ensures { result ≡ max node.now.stamp
-        (ports_told max 0 own_stamp nodes.now.entries stamps.now node.now.inputs) }
+        (ports_told max 0 nodes.now.entries stamps.now node.now.inputs) }
 {
-    node.stamp.max(input_stamps(nodes, stamps, &node.inputs))
+    let newest = input_stamps(nodes, guesses, stamps, &node.inputs);
+    node.stamp.max(newest)
 }
 
-fn stamps_of(nodes: &Nodes, order: &[NodeId]) -> [u32; 256]
+fn stamps_of(nodes: &Nodes, guesses: &Guesses, order: &[NodeId]) -> [u32; 256]
     requires { IsOrder nodes.now.entries order.now }
     ensures { IsTold max 0 own_stamp nodes.now.entries order.now (length order.now) result }
 {
     let mut stamps = [0; 256];
     for id in order {
-        let rank = rank_in(nodes, *id);
-        stamps[rank] = cone_stamp(nodes, &stamps, &nodes[rank]);
+        let rank = rank_in(nodes, guesses, *id);
+        stamps[rank] = cone_stamp(nodes, guesses, &stamps, &nodes[rank]);
     }
     stamps
 }
@@ -138,5 +146,6 @@ pub fn stamp_in(nodes: &Nodes, order: &[NodeId], id: NodeId) -> u32
     requires there { IsSome (node_of nodes.now.entries id.0) }
     ensures { result ≡ newest (cone_of nodes.now.entries id.0) }
 {
-    stamps_of(nodes, order)[rank_in(nodes, id)]
+    let guesses = guesses_of(nodes);
+    stamps_of(nodes, &guesses, order)[rank_in(nodes, &guesses, id)]
 }

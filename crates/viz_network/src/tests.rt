@@ -133,11 +133,15 @@ fn answer(alloc: Global, story: &mut Story, plan: Plan) -> Result<Option<Refusal
     }
 }
 
+fn agree(rt: &impl Abort, plan: Plan, got: Option<Refusal>, want: Option<Refusal>) {
+    assert!(rt; got == want, "{plan:?}: {got:?}");
+}
+
 // Makes each edit, and wants it accepted or refused so.
 fn makes(rt: &impl Abort, alloc: Global, story: &mut Story, rows: &[Row]) -> Result<(), Fail> {
     for (plan, want) in rows {
         let got = answer(alloc, story, *plan)?;
-        assert!(rt; got == *want, "{plan:?}: {got:?}");
+        agree(rt, *plan, got, *want);
     }
     Ok(())
 }
@@ -160,56 +164,58 @@ const NODES: [Row; 3] = [
     (Add(Kind::Crop, "box"), None),
 ];
 
+const REFUSED: [Row; 17] = [
+    (Add(Kind::Crop, "src"), Some(Refusal::Exists)),
+    (Add(Kind::Crop, "sr"), None),
+    // Connect: from, then to, then the port, then a cycle.
+    (Connect("no", "sum", 0), Some(Refusal::Unknown)),
+    (Connect("src", "no", 0), Some(Refusal::Unknown)),
+    (Connect("src", "sum", 0), Some(Refusal::NoPort)),
+    (Connect("src", "sum", 3), Some(Refusal::NoPort)),
+    (Connect("src", "src", 1), Some(Refusal::NoPort)),
+    (Connect("sum", "sum", 2), Some(Refusal::WouldCycle)),
+    (Connect("src", "sum", 2), None),
+    // An empty port may be emptied.
+    (Disconnect("no", 9), Some(Refusal::Unknown)),
+    (Disconnect("src", 1), Some(Refusal::NoPort)),
+    (Disconnect("sum", 3), Some(Refusal::NoPort)),
+    (Disconnect("sum", 1), None),
+    // A node that feeds stays.
+    (Remove("no"), Some(Refusal::Unknown)),
+    (Remove("src"), Some(Refusal::InUse)),
+    (Remove("sum"), None),
+    (Remove("src"), None),
+];
+
 #[test]
 fn each_refusal_has_a_neighbour(rt: HostRuntime) -> Result<(), Fail> {
     let mut story = Story::new(rt.alloc());
     makes(&rt, rt.alloc(), &mut story, &NODES)?;
-    let rows = [
-        (Add(Kind::Crop, "src"), Some(Refusal::Exists)),
-        (Add(Kind::Crop, "sr"), None),
-        // Connect: from, then to, then the port, then a cycle.
-        (Connect("no", "sum", 0), Some(Refusal::Unknown)),
-        (Connect("src", "no", 0), Some(Refusal::Unknown)),
-        (Connect("src", "sum", 0), Some(Refusal::NoPort)),
-        (Connect("src", "sum", 3), Some(Refusal::NoPort)),
-        (Connect("src", "src", 1), Some(Refusal::NoPort)),
-        (Connect("sum", "sum", 2), Some(Refusal::WouldCycle)),
-        (Connect("src", "sum", 2), None),
-        // An empty port may be emptied.
-        (Disconnect("no", 9), Some(Refusal::Unknown)),
-        (Disconnect("src", 1), Some(Refusal::NoPort)),
-        (Disconnect("sum", 3), Some(Refusal::NoPort)),
-        (Disconnect("sum", 1), None),
-        // A node that feeds stays.
-        (Remove("no"), Some(Refusal::Unknown)),
-        (Remove("src"), Some(Refusal::InUse)),
-        (Remove("sum"), None),
-        (Remove("src"), None),
-    ];
-    makes(&rt, rt.alloc(), &mut story, &rows)
+    makes(&rt, rt.alloc(), &mut story, &REFUSED)
 }
+
+const BAD_VALUES: [Row; 13] = [
+    // The parameter, then its value.
+    (Set("no", Param::Op, 1), Some(Refusal::Unknown)),
+    (SetText("src", Param::Op, "add"), Some(Refusal::NoParam)),
+    (Set("sum", Param::Op, 1), Some(Refusal::BadValue)),
+    (SetText("sum", Param::Op, "mul"), Some(Refusal::BadValue)),
+    (SetText("sum", Param::Op, "min"), None),
+    (SetText("src", Param::Unit, "9"), Some(Refusal::BadValue)),
+    (Set("src", Param::Unit, 10), Some(Refusal::BadValue)),
+    (Set("src", Param::Unit, 9), None),
+    (Set("box", Param::Bounds, 1), Some(Refusal::BadValue)),
+    (Set("box", Param::Release, 1), None),
+    (Load("no", "bytes"), Some(Refusal::Unknown)),
+    (Load("box", "bytes"), Some(Refusal::NoParam)),
+    (Load("src", "bytes"), None),
+];
 
 #[test]
 fn values_and_files_are_refused(rt: HostRuntime) -> Result<(), Fail> {
     let mut story = Story::new(rt.alloc());
     makes(&rt, rt.alloc(), &mut story, &NODES)?;
-    let rows = [
-        // The parameter, then its value.
-        (Set("no", Param::Op, 1), Some(Refusal::Unknown)),
-        (SetText("src", Param::Op, "add"), Some(Refusal::NoParam)),
-        (Set("sum", Param::Op, 1), Some(Refusal::BadValue)),
-        (SetText("sum", Param::Op, "mul"), Some(Refusal::BadValue)),
-        (SetText("sum", Param::Op, "min"), None),
-        (SetText("src", Param::Unit, "9"), Some(Refusal::BadValue)),
-        (Set("src", Param::Unit, 10), Some(Refusal::BadValue)),
-        (Set("src", Param::Unit, 9), None),
-        (Set("box", Param::Bounds, 1), Some(Refusal::BadValue)),
-        (Set("box", Param::Release, 1), None),
-        (Load("no", "bytes"), Some(Refusal::Unknown)),
-        (Load("box", "bytes"), Some(Refusal::NoParam)),
-        (Load("src", "bytes"), None),
-    ];
-    makes(&rt, rt.alloc(), &mut story, &rows)
+    makes(&rt, rt.alloc(), &mut story, &BAD_VALUES)
 }
 
 const MEAN: [Row; 6] = [
@@ -241,67 +247,78 @@ fn what_an_edit_makes_is_read_back(rt: HostRuntime) -> Result<(), Fail> {
     Ok(())
 }
 
+// Wants this node under the name mean.
+fn has_mean(rt: &impl Abort, net: &Net, id: NodeId, kind: Kind) -> Result<(), Fail> {
+    assert_eq!(rt; id_of(net, "mean")?, id);
+    assert_eq!(rt; net.kind(id), Some(kind));
+    Ok(())
+}
+
+const AGAIN: [Row; 2] = [(Remove("mean"), None), (Add(Kind::Tets, "mean"), None)];
+
 #[test]
 fn a_name_that_is_used_again_has_a_new_node(rt: HostRuntime) -> Result<(), Fail> {
     let mut story = Story::new(rt.alloc());
     makes(&rt, rt.alloc(), &mut story, &MEAN)?;
     let copy = story.net.copy()?;
-    let rows = [(Remove("mean"), None), (Add(Kind::Tets, "mean"), None)];
-    makes(&rt, rt.alloc(), &mut story, &rows)?;
-    assert_eq!(rt; id_of(&story.net, "mean")?, NodeId(8));
+    makes(&rt, rt.alloc(), &mut story, &AGAIN)?;
+    has_mean(&rt, &story.net, NodeId(8), Kind::Tets)?;
     assert_eq!(rt; story.net.kind(NodeId(2)), None);
-    assert_eq!(rt; story.net.kind(NodeId(8)), Some(Kind::Tets));
     // The copy has the nodes of before.
-    assert_eq!(rt; id_of(&copy, "mean")?, NodeId(2));
-    assert_eq!(rt; copy.kind(NodeId(2)), Some(Kind::Smooth));
-    Ok(())
+    has_mean(&rt, &copy, NodeId(2), Kind::Smooth)
 }
+
+const CYCLES: [Row; 17] = [
+    (Add(Kind::Append, "a"), None),
+    (Add(Kind::Append, "b"), None),
+    (Add(Kind::Append, "c"), None),
+    (Add(Kind::Append, "d"), None),
+    (Add(Kind::Append, "e"), None),
+    // One node, two, five.
+    (Connect("a", "a", 8), Some(Refusal::WouldCycle)),
+    (Connect("e", "d", 1), None),
+    (Connect("d", "e", 1), Some(Refusal::WouldCycle)),
+    (Connect("d", "c", 2), None),
+    (Connect("c", "b", 3), None),
+    (Connect("b", "a", 4), None),
+    (Connect("a", "e", 5), Some(Refusal::WouldCycle)),
+    // A way beside the chain is no cycle; once the chain is cut, the other way is open.
+    (Connect("e", "a", 5), None),
+    (Disconnect("a", 4), None),
+    (Disconnect("a", 5), None),
+    (Connect("a", "e", 5), None),
+    (Connect("b", "a", 1), Some(Refusal::WouldCycle)),
+];
 
 #[test]
 fn a_cycle_of_any_length_is_refused(rt: HostRuntime) -> Result<(), Fail> {
     let mut story = Story::new(rt.alloc());
-    let rows = [
-        (Add(Kind::Append, "a"), None),
-        (Add(Kind::Append, "b"), None),
-        (Add(Kind::Append, "c"), None),
-        (Add(Kind::Append, "d"), None),
-        (Add(Kind::Append, "e"), None),
-        // One node, two, five.
-        (Connect("a", "a", 8), Some(Refusal::WouldCycle)),
-        (Connect("e", "d", 1), None),
-        (Connect("d", "e", 1), Some(Refusal::WouldCycle)),
-        (Connect("d", "c", 2), None),
-        (Connect("c", "b", 3), None),
-        (Connect("b", "a", 4), None),
-        (Connect("a", "e", 5), Some(Refusal::WouldCycle)),
-        // A way beside the chain is no cycle; once the chain is cut, the other way is open.
-        (Connect("e", "a", 5), None),
-        (Disconnect("a", 4), None),
-        (Disconnect("a", 5), None),
-        (Connect("a", "e", 5), None),
-        (Connect("b", "a", 1), Some(Refusal::WouldCycle)),
-    ];
-    makes(&rt, rt.alloc(), &mut story, &rows)
+    makes(&rt, rt.alloc(), &mut story, &CYCLES)
+}
+
+const FED: [Row; 6] = [
+    (Add(Kind::File, "one"), None),
+    (Add(Kind::File, "two"), None),
+    (Add(Kind::Arith, "sum"), None),
+    (Connect("one", "sum", 1), None),
+    (Connect("two", "sum", 1), None),
+    (Connect("one", "sum", 2), None),
+];
+
+const EMPTIED: [Row; 2] = [(Disconnect("sum", 1), None), (Remove("two"), None)];
+
+// What feeds the two ports of sum.
+fn sum_inputs(net: &Net) -> Result<[Option<NodeId>; 2], Fail> {
+    Ok([input_of(net, "sum", 1)?, input_of(net, "sum", 2)?])
 }
 
 #[test]
 fn ports_are_replaced_and_emptied(rt: HostRuntime) -> Result<(), Fail> {
     let mut story = Story::new(rt.alloc());
-    let rows = [
-        (Add(Kind::File, "one"), None),
-        (Add(Kind::File, "two"), None),
-        (Add(Kind::Arith, "sum"), None),
-        (Connect("one", "sum", 1), None),
-        (Connect("two", "sum", 1), None),
-        (Connect("one", "sum", 2), None),
-    ];
-    makes(&rt, rt.alloc(), &mut story, &rows)?;
-    assert_eq!(rt; input_of(&story.net, "sum", 1)?, Some(NodeId(2)));
-    assert_eq!(rt; input_of(&story.net, "sum", 2)?, Some(NodeId(1)));
-    let rows = [(Disconnect("sum", 1), None), (Remove("two"), None)];
-    makes(&rt, rt.alloc(), &mut story, &rows)?;
-    assert_eq!(rt; input_of(&story.net, "sum", 1)?, None);
-    assert_eq!(rt; input_of(&story.net, "sum", 2)?, Some(NodeId(1)));
+    makes(&rt, rt.alloc(), &mut story, &FED)?;
+    assert_eq!(rt; sum_inputs(&story.net)?, [Some(NodeId(2)), Some(NodeId(1))]);
+    makes(&rt, rt.alloc(), &mut story, &EMPTIED)?;
+    assert_eq!(rt; sum_inputs(&story.net)?, [None, Some(NodeId(1))]);
     Ok(())
 }
 
@@ -326,24 +343,38 @@ fn diamond_stamps(net: &Net) -> Result<[u32; 4], Fail> {
     ])
 }
 
+// Makes or tries the edit, and wants these stamps.
+fn stamps_after(
+    rt: &impl Abort,
+    alloc: Global,
+    story: &mut Story,
+    plan: Plan,
+    want: [u32; 4],
+) -> Result<(), Fail> {
+    let _ = answer(alloc, story, plan)?;
+    let got = diamond_stamps(&story.net)?;
+    assert!(rt; got == want, "{plan:?}: {got:?}");
+    Ok(())
+}
+
+const STAMPS: [(Plan, [u32; 4]); 7] = [
+    (Disconnect("right", 1), [1, 7, 9, 9]),
+    (Set("left", Param::Radius, 2), [1, 10, 9, 10]),
+    (Connect("src", "right", 1), [1, 10, 11, 11]),
+    (Set("src", Param::Unit, 3), [12, 12, 12, 12]),
+    // A refused edit stamps nothing.
+    (Set("src", Param::Unit, 99), [12, 12, 12, 12]),
+    (Set("right", Param::Release, 1), [12, 12, 14, 14]),
+    (Load("src", "bytes"), [15, 15, 15, 15]),
+];
+
 #[test]
 fn stamps_go_through_a_diamond(rt: HostRuntime) -> Result<(), Fail> {
     let mut story = Story::new(rt.alloc());
     makes(&rt, rt.alloc(), &mut story, &DIAMOND)?;
     assert_eq!(rt; diamond_stamps(&story.net)?, [1, 7, 8, 8]);
-    let rows = [
-        (Disconnect("right", 1), [1, 7, 9, 9]),
-        (Set("left", Param::Radius, 2), [1, 10, 9, 10]),
-        (Connect("src", "right", 1), [1, 10, 11, 11]),
-        (Set("src", Param::Unit, 3), [12, 12, 12, 12]),
-        // A refused edit stamps nothing.
-        (Set("src", Param::Unit, 99), [12, 12, 12, 12]),
-        (Set("right", Param::Release, 1), [12, 12, 14, 14]),
-        (Load("src", "bytes"), [15, 15, 15, 15]),
-    ];
-    for (plan, want) in rows {
-        let _ = answer(rt.alloc(), &mut story, plan)?;
-        assert_eq!(rt; diamond_stamps(&story.net)?, want, "{plan:?}");
+    for (plan, want) in &STAMPS {
+        stamps_after(&rt, rt.alloc(), &mut story, *plan, *want)?;
     }
     assert_eq!(rt; story.net.stamp(NodeId(5)), None);
     Ok(())
@@ -363,19 +394,20 @@ fn chain(rt: &impl Abort, alloc: Global, story: &mut Story, count: u32) -> Resul
     Ok(())
 }
 
+const FULL: [Row; 6] = [
+    (Add(Kind::Merge, "more"), Some(Refusal::TooManyNodes)),
+    (Add(Kind::Merge, "n7"), Some(Refusal::Exists)),
+    (Connect("n255", "n0", 1), Some(Refusal::WouldCycle)),
+    (Remove("n255"), None),
+    (Add(Kind::Merge, "more"), None),
+    (Set("n0", Param::Release, 1), None),
+];
+
 #[test]
 fn there_is_room_for_256_nodes(rt: HostRuntime) -> Result<(), Fail> {
     let mut story = Story::new(rt.alloc());
     chain(&rt, rt.alloc(), &mut story, 256)?;
-    let rows = [
-        (Add(Kind::Merge, "more"), Some(Refusal::TooManyNodes)),
-        (Add(Kind::Merge, "n7"), Some(Refusal::Exists)),
-        (Connect("n255", "n0", 1), Some(Refusal::WouldCycle)),
-        (Remove("n255"), None),
-        (Add(Kind::Merge, "more"), None),
-        (Set("n0", Param::Release, 1), None),
-    ];
-    makes(&rt, rt.alloc(), &mut story, &rows)?;
+    makes(&rt, rt.alloc(), &mut story, &FULL)?;
     // 256 Adds and 255 Connects come before.
     assert_eq!(rt; stamp_of(&story.net, "n254")?, 517);
     assert_eq!(rt; stamp_of(&story.net, "more")?, 516);

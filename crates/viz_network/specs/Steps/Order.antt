@@ -1,5 +1,5 @@
 -- An order in which each node stands behind what feeds it. Only private contracts and proofs speak of it.
-use Rattle.std.specs.Prelude.{◌≡◌, ℕ, suc, ◌<◌, ◌≤◌, Bool, not, nat_eq, filter, if◌then◌else◌, ◌⊎◌, List, [], ◌∷◌, ◌++◌, length, slice_get, Option, None, Some}
+use Rattle.std.specs.Prelude.{◌≡◌, ℕ, suc, ◌<◌, ◌≤◌, Bool, true, false, not, nat_eq, filter, if◌then◌else◌, ◌⊎◌, List, [], ◌∷◌, ◌++◌, length, slice_get, Option, None, Some}
 use Rattle.std.specs.List.{AllByRecursion}
 use Rattle.std.specs.Option.{option_map}
 use Rattle.viz_base.specs.declared.node.NodeId.{NodeId}
@@ -30,6 +30,11 @@ pub record IsOrder (net : Network) (order : List NodeId) : Type 0 where
   pub ascending : IsAscending net
   pub short : length order ≤ length net
   pub few : length net ≤ 256
+
+-- whether the first node stands in front of each place of the second
+abbrev pub comes_first : ℕ → ℕ → List NodeId → Bool
+comes_first first second [] = false
+comes_first first second (x ∷ xs) = if nat_eq second x.0 then false else if nat_eq first x.0 then true else comes_first first second xs
 
 -- the nodes without a mark, and then those with one
 abbrev pub parted : (NodeId → Bool) → List NodeId → List NodeId

@@ -4,6 +4,6 @@ use Rattle.viz_network.proofs.part.keep.Given as goal
 
 abbrev pub invariant-loop-id : goal.invariant-loop-id
 invariant-loop-id l = record {
-  value : take l.count l.kept ≡ take l.at l.initial.kept ++ filter (is_kept l.late l.to.0 l.nodes.entries l.marks) (take l.id-index l.order);
+  value : take l.count l.kept ≡ take l.at l.initial.kept ++ filter (is_kept l.late l.nodes.entries l.marks) (take l.id-index l.order);
   within : l.count ≤ l.at + l.id-index;
 }
