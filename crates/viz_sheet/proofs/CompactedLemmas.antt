@@ -8,7 +8,7 @@ use Rattle.std.proofs.lemmas.List.{get_or-map, length-map}
 use Rattle.std.proofs.lemmas.List.Elements.{All-head, All-tail, All-nil, All-cons, Contains-append_left, Contains-append_right, Contains-append_cases, Contains-get_or}
 use Rattle.viz_fraction.specs.Points.{Point}
 use Rattle.viz_sheet.specs.Sheet.{AreApart}
-use Rattle.viz_sheet.specs.Ranked.{IsCell, AreCells, named, names_at}
+use Rattle.viz_sheet.specs.Ranked.{IsCell, AreCells, by_names, names_at}
 use Rattle.viz_sheet.specs.Kept.{kept, kept_rank, renumbered, AreMarks, AreSomeCells, IsCompacted}
 use Rattle.viz_sheet.proofs.KeptLemmas.{kept-at, rank-below, rank-from, kept-lengths, kept-sorted, rank-rises, kept-most}
 
@@ -70,11 +70,11 @@ names-renumbered names marks (r ∷ rs) l m =
     ap₂ (λ a b. a ∷ b) (kept-at marks names r [] l (All-head (λ q. get_or marks q false ≡ true) r rs m))
     (names-renumbered names marks rs l (All-tail (λ q. get_or marks q false ≡ true) r rs m))
 
-named-renumbered : (names : List (List ℕ)) (marks : List Bool) (cells : List (List ℕ)) → length marks ≡ length names → All (All (λ r. get_or marks r false ≡ true)) cells → named (kept marks names) (renumbered marks cells) ≡ named names cells
-named-renumbered names marks [] l m = refl
-named-renumbered names marks (c ∷ cs) l m =
+by_names-renumbered : (names : List (List ℕ)) (marks : List Bool) (cells : List (List ℕ)) → length marks ≡ length names → All (All (λ r. get_or marks r false ≡ true)) cells → by_names (kept marks names) (renumbered marks cells) ≡ by_names names cells
+by_names-renumbered names marks [] l m = refl
+by_names-renumbered names marks (c ∷ cs) l m =
     ap₂ (λ a b. a ∷ b) (names-renumbered names marks c l (All-head (All (λ r. get_or marks r false ≡ true)) c cs m))
-    (named-renumbered names marks cs l (All-tail (All (λ r. get_or marks r false ≡ true)) c cs m))
+    (by_names-renumbered names marks cs l (All-tail (All (λ r. get_or marks r false ≡ true)) c cs m))
 
 -- a rank of a cell is, renumbered, one of the renumbered cell
 contains-map : (f : ℕ → ℕ) (cell : List ℕ) (r : ℕ) → Contains cell r → Contains (map f cell) (f r)
@@ -104,7 +104,7 @@ compacted names points cells marks h m =
             let from = rank-from marks names k m.size b in
             subst (Contains (flat_map (λ cell. cell) (renumbered marks cells))) from.2 (contains-renumbered marks cells from.0 ((m.each from.0).0 from.1));
       };
-      same = named-renumbered names marks cells m.size marked;
+      same = by_names-renumbered names marks cells m.size marked;
     }
 
 -- what holds of all items holds of the marked ones

@@ -5,7 +5,7 @@ use Rattle.std.proofs.lemmas.List.FromFn.{get_or-map-range_with_len, length-map-
 use Rattle.std.proofs.lemmas.List.Elements.{All-head, All-tail, All-weaker}
 use Rattle.viz_fraction.specs.Points.{Point}
 use Rattle.viz_sheet.specs.Sheet.{KeepPoints}
-use Rattle.viz_sheet.specs.Ranked.{AreCells, AreRanks, IsCell, named}
+use Rattle.viz_sheet.specs.Ranked.{AreCells, AreRanks, IsCell, by_names}
 use Rattle.viz_sheet.specs.Kept.{kept, kept_rank, renumbered, AreMarks}
 use Rattle.viz_sheet.specs.Steps.Lookup.{looked_up}
 use Rattle.viz_sheet.proofs.CompactedLemmas as law
@@ -32,7 +32,7 @@ looked_up-cells marks (c ∷ cs) h =
 
 pub record IsMade (names : List (List ℕ)) (cells : List (List ℕ)) (kept_names : List (List ℕ)) (kept_points : List Point) (made : List (List ℕ)) : Type 0 where
   pub sheet : AreRanks kept_names kept_points made
-  pub same : named kept_names made ≡ named names cells
+  pub same : by_names kept_names made ≡ by_names names cells
 
 pub made_is : (names : List (List ℕ)) (points : List Point) (cells : List (List ℕ)) (marks : List Bool) → AreCells names points cells → AreMarks (length names) cells marks → IsMade names cells (kept marks names) (kept marks points) (map (looked_up (before_of marks)) cells)
 made_is names points cells marks h m =
@@ -40,7 +40,7 @@ made_is names points cells marks h m =
     let made = law.compacted names points cells marks h m in
     record {
       sheet = subst (AreRanks (kept marks names) (kept marks points)) (sym e) made.sheet;
-      same = ap (named (kept marks names)) e ∙ made.same;
+      same = ap (by_names (kept marks names)) e ∙ made.same;
     }
 
 -- the same of lists that are equal to these

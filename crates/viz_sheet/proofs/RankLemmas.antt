@@ -7,7 +7,7 @@ use Rattle.std.proofs.lemmas.Cmp.{nat_list_cmp_total}
 use Rattle.std.proofs.lemmas.List.{get_or-map}
 use Rattle.std.proofs.lemmas.List.Elements.{All-head, All-tail, All-get_or}
 use Rattle.viz_sheet.specs.Sheet.{AreAscending}
-use Rattle.viz_sheet.specs.Ranked.{names_at, named, rank_of, ranks_of, IsCell}
+use Rattle.viz_sheet.specs.Ranked.{names_at, by_names, rank_of, ranks_of, IsCell}
 use Rattle.viz_sheet.proofs.KeptLemmas.{count_by-cons}
 use Rattle.viz_sheet.proofs.PairOrder.{compare_as_ranks}
 
@@ -40,7 +40,7 @@ ranks-at names (r ∷ rs) s h =
     ap₂ (λ a b. a ∷ b) (sym (rank-at names r s (All-head (λ q. q < length names) r rs h))) (ranks-at names rs s (All-tail (λ q. q < length names) r rs h))
 
 -- the ranks of a cell, of cells
-pub cell_ranks : (names : List (List ℕ)) (cells : List (List ℕ)) (i : ℕ) → AreAscending names → All (IsCell (length names)) cells → i < length cells → get_or cells i [] ≡ ranks_of names (get_or (named names cells) i [])
+pub cell_ranks : (names : List (List ℕ)) (cells : List (List ℕ)) (i : ℕ) → AreAscending names → All (IsCell (length names)) cells → i < length cells → get_or cells i [] ≡ ranks_of names (get_or (by_names names cells) i [])
 cell_ranks names cells i s h l =
     ranks-at names (get_or cells i []) s (All-get_or (IsCell (length names)) cells i [] l h).below
     ∙ ap (ranks_of names) (sym (get_or-map (names_at names) cells i [] [] l))

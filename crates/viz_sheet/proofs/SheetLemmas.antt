@@ -6,7 +6,7 @@ use Rattle.std.proofs.lemmas.List.{get_or-map, length-map, get_or_default}
 use Rattle.std.proofs.lemmas.List.Elements.{All-head, All-tail, All-nil, All-cons, Contains-append_left, Contains-append_right, Contains-append_cases, Contains-get_or}
 use Rattle.viz_fraction.specs.Points.{Point}
 use Rattle.viz_sheet.specs.Sheet.{SheetData, IsSheet, IsNamedCell, AreApart, AreAscending}
-use Rattle.viz_sheet.specs.Ranked.{AreRanks, IsCell, named, names_at, rank_of}
+use Rattle.viz_sheet.specs.Ranked.{AreRanks, IsCell, by_names, names_at, rank_of}
 use Rattle.viz_sheet.proofs.MemberLemmas.{member_cases, same_from_members}
 use Rattle.viz_sheet.proofs.RankLemmas.{rank-at}
 
@@ -16,12 +16,12 @@ at_rank names cell r c =
     let e : get_or (names_at names cell) c.0 (get_or names r []) ≡ get_or names (get_or cell c.0 r) [] = get_or-map (λ q. get_or names q []) cell c.0 r (get_or names r []) c.1 in
     (c.0, simp length-map c.1, e ∙ ap (λ q. get_or names q []) c.2)
 
-at_ranks : (names : List (List ℕ)) (cells : List (List ℕ)) (r : ℕ) → Contains (flat_map (λ cell. cell) cells) r → Contains (flat_map (λ cell. cell) (named names cells)) (get_or names r [])
+at_ranks : (names : List (List ℕ)) (cells : List (List ℕ)) (r : ℕ) → Contains (flat_map (λ cell. cell) cells) r → Contains (flat_map (λ cell. cell) (by_names names cells)) (get_or names r [])
 at_ranks names [] r c = absurd (omega (arith, c.1))
 at_ranks names (c ∷ cs) r i =
     ⊎_elim
-    (λ h. Contains-append_left (names_at names c) (flat_map (λ cell. cell) (named names cs)) (get_or names r []) (at_rank names c r h))
-    (λ h. Contains-append_right (names_at names c) (flat_map (λ cell. cell) (named names cs)) (get_or names r []) (at_ranks names cs r h))
+    (λ h. Contains-append_left (names_at names c) (flat_map (λ cell. cell) (by_names names cs)) (get_or names r []) (at_rank names c r h))
+    (λ h. Contains-append_right (names_at names c) (flat_map (λ cell. cell) (by_names names cs)) (get_or names r []) (at_ranks names cs r h))
     (Contains-append_cases c (flat_map (λ cell. cell) cs) r i)
 
 -- a name of a cell is one of the names
@@ -33,18 +33,18 @@ of_cell names (r ∷ rs) n h c =
     (λ d. of_cell names rs n (All-tail (λ q. q < length names) r rs h) d)
     (member_cases (get_or names r []) (names_at names rs) n c)
 
-of_cells : (names : List (List ℕ)) (cells : List (List ℕ)) (n : List ℕ) → All (IsCell (length names)) cells → Contains (flat_map (λ cell. cell) (named names cells)) n → Contains names n
+of_cells : (names : List (List ℕ)) (cells : List (List ℕ)) (n : List ℕ) → All (IsCell (length names)) cells → Contains (flat_map (λ cell. cell) (by_names names cells)) n → Contains names n
 of_cells names [] n h c = absurd (omega (arith, c.1))
 of_cells names (c ∷ cs) n h i =
     ⊎_elim
     (λ d. of_cell names c n (All-head (IsCell (length names)) c cs h).below d)
     (λ d. of_cells names cs n (All-tail (IsCell (length names)) c cs h) d)
-    (Contains-append_cases (names_at names c) (flat_map (λ cell. cell) (named names cs)) n i)
+    (Contains-append_cases (names_at names c) (flat_map (λ cell. cell) (by_names names cs)) n i)
 
 -- each name is that of a cell
-used_name : (names : List (List ℕ)) (points : List Point) (cells : List (List ℕ)) (n : List ℕ) → AreRanks names points cells → Contains names n → Contains (flat_map (λ cell. cell) (named names cells)) n
+used_name : (names : List (List ℕ)) (points : List Point) (cells : List (List ℕ)) (n : List ℕ) → AreRanks names points cells → Contains names n → Contains (flat_map (λ cell. cell) (by_names names cells)) n
 used_name names points cells n h c =
-    subst (Contains (flat_map (λ cell. cell) (named names cells)))
+    subst (Contains (flat_map (λ cell. cell) (by_names names cells)))
     (get_or_default names c.0 [] n c.1 ∙ c.2)
     (at_ranks names cells c.0 (h.used c.0 c.1))
 
@@ -69,15 +69,15 @@ cell-named names cell s h = record {
   apart = apart-named names cell s h.below h.apart;
 }
 
-cells-named : (names : List (List ℕ)) (cells : List (List ℕ)) → AreAscending names → All (IsCell (length names)) cells → All IsNamedCell (named names cells)
+cells-named : (names : List (List ℕ)) (cells : List (List ℕ)) → AreAscending names → All (IsCell (length names)) cells → All IsNamedCell (by_names names cells)
 cells-named names [] s h = All-nil IsNamedCell
 cells-named names (c ∷ cs) s h =
-    All-cons IsNamedCell (names_at names c) (named names cs)
+    All-cons IsNamedCell (names_at names c) (by_names names cs)
     (cell-named names c s (All-head (IsCell (length names)) c cs h))
     (cells-named names cs s (All-tail (IsCell (length names)) c cs h))
 
 -- the rule by ranks is that of a sheet
-pub is_sheet : (names : List (List ℕ)) (points : List Point) (cells : List (List ℕ)) → AreRanks names points cells → IsSheet (record { names = names; points = points; cells = named names cells })
+pub is_sheet : (names : List (List ℕ)) (points : List Point) (cells : List (List ℕ)) → AreRanks names points cells → IsSheet (record { names = names; points = points; cells = by_names names cells })
 is_sheet names points cells h = record {
   ascending = h.rule.ascending;
   matched = h.rule.matched;

@@ -21,9 +21,9 @@ points_in (Small v) = v.items
 points_in (Wide v) = v.items
 
 -- cells by ranks
-abbrev pub cells_in : Ranks → List (List ℕ)
-cells_in (Vertices v) = v.items
-cells_in (Lines v) = v.items
-cells_in (Triangles v) = v.items
-cells_in (Tetrahedra v) = v.items
-cells_in (Any v) = v.items
+abbrev pub ranks_in : Ranks → List (List ℕ)
+ranks_in (Vertices v) = v.items
+ranks_in (Lines v) = v.items
+ranks_in (Triangles v) = v.items
+ranks_in (Tetrahedra v) = v.items
+ranks_in (Any v) = v.items

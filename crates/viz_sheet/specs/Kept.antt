@@ -2,7 +2,7 @@
 use Rattle.std.specs.Prelude.{◌≡◌, ◌↔◌, ℕ, Bool, true, false, List, [], ◌∷◌, length, map, take, Contains, count_by, slice_index_or, if◌then◌else◌}
 use Rattle.std.specs.List.{flat_map}
 use Rattle.viz_fraction.specs.Points.{Point}
-use Rattle.viz_sheet.specs.Ranked.{AreCells, AreRanks, named}
+use Rattle.viz_sheet.specs.Ranked.{AreCells, AreRanks, by_names}
 
 -- the marked items
 abbrev pub kept : {X : Type 0} → List Bool → List X → List X
@@ -26,7 +26,7 @@ pub record AreMarks (count : ℕ) (cells : List (List ℕ)) (marks : List Bool) 
 -- with the marked names alone it is a sheet, of the same cells by names
 pub record IsCompacted (names : List (List ℕ)) (points : List Point) (cells : List (List ℕ)) (marks : List Bool) : Type 0 where
   pub sheet : AreRanks (kept marks names) (kept marks points) (renumbered marks cells)
-  pub same : named (kept marks names) (renumbered marks cells) ≡ named names cells
+  pub same : by_names (kept marks names) (renumbered marks cells) ≡ by_names names cells
 
 -- that holds of any cells and the marks of their ranks
 abbrev pub MarksCompact : Type 0
@@ -37,7 +37,7 @@ MarksCompact =
 -- some of the cells are cells of the same names, and by names they are some of those by names
 pub record AreSomeCells (names : List (List ℕ)) (points : List Point) (cells : List (List ℕ)) (keeps : List Bool) : Type 0 where
   pub rule : AreCells names points (kept keeps cells)
-  pub same : named names (kept keeps cells) ≡ kept keeps (named names cells)
+  pub same : by_names names (kept keeps cells) ≡ kept keeps (by_names names cells)
 
 -- that holds of any marks of the cells
 abbrev pub KeptCellsAreCells : Type 0

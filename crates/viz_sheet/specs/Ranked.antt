@@ -19,8 +19,8 @@ abbrev pub names_at : List (List ℕ) → List ℕ → List (List ℕ)
 names_at names ranks = map (λ r. slice_index_or names r []) ranks
 
 -- cells by names, from cells by ranks
-abbrev pub named : List (List ℕ) → List (List ℕ) → List (List (List ℕ))
-named names cells = map (names_at names) cells
+abbrev pub by_names : List (List ℕ) → List (List ℕ) → List (List (List ℕ))
+by_names names cells = map (names_at names) cells
 
 -- a cell by ranks: 1 to 4 different ones, below the number of names
 pub record IsCell (count : ℕ) (cell : List ℕ) : Type 0 where

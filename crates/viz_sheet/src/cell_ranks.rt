@@ -110,7 +110,8 @@ fn mixed_looked_up(cell: &[u32], numbers: &[u32]) -> Mixed
 /// The number at a rank of a cell, and filler behind the last one.
 fn number_at(cell: &[u32], numbers: &[u32], i: usize) -> u32
     requires below { All (λ r. r < length numbers.now) cell.now }
-    ensures { i < length cell.now → result ≡ slice_index_or numbers.now (slice_index_or cell.now i 0) 0 }
+    ensures { i < length cell.now
+        → result ≡ slice_index_or numbers.now (slice_index_or cell.now i 0) 0 }
 {
     if i < cell.len() {
         numbers[cell[i] as usize]

@@ -1,9 +1,9 @@
 //! A sheet without the names that none of its cells has.
 
 ghost use Rattle.std.specs.Prelude.{◌≡◌, ◌<◌, All, length, map, IfOk};
-ghost use Rattle.viz_sheet.specs.Arrays.{names_in, points_in, cells_in};
+ghost use Rattle.viz_sheet.specs.Arrays.{names_in, points_in, ranks_in};
 ghost use Rattle.viz_sheet.specs.Kept.{AreMarks};
-ghost use Rattle.viz_sheet.specs.Ranked.{AreCells, named};
+ghost use Rattle.viz_sheet.specs.Ranked.{AreCells, by_names};
 ghost use Rattle.viz_sheet.specs.Sheet.{KeepPoints};
 ghost use Rattle.viz_sheet.specs.Steps.Lookup.{looked_up};
 
@@ -26,8 +26,9 @@ pub fn compacted(
     places: &Places,
     ranks: &Ranks,
 ) -> Result<Sheet, AllocError>
-    requires cells { AreCells (names_in leaves.now) (points_in places.now) (cells_in ranks.now) }
-    ensures cells { IfOk result (λ s. s.cells ≡ named (names_in leaves.now) (cells_in ranks.now)) }
+    requires cells { AreCells (names_in leaves.now) (points_in places.now) (ranks_in ranks.now) }
+    ensures cells { IfOk result (λ s.
+        s.cells ≡ by_names (names_in leaves.now) (ranks_in ranks.now)) }
     ensures points { IfOk result (λ s.
         KeepPoints s.names s.points (names_in leaves.now) (points_in places.now)) }
 {
@@ -42,8 +43,8 @@ pub fn sheet_of(
     places: Places,
     ranks: Ranks,
 ) -> Result<Sheet, AllocError>
-    requires cells { AreCells (names_in leaves) (points_in places) (cells_in ranks) }
-    ensures cells { IfOk result (λ s. s.cells ≡ named (names_in leaves) (cells_in ranks)) }
+    requires cells { AreCells (names_in leaves) (points_in places) (ranks_in ranks) }
+    ensures cells { IfOk result (λ s. s.cells ≡ by_names (names_in leaves) (ranks_in ranks)) }
     ensures points { IfOk result (λ s.
         KeepPoints s.names s.points (names_in leaves) (points_in places)) }
 {
@@ -62,9 +63,10 @@ fn with_marked(
     places: &Places,
     ranks: &Ranks,
 ) -> Result<Sheet, AllocError>
-    requires cells { AreCells (names_in leaves.now) (points_in places.now) (cells_in ranks.now) }
-    requires marks { AreMarks (length (names_in leaves.now)) (cells_in ranks.now) marks.now }
-    ensures cells { IfOk result (λ s. s.cells ≡ named (names_in leaves.now) (cells_in ranks.now)) }
+    requires cells { AreCells (names_in leaves.now) (points_in places.now) (ranks_in ranks.now) }
+    requires marks { AreMarks (length (names_in leaves.now)) (ranks_in ranks.now) marks.now }
+    ensures cells { IfOk result (λ s.
+        s.cells ≡ by_names (names_in leaves.now) (ranks_in ranks.now)) }
     ensures points { IfOk result (λ s.
         KeepPoints s.names s.points (names_in leaves.now) (points_in places.now)) }
 {
@@ -79,8 +81,8 @@ fn with_marked(
 /// Cells with a number in place of each rank.
 #[tactic(auto, using(crate::proofs::LookupLemmas::as_it_is))]
 fn looked_up_ranks(alloc: Global, numbers: &[u32], ranks: &Ranks) -> Result<Ranks, AllocError>
-    requires { All (All (λ r. r < length numbers.now)) (cells_in ranks.now) }
-    ensures { IfOk result (λ q. cells_in q ≡ map (looked_up numbers.now) (cells_in ranks.now)) }
+    requires { All (All (λ r. r < length numbers.now)) (ranks_in ranks.now) }
+    ensures { IfOk result (λ q. ranks_in q ≡ map (looked_up numbers.now) (ranks_in ranks.now)) }
 {
     match ranks {
         Ranks::Vertices(cells) => Ok(Ranks::Vertices(looked_up_cells(alloc, numbers, cells)?)),

@@ -2,7 +2,7 @@
 
 ghost use Rattle.std.specs.Prelude.{◌≡◌, ◌<◌, All, length, IfOk};
 ghost use Rattle.std.specs.List.{flat_map};
-ghost use Rattle.viz_sheet.specs.Arrays.{cells_in};
+ghost use Rattle.viz_sheet.specs.Arrays.{ranks_in};
 ghost use Rattle.viz_sheet.specs.Kept.{AreMarks};
 ghost use Rattle.viz_sheet.specs.Steps.Marking.{IsMarkedBy};
 
@@ -12,8 +12,8 @@ use std::alloc::{AllocError, Global};
 
 /// The marks of the ranks that cells have, of so many ranks.
 pub(crate) fn marks_of(alloc: Global, count: usize, cells: &Ranks) -> Result<Vec<bool>, AllocError>
-    requires { All (All (λ r. r < count)) (cells_in cells.now) }
-    ensures { IfOk result (λ v. AreMarks count (cells_in cells.now) v.items) }
+    requires { All (All (λ r. r < count)) (ranks_in cells.now) }
+    ensures { IfOk result (λ v. AreMarks count (ranks_in cells.now) v.items) }
 {
     let mut marks = vec![in alloc; false; count]?;
     mark_ranks(&mut marks, cells);
@@ -22,8 +22,8 @@ pub(crate) fn marks_of(alloc: Global, count: usize, cells: &Ranks) -> Result<Vec
 
 /// Marks the ranks of all cells.
 fn mark_ranks(marks: &mut [bool], cells: &Ranks)
-    requires { All (All (λ r. r < length marks.old)) (cells_in cells.now) }
-    ensures { IsMarkedBy marks.old (flat_map (λ cell. cell) (cells_in cells.now)) marks.new }
+    requires { All (All (λ r. r < length marks.old)) (ranks_in cells.now) }
+    ensures { IsMarkedBy marks.old (flat_map (λ cell. cell) (ranks_in cells.now)) marks.new }
 {
     match cells {
         Ranks::Vertices(cells) => mark_cells(marks, cells),

@@ -1,7 +1,7 @@
 //! Cells by the ranks of their points.
 
 ghost use Rattle.std.specs.Prelude.{◌≡◌, ◌<◌, [], length, slice_index_or};
-ghost use Rattle.viz_sheet.specs.Arrays.{cells_in};
+ghost use Rattle.viz_sheet.specs.Arrays.{ranks_in};
 
 use crate::mixed::Mixed;
 
@@ -18,7 +18,7 @@ pub enum Ranks {
 impl Ranks {
     /// How many cells.
     pub fn len(&self) -> usize
-        ensures value { result ≡ length (cells_in self.now) }
+        ensures value { result ≡ length (ranks_in self.now) }
     {
         match self {
             Ranks::Vertices(cells) => cells.len(),
@@ -31,8 +31,8 @@ impl Ranks {
 
     /// The ranks of a cell.
     pub fn get(&self, index: usize) -> &[u32]
-        requires { index < length (cells_in self.now) }
-        ensures value { result.now ≡ slice_index_or (cells_in self.now) index [] }
+        requires { index < length (ranks_in self.now) }
+        ensures value { result.now ≡ slice_index_or (ranks_in self.now) index [] }
     {
         match self {
             Ranks::Vertices(cells) => cells[index].as_slice(),

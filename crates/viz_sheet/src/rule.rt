@@ -3,7 +3,7 @@
 ghost use Rattle.std.specs.Prelude.{◌≡◌, ◌↔◌, ◌<◌, ◌≤◌, ◌^◌, All, IsTrue};
 ghost use Rattle.std.specs.Cmp.Lexicographic.{slice_cmp};
 ghost use Rattle.std.specs.Ordering.{is_lt, nat_cmp};
-ghost use Rattle.viz_sheet.specs.Arrays.{names_in, points_in, cells_in};
+ghost use Rattle.viz_sheet.specs.Arrays.{names_in, points_in, ranks_in};
 ghost use Rattle.viz_sheet.specs.Ranked.{AreCells, IsCell};
 ghost use Rattle.viz_sheet.specs.Sheet.{AreApart, AreAscending};
 
@@ -15,7 +15,7 @@ use crate::ranks::Ranks;
 /// `compacted` and `sheet_of` need.
 pub fn are_cells(leaves: &Leaves, places: &Places, ranks: &Ranks) -> bool
     ensures value { IsTrue result ↔
-        AreCells (names_in leaves.now) (points_in places.now) (cells_in ranks.now) }
+        AreCells (names_in leaves.now) (points_in places.now) (ranks_in ranks.now) }
 {
     let count = leaves.len();
     places.len() == count && is_few(count) && are_ascending(leaves) && each_is_cell(count, ranks)
@@ -49,7 +49,7 @@ fn is_before(a: &[u32], b: &[u32]) -> bool
 
 /// Each of these is a cell by ranks below the count.
 fn each_is_cell(count: usize, ranks: &Ranks) -> bool
-    ensures { IsTrue result ↔ All (IsCell count) (cells_in ranks.now) }
+    ensures { IsTrue result ↔ All (IsCell count) (ranks_in ranks.now) }
 {
     for i in 0..ranks.len() {
         if !is_cell(count, ranks.get(i)) {

@@ -1,8 +1,8 @@
 //! The type `Sheet`.
 
 ghost use Rattle.std.specs.Prelude.{◌≡◌, ◌<◌, ◌≤◌, ◌^◌, [], All, length, slice_index_or};
-ghost use Rattle.viz_sheet.specs.Arrays.{names_in, cells_in, points_in};
-ghost use Rattle.viz_sheet.specs.Ranked.{AreRanks, names_at, named, ranks_of};
+ghost use Rattle.viz_sheet.specs.Arrays.{names_in, ranks_in, points_in};
+ghost use Rattle.viz_sheet.specs.Ranked.{AreRanks, by_names, names_at, ranks_of};
 ghost use Rattle.viz_sheet.specs.Sheet.{IsSheet};
 
 use crate::leaves::Leaves;
@@ -24,28 +24,28 @@ pub struct Sheet {
 
 impl Model for Sheet {
     ghost use Rattle.viz_sheet.specs.Sheet.{SheetData};
-    ghost use Rattle.viz_sheet.specs.Ranked.{AreRanks, named};
-    ghost use Rattle.viz_sheet.specs.Arrays.{names_in, cells_in, points_in};
+    ghost use Rattle.viz_sheet.specs.Ranked.{AreRanks, by_names};
+    ghost use Rattle.viz_sheet.specs.Arrays.{names_in, ranks_in, points_in};
 
     ghost Value = { SheetData };
 
     ghost view = { λ s. record {
       names = names_in s.leaves;
       points = points_in s.places;
-      cells = named (names_in s.leaves) (cells_in s.ranks);
+      cells = by_names (names_in s.leaves) (ranks_in s.ranks);
     } };
 
-    ghost invariant = { λ s. AreRanks (names_in s.leaves) (points_in s.places) (cells_in s.ranks) };
+    ghost invariant = { λ s. AreRanks (names_in s.leaves) (points_in s.places) (ranks_in s.ranks) };
 }
 
 impl Sheet {
     /// The sheet of names that ascend, a point for each, and cells by ranks. Where a name may have
     /// no cell, call `compacted`.
     pub fn new(leaves: Leaves, places: Places, ranks: Ranks) -> Sheet
-        requires ranks { AreRanks (names_in leaves) (points_in places) (cells_in ranks) }
+        requires ranks { AreRanks (names_in leaves) (points_in places) (ranks_in ranks) }
         ensures names { result.names ≡ names_in leaves }
         ensures points { result.points ≡ points_in places }
-        ensures cells { result.cells ≡ named (names_in leaves) (cells_in ranks) }
+        ensures cells { result.cells ≡ by_names (names_in leaves) (ranks_in ranks) }
     {
         Sheet {
             leaves,
@@ -119,8 +119,8 @@ impl Sheet {
 
     /// All cells, in the array that they are kept in.
     pub fn ranks(&self) -> &Ranks
-        ensures value { named self.now.names (cells_in result.now) ≡ self.now.cells }
-        ensures valid { AreRanks self.now.names self.now.points (cells_in result.now) }
+        ensures value { by_names self.now.names (ranks_in result.now) ≡ self.now.cells }
+        ensures valid { AreRanks self.now.names self.now.points (ranks_in result.now) }
     {
         &self.ranks
     }

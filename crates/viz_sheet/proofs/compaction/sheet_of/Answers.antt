@@ -1,6 +1,6 @@
 use Rattle.std.proofs.Common.{◌≡◌, ◌∙◌, ℕ, Bool, List, length, ap, subst, sym}
 use Rattle.viz_fraction.specs.Points.{Point}
-use Rattle.viz_sheet.specs.Arrays.{names_in, points_in, cells_in}
+use Rattle.viz_sheet.specs.Arrays.{names_in, points_in, ranks_in}
 use Rattle.viz_sheet.specs.Kept.{kept_rank, AreMarks}
 use Rattle.viz_sheet.specs.Sheet.{KeepPoints}
 use Rattle.viz_sheet.proofs.PassLemmas.{all_used, points_stay}
@@ -9,7 +9,7 @@ use Rattle.viz_sheet.proofs.compaction.sheet_of.Goals as goal
 pub new-requires : goal.new-requires
 new-requires c =
     let names = names_in c.args.leaves in
-    let cells = cells_in c.args.ranks in
+    let cells = ranks_in c.args.ranks in
     let marks = c.in_ok-marks.marks.items in
     let are_marks : AreMarks (length names) cells marks = subst (λ n. AreMarks n cells marks) c.len.ensures.value c.in_ok-marks.ensures in
     let all : kept_rank marks (length marks) ≡ length names =

@@ -1,14 +1,14 @@
 use Rattle.std.proofs.Common.{◌≡◌, ◌++◌, Bool, false, List, length, take, drop, replicate, subst, arith, rules, ◌∙◌}
 use Rattle.std.proofs.lemmas.Grind.{common_steps}
 use Rattle.std.specs.List.{flat_map}
-use Rattle.viz_sheet.specs.Arrays.{cells_in}
+use Rattle.viz_sheet.specs.Arrays.{ranks_in}
 use Rattle.viz_sheet.specs.Steps.Marking.{IsMarkedBy}
 use Rattle.viz_sheet.proofs.MarkingLemmas.{just_marked}
 use Rattle.viz_sheet.proofs.marks.marks_of.Goals as goal
 
 pub returns : goal.returns
 returns c =
-    let cells = cells_in c.args.cells.now in
+    let cells = ranks_in c.args.cells.now in
     let new = c.mark_ranks.new.marks in
     let items = c.in_ok-marks.marks.items in
     let first : items ≡ replicate c.args.count false = search rules in
