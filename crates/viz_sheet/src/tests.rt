@@ -76,113 +76,114 @@ fn shows(rt: &impl Abort, sheet: &Sheet, names: &[&[u32]], along: &[i128], cells
     }
 }
 
+// Lent arrays and arrays that are given up make a sheet with these names, points and cells.
+fn shows_both(
+    rt: &impl Abort,
+    alloc: Global,
+    (leaves, places, ranks): (Leaves, Places, Ranks),
+    (names, along): (&[&[u32]], &[i128]),
+    cells: &[&[u32]],
+) -> Result<(), Fail> {
+    let lent = compacted_of(alloc, &leaves, &places, &ranks)?;
+    shows(rt, &lent, names, along, cells);
+    let given_up = sheet_by(alloc, leaves, places, ranks)?;
+    shows(rt, &given_up, names, along, cells);
+    Ok(())
+}
+
 #[test]
 fn two_triangles_share_an_edge(rt: HostRuntime) -> Result<(), Fail> {
-    let alloc = rt.alloc();
-    let square = Ranks::Triangles(vec![in alloc; [0, 1, 2], [2, 1, 3]]?);
-    let leaves = Leaves::of_points(alloc, 4)?;
-    let places = small_points(alloc, 4)?;
-    let names: [&[u32]; 4] = [&[0], &[1], &[2], &[3]];
-    let cells: [&[u32]; 2] = [&[0, 1, 2], &[2, 1, 3]];
-    let copy = compacted_of(alloc, &leaves, &places, &square)?;
-    shows(&rt, &copy, &names, &[0, 1, 2, 3], &cells);
-    let sheet = sheet_by(alloc, leaves, places, square)?;
-    shows(&rt, &sheet, &names, &[0, 1, 2, 3], &cells);
-    Ok(())
+    let leaves = Leaves::of_points(rt.alloc(), 4)?;
+    let places = small_points(rt.alloc(), 4)?;
+    let square = Ranks::Triangles(vec![in rt.alloc(); [0, 1, 2], [2, 1, 3]]?);
+    shows_both(
+        &rt,
+        rt.alloc(),
+        (leaves, places, square),
+        (&[&[0], &[1], &[2], &[3]], &[0, 1, 2, 3]),
+        &[&[0, 1, 2], &[2, 1, 3]],
+    )
 }
 
 #[test]
 fn a_middle_name_is_dropped(rt: HostRuntime) -> Result<(), Fail> {
-    let alloc = rt.alloc();
-    let leaves = Leaves::Two(vec![in alloc; [0, 1], [0, 5], [2, 3], [4, 9]]?);
-    let places = wide_points(alloc, 4)?;
-    let lines = Ranks::Lines(vec![in alloc; [0, 3], [3, 1]]?);
-    let names: [&[u32]; 3] = [&[0, 1], &[0, 5], &[4, 9]];
-    let cells: [&[u32]; 2] = [&[0, 2], &[2, 1]];
-    let copy = compacted_of(alloc, &leaves, &places, &lines)?;
-    shows(&rt, &copy, &names, &[0, 1, 3], &cells);
-    let sheet = sheet_by(alloc, leaves, places, lines)?;
-    shows(&rt, &sheet, &names, &[0, 1, 3], &cells);
-    Ok(())
+    let leaves = Leaves::Two(vec![in rt.alloc(); [0, 1], [0, 5], [2, 3], [4, 9]]?);
+    let places = wide_points(rt.alloc(), 4)?;
+    let lines = Ranks::Lines(vec![in rt.alloc(); [0, 3], [3, 1]]?);
+    shows_both(
+        &rt,
+        rt.alloc(),
+        (leaves, places, lines),
+        (&[&[0, 1], &[0, 5], &[4, 9]], &[0, 1, 3]),
+        &[&[0, 2], &[2, 1]],
+    )
 }
 
-// Of six points the first and the fourth have no cell.
-fn among_six(alloc: Global, ranks: Ranks) -> Result<Sheet, Fail> {
+// Of six points the first and the fourth have no cell, and these are the cells of the others.
+fn shows_of_six(
+    rt: &impl Abort,
+    alloc: Global,
+    ranks: Ranks,
+    cells: &[&[u32]],
+) -> Result<(), Fail> {
     let leaves = Leaves::of_points(alloc, 6)?;
-    sheet_by(alloc, leaves, small_points(alloc, 6)?, ranks)
+    let places = small_points(alloc, 6)?;
+    let sheet = sheet_by(alloc, leaves, places, ranks)?;
+    shows(rt, &sheet, &[&[1], &[2], &[4], &[5]], &[1, 2, 4, 5], cells);
+    Ok(())
 }
 
 #[test]
-fn cells_of_each_size_are_renumbered(rt: HostRuntime) -> Result<(), Fail> {
-    let alloc = rt.alloc();
-    let names: [&[u32]; 4] = [&[1], &[2], &[4], &[5]];
-    let along = [1, 2, 4, 5];
-    let vertices = Ranks::Vertices(vec![in alloc; [5], [1], [2], [4]]?);
-    shows(
+fn small_cells_are_renumbered(rt: HostRuntime) -> Result<(), Fail> {
+    let vertices = Ranks::Vertices(vec![in rt.alloc(); [5], [1], [2], [4]]?);
+    shows_of_six(&rt, rt.alloc(), vertices, &[&[3], &[0], &[1], &[2]])?;
+    let lines = Ranks::Lines(vec![in rt.alloc(); [5, 1], [2, 4]]?);
+    shows_of_six(&rt, rt.alloc(), lines, &[&[3, 0], &[1, 2]])
+}
+
+#[test]
+fn large_cells_are_renumbered(rt: HostRuntime) -> Result<(), Fail> {
+    let triangles = Ranks::Triangles(vec![in rt.alloc(); [5, 1, 2], [2, 1, 4]]?);
+    shows_of_six(&rt, rt.alloc(), triangles, &[&[3, 0, 1], &[1, 0, 2]])?;
+    let tetrahedra = Ranks::Tetrahedra(vec![in rt.alloc(); [4, 5, 2, 1]]?);
+    shows_of_six(&rt, rt.alloc(), tetrahedra, &[&[2, 3, 1, 0]])
+}
+
+#[test]
+fn cells_of_any_size_are_renumbered(rt: HostRuntime) -> Result<(), Fail> {
+    let mut cells = Vec::new(rt.alloc());
+    // What stands behind a cell's ranks is filler.
+    cells.push(Mixed::new(1, [5, 9, 9, 9]))?;
+    cells.push(Mixed::new(3, [4, 2, 1, 9]))?;
+    cells.push(Mixed::new(4, [1, 2, 4, 5]))?;
+    shows_of_six(
         &rt,
-        &among_six(alloc, vertices)?,
-        &names,
-        &along,
-        &[&[3], &[0], &[1], &[2]],
-    );
-    let lines = Ranks::Lines(vec![in alloc; [5, 1], [2, 4]]?);
-    shows(
-        &rt,
-        &among_six(alloc, lines)?,
-        &names,
-        &along,
-        &[&[3, 0], &[1, 2]],
-    );
-    let triangles = Ranks::Triangles(vec![in alloc; [5, 1, 2], [2, 1, 4]]?);
-    shows(
-        &rt,
-        &among_six(alloc, triangles)?,
-        &names,
-        &along,
-        &[&[3, 0, 1], &[1, 0, 2]],
-    );
-    let tetrahedra = Ranks::Tetrahedra(vec![in alloc; [4, 5, 2, 1]]?);
-    shows(
-        &rt,
-        &among_six(alloc, tetrahedra)?,
-        &names,
-        &along,
-        &[&[2, 3, 1, 0]],
-    );
-    let mut mixed = Vec::new(alloc);
-    mixed.push(Mixed::new(1, [5, 9, 9, 9]))?;
-    mixed.push(Mixed::new(3, [4, 2, 1, 9]))?;
-    mixed.push(Mixed::new(4, [1, 2, 4, 5]))?;
-    let any = among_six(alloc, Ranks::Any(mixed))?;
-    shows(
-        &rt,
-        &any,
-        &names,
-        &along,
+        rt.alloc(),
+        Ranks::Any(cells),
         &[&[3], &[2, 1, 0], &[0, 1, 2, 3]],
-    );
-    Ok(())
+    )
 }
 
 #[test]
 fn names_have_1_to_8_leaves(rt: HostRuntime) -> Result<(), Fail> {
-    let alloc = rt.alloc();
-    let eight = [0, 1, 0, 2, 0, 1, 0, 4];
-    let other = [0, 1, 0, 2, 0, 1, 0, 3];
-    for (leaves, size) in [
-        (Leaves::One(vec![in alloc; [3]]?), 1),
-        (Leaves::Two(vec![in alloc; [3, 4]]?), 2),
-        (Leaves::Four(vec![in alloc; [3, 4, 3, 5]]?), 4),
-        (Leaves::Eight(vec![in alloc; other]?), 8),
-    ] {
-        assert_eq!(rt; leaves.size(), size, "{size}");
-    }
-    // The last leaf decides.
-    let leaves = Leaves::Eight(vec![in alloc; other, eight]?);
-    let ranks = Ranks::Lines(vec![in alloc; [1, 0]]?);
-    let sheet = sheet_by(alloc, leaves, small_points(alloc, 2)?, ranks)?;
-    shows(&rt, &sheet, &[&other, &eight], &[0, 1], &[&[1, 0]]);
-    let mesh = Mesh::new(vec![in alloc; sheet]?);
+    assert_eq!(rt; Leaves::One(vec![in rt.alloc(); [3]]?).size(), 1);
+    assert_eq!(rt; Leaves::Two(vec![in rt.alloc(); [3, 4]]?).size(), 2);
+    assert_eq!(rt; Leaves::Four(vec![in rt.alloc(); [3, 4, 3, 5]]?).size(), 4);
+    let eight = vec![in rt.alloc(); [0, 1, 0, 2, 0, 1, 0, 3]]?;
+    assert_eq!(rt; Leaves::Eight(eight).size(), 8);
+    Ok(())
+}
+
+#[test]
+fn the_last_leaf_decides(rt: HostRuntime) -> Result<(), Fail> {
+    let first = [0, 1, 0, 2, 0, 1, 0, 3];
+    let second = [0, 1, 0, 2, 0, 1, 0, 4];
+    let leaves = Leaves::Eight(vec![in rt.alloc(); first, second]?);
+    let places = small_points(rt.alloc(), 2)?;
+    let lines = Ranks::Lines(vec![in rt.alloc(); [1, 0]]?);
+    let sheet = sheet_by(rt.alloc(), leaves, places, lines)?;
+    shows(&rt, &sheet, &[&first, &second], &[0, 1], &[&[1, 0]]);
+    let mesh = Mesh::new(vec![in rt.alloc(); sheet]?);
     assert_eq!(rt; mesh.sheets().len(), 1);
     assert_eq!(rt; mesh.into_sheets().len(), 1);
     Ok(())
@@ -207,21 +208,34 @@ fn cells_have_1_to_4_different_ranks(rt: HostRuntime) {
     }
 }
 
+// Whether a triangle with these ranks is a cell of these names and so many points.
+fn is_accepted(
+    alloc: Global,
+    names: [[u32; 2]; 3],
+    points: u32,
+    cell: [u32; 3],
+) -> Result<bool, Fail> {
+    let leaves = Leaves::Two(Vec::from_array(alloc, names)?);
+    let places = small_points(alloc, points)?;
+    let ranks = Ranks::Triangles(vec![in alloc; cell]?);
+    Ok(are_cells(&leaves, &places, &ranks))
+}
+
 #[test]
 fn names_ascend_and_each_has_a_point(rt: HostRuntime) -> Result<(), Fail> {
-    let alloc = rt.alloc();
     for (names, points, cell, want) in [
         ([[0, 5], [1, 2], [1, 3]], 3, [0, 1, 2], true),
+        // Names that fall, by the second leaf alone, and that are equal.
         ([[0, 5], [1, 3], [1, 2]], 3, [0, 1, 2], false),
         ([[0, 5], [0, 5], [1, 2]], 3, [0, 1, 2], false),
+        // A point too few, and one too many.
         ([[0, 5], [1, 2], [1, 3]], 2, [0, 1, 2], false),
         ([[0, 5], [1, 2], [1, 3]], 4, [0, 1, 2], false),
+        // A rank that no name has, and one that comes twice.
         ([[0, 5], [1, 2], [1, 3]], 3, [0, 1, 3], false),
         ([[0, 5], [1, 2], [1, 3]], 3, [0, 1, 0], false),
     ] {
-        let leaves = Leaves::Two(Vec::from_array(alloc, names)?);
-        let ranks = Ranks::Triangles(vec![in alloc; cell]?);
-        let found = are_cells(&leaves, &small_points(alloc, points)?, &ranks);
+        let found = is_accepted(rt.alloc(), names, points, cell)?;
         assert_eq!(rt; found, want, "{names:?} {points} {cell:?}");
     }
     Ok(())
