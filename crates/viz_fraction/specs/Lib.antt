@@ -1,5 +1,6 @@
 pub mod Divisors
 pub mod Points
+pub mod Small
 pub mod Numbers
 pub mod Forms
 pub mod Sums

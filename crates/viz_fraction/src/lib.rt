@@ -16,6 +16,7 @@ mod laws;
 mod numbers;
 mod points;
 mod products;
+mod small_points;
 mod steps;
 
 pub use case_laws::{
@@ -30,6 +31,7 @@ pub use laws::{
 };
 pub use numbers::WIDEST;
 pub use points::{Point5, TooWide, point};
+pub use small_points::{SmallPoint, small};
 
 #[cfg(test)]
 mod case_tests;

@@ -196,3 +196,17 @@ fn divided(n: &Numbers, divisor: &i128) -> Point5
         w: quotient(&n.w, divisor),
     }
 }
+
+/// Five numbers that are a point as they stand.
+pub(crate) fn point_as_it_stands(n: &Numbers) -> Point5
+    requires { IsPoint (point_of n.now) }
+    ensures { result ≡ point_of n.now }
+{
+    Point5 {
+        x: n.x,
+        y: n.y,
+        z: n.z,
+        s: n.s,
+        w: n.w,
+    }
+}

@@ -1,5 +1,5 @@
 //! Points, values, crossings and decimals reckoned by hand, up to the widest numbers.
-use crate::{Form, Point5, TooWide, crossing, fixed, is_inside, point, value};
+use crate::{Form, Point5, TooWide, crossing, fixed, is_inside, point, small, value};
 use std::test::Fail;
 
 /// The widest number, 2^120.
@@ -45,6 +45,41 @@ fn points_are_in_lowest_terms(rt: HostRuntime) -> Result<(), Fail> {
         assert_eq!(rt; got, want, "{x} {y} {z} {s} {w}");
     }
     Ok(())
+}
+
+/// The five numbers of a point that was made small and wide again, where it can be small.
+fn small_and_wide([x, y, z, s, w]: [i128; 5]) -> Option<[i128; 5]> {
+    if w <= 0 {
+        return None;
+    }
+    let Ok(p) = point(x, y, z, s, w) else {
+        return None;
+    };
+    match small(&p) {
+        Some(q) => Some(five(&q.wide())),
+        None => None,
+    }
+}
+
+#[test]
+fn small_points_fit_64_bits(rt: HostRuntime) {
+    let most = i128::from(i64::MAX);
+    let least = i128::from(i64::MIN);
+    for (numbers, fits) in [
+        ([1, -2, 3, -4, 5], true),
+        // The ends of 64 bits.
+        ([most, least, most, least, 1], true),
+        ([least, most, least, most, most - 1], true),
+        // One past an end, by each of the five.
+        ([most + 1, 0, 0, 0, 1], false),
+        ([0, least - 1, 0, 0, 1], false),
+        ([0, 0, most + 1, 0, 1], false),
+        ([0, 0, 0, least - 1, 1], false),
+        ([1, 0, 0, 0, most + 1], false),
+    ] {
+        let want = if fits { Some(numbers) } else { None };
+        assert_eq!(rt; small_and_wide(numbers), want, "{numbers:?}");
+    }
 }
 
 #[test]

@@ -1,0 +1,11 @@
+pub mod PairOrder
+pub mod MemberLemmas
+pub mod RankLemmas
+pub mod SheetLemmas
+pub mod KeptLemmas
+pub mod CompactedLemmas
+pub mod MarkingLemmas
+pub mod LookupLemmas
+pub mod PassLemmas
+pub mod LeafLemmas
+pub mod RuleLemmas
