@@ -1,0 +1,4 @@
+pub mod Loops
+pub mod MeetLemmas
+pub mod PointLaws
+pub mod SectionLaws

@@ -1,0 +1,9 @@
+use Rattle.viz_mesh_read.proofs.PointLaws.{decides-points}
+use Rattle.viz_mesh_read.proofs.SectionLaws.{decides-section_numbers}
+use Rattle.viz_mesh_read.proofs.laws.readers_decide_their_rules.Goals as goal
+
+pub returns-clause-points : goal.returns-clause-points
+returns-clause-points c = decides-points
+
+pub returns-clause-section : goal.returns-clause-section
+returns-clause-section c = decides-section_numbers

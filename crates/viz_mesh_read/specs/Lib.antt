@@ -1,0 +1,4 @@
+pub mod Geometry
+pub mod Points
+pub mod Sections
+pub mod Steps

@@ -1,0 +1,17 @@
+//! The geometry of a grid or polydata file: its points, and its cells by the indices of points.
+//!
+//! Contract: each reader gives just what the rules say, or the first fault. Definitions:
+//! `specs/Points.antt` and `specs/Sections.antt`; the rules are those of docs/FORMATS.md, "Grids
+//! and polydata".
+#![tactic(auto)]
+
+mod arrays;
+mod coordinates;
+mod counts;
+mod laws;
+mod numbers;
+mod sections;
+
+pub use coordinates::{FilePoints, points};
+pub use laws::{geometry_is_definite, readers_decide_their_rules};
+pub use sections::{CellSection, section};
