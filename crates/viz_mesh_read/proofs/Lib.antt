@@ -1,3 +1,5 @@
+pub mod GridLaws
+pub mod GridLoops
 pub mod Loops
 pub mod MeetLemmas
 pub mod PointLaws

@@ -191,7 +191,7 @@ cells-list binary points size (suc n) front r =
 -- ---- a section
 
 -- a section by its numbers
-abbrev as_numbers : List (List ℕ) × Reading → Result ((ℕ × List ℕ) × Reading) FileFault
+abbrev pub as_numbers : List (List ℕ) × Reading → Result ((ℕ × List ℕ) × Reading) FileFault
 as_numbers x = Ok ((length x.0, numbers_of_cells x.0), x.1)
 
 section_counted : (n : ℕ) (read : Result (List (List ℕ) × Reading) FileFault) → ((all : List (List ℕ)) (after : Reading) → read ≡ Ok (all, after) → length all ≡ n)
@@ -224,7 +224,7 @@ section_begun : (binary : Bool) (points : ℕ) (read : Result (ℕ × Reading) F
 section_begun binary points (Ok n) = section_sized binary points n.0 (section_size_at n.0 n.1)
 section_begun binary points (Err f) = refl
 
-section_at-list : (binary : Bool) (points : ℕ) (r : Reading) → section_at binary points r ≡ (section_list_at binary points r >>= as_numbers)
+pub section_at-list : (binary : Bool) (points : ℕ) (r : Reading) → section_at binary points r ≡ (section_list_at binary points r >>= as_numbers)
 unfolding section_at
 section_at-list binary points r = section_begun binary points (count_from_at 0 r)
 

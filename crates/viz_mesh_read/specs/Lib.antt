@@ -1,4 +1,6 @@
 pub mod Geometry
 pub mod Points
 pub mod Sections
+pub mod Grid
 pub mod Steps
+pub mod GridSteps

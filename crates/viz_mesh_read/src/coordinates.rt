@@ -33,7 +33,11 @@ fn kind_of(stored: Stored) -> Kind8
 }
 
 #[tactic(auto, unfolding(crate::specs::Steps::points_at))]
-fn all_points(alloc: Global, lexer: &mut Lexer<'_>, binary: bool) -> Result<FilePoints, AttrStop>
+pub(crate) fn all_points(
+    alloc: Global,
+    lexer: &mut Lexer<'_>,
+    binary: bool,
+) -> Result<FilePoints, AttrStop>
     ensures exact { ReadsUnlessMemory (λ p. p) result lexer.new (points_at binary lexer.old) }
     ensures few { IfOk result (λ p. p.count < 2 ^ 31) }
 {

@@ -8,10 +8,14 @@
 mod arrays;
 mod coordinates;
 mod counts;
+mod fields;
+mod grids;
 mod laws;
 mod numbers;
 mod sections;
+mod types;
 
 pub use coordinates::{FilePoints, points};
+pub use grids::{GridFile, grid};
 pub use laws::{geometry_is_definite, readers_decide_their_rules};
 pub use sections::{CellSection, section};

@@ -89,7 +89,7 @@ fn cells(
 
 /// A section behind its keyword, in a file of so many points: n size, and n cells.
 #[tactic(auto, unfolding(crate::specs::Steps::section_at))]
-fn all_cells(
+pub(crate) fn all_cells(
     alloc: Global,
     lexer: &mut Lexer<'_>,
     binary: bool,

@@ -4,6 +4,8 @@ use Rattle.viz_mesh_read.specs.Sections.{section}
 use Rattle.viz_mesh_read.specs.Steps.{points_at}
 use Rattle.viz_mesh_read.proofs.PointLaws.{decides-points}
 use Rattle.viz_mesh_read.proofs.SectionLaws.{section_list_at, decides-section}
+use Rattle.viz_mesh_read.specs.Grid.{grid}
+use Rattle.viz_mesh_read.proofs.GridLaws.{grid_list_at, decides-grid}
 use Rattle.viz_mesh_read.proofs.laws.geometry_is_definite.Goals as goal
 
 pub returns-clause-points : goal.returns-clause-points
@@ -11,3 +13,6 @@ returns-clause-points c = λ binary. IsDefinite-decided (points binary) (points_
 
 pub returns-clause-section : goal.returns-clause-section
 returns-clause-section c = λ binary n. IsDefinite-decided (section binary n) (section_list_at binary n) (decides-section binary n)
+
+pub returns-clause-grid : goal.returns-clause-grid
+returns-clause-grid c = λ binary later. IsDefinite-decided (grid binary later) (grid_list_at binary later) (decides-grid binary later)

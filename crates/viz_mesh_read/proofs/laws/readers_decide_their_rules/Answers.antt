@@ -1,5 +1,6 @@
 use Rattle.viz_mesh_read.proofs.PointLaws.{decides-points}
 use Rattle.viz_mesh_read.proofs.SectionLaws.{decides-section_numbers}
+use Rattle.viz_mesh_read.proofs.GridLaws.{decides-grid_numbers}
 use Rattle.viz_mesh_read.proofs.laws.readers_decide_their_rules.Goals as goal
 
 pub returns-clause-points : goal.returns-clause-points
@@ -7,3 +8,6 @@ returns-clause-points c = decides-points
 
 pub returns-clause-section : goal.returns-clause-section
 returns-clause-section c = decides-section_numbers
+
+pub returns-clause-grid : goal.returns-clause-grid
+returns-clause-grid c = decides-grid_numbers
