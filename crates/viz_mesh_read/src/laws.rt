@@ -7,13 +7,16 @@ ghost use Rattle.viz_mesh_read.specs.Points.{points};
 ghost use Rattle.viz_mesh_read.specs.Sections.{section, section_numbers};
 ghost use Rattle.viz_mesh_read.specs.Grid.{grid, grid_numbers};
 ghost use Rattle.viz_mesh_read.specs.GridSteps.{grid_at};
+ghost use Rattle.viz_mesh_read.specs.Poly.{polydata, polydata_numbers};
+ghost use Rattle.viz_mesh_read.specs.PolySteps.{polydata_at};
 ghost use Rattle.viz_mesh_read.specs.Steps.{points_at, section_at};
 
-/// For each text there is exactly one answer: points, cells or a grid, or a fault.
+/// For each text there is exactly one answer: points, cells, a grid or polydata, or a fault.
 pub fn geometry_is_definite()
     ensures points { (binary : Bool) → IsDefinite (points binary) }
     ensures section { (binary : Bool) (n : ℕ) → IsDefinite (section binary n) }
     ensures grid { (binary later : Bool) → IsDefinite (grid binary later) }
+    ensures polydata { (binary later : Bool) → IsDefinite (polydata binary later) }
 {}
 
 /// Each reader of this crate decides its rule: it gives just what stands there, and else the fault.
@@ -23,4 +26,6 @@ pub fn readers_decide_their_rules()
         → Decides (section_numbers binary n) (section_at binary n) }
     ensures grid { (binary later : Bool)
         → Decides (grid_numbers binary later) (grid_at binary later) }
+    ensures polydata { (binary later : Bool)
+        → Decides (polydata_numbers binary later) (polydata_at binary later) }
 {}

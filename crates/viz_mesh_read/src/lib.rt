@@ -12,10 +12,12 @@ mod fields;
 mod grids;
 mod laws;
 mod numbers;
+mod polydata;
 mod sections;
 mod types;
 
 pub use coordinates::{FilePoints, points};
 pub use grids::{GridFile, grid};
 pub use laws::{geometry_is_definite, readers_decide_their_rules};
+pub use polydata::{PolyCells, PolyFile, poly_file};
 pub use sections::{CellSection, section};
