@@ -1,5 +1,5 @@
 -- The reader of polydata decides its rule.
-use Rattle.std.proofs.Common.{◌≡◌, ℕ, zero, suc, Bool, true, false, not, List, [], length, Result, Ok, Err, refl, sym, ap, ◌∙◌}
+use Rattle.std.proofs.Common.{◌≡◌, ℕ, zero, suc, Bool, true, false, not, List, [], Result, Ok, Err, refl, ap, ◌∙◌}
 use Rattle.std.specs.Prelude.{if◌then◌else◌}
 use Rattle.viz_lex.specs.declared.fault.FileFault.{FileFault}
 use Rattle.viz_lex.specs.declared.fault.FileKind.TheVariants.{Sections51}
@@ -11,11 +11,11 @@ use Rattle.viz_lex.proofs.RuleLemmas.{decides-gives, decides-follow, decides-dem
 use Rattle.viz_lex.proofs.ItemLemmas.{decides-word}
 use Rattle.viz_lex.proofs.PassRules.{decides-same}
 use Rattle.viz_mesh_read.specs.declared.coordinates.FilePoints.{FilePoints}
-use Rattle.viz_mesh_read.specs.declared.polydata.SectionKind.{SectionKind}
-use Rattle.viz_mesh_read.specs.declared.polydata.SectionKind.TheVariants.{Vertices, Lines, Polygons, Strips}
-use Rattle.viz_mesh_read.specs.declared.polydata.Seen.{Seen}
+use Rattle.viz_mesh_read.specs.declared.poly.SectionKind.{SectionKind}
+use Rattle.viz_mesh_read.specs.declared.poly.SectionKind.TheVariants.{Vertices, Lines, Polygons, Strips}
+use Rattle.viz_mesh_read.specs.declared.poly.Seen.{Seen}
 use Rattle.viz_mesh_read.specs.Points.{points}
-use Rattle.viz_mesh_read.specs.Sections.{section, numbers_of_cells}
+use Rattle.viz_mesh_read.specs.Sections.{section}
 use Rattle.viz_mesh_read.specs.Grid.{fields}
 use Rattle.viz_mesh_read.specs.Poly.{ByKind, for_each, with_kind, kind_named, none_seen, seen_with, is_due, sections, Poly, polydata, numbers_of_section, numbers_by_kind, polydata_numbers}
 use Rattle.viz_mesh_read.specs.Steps.{points_at, section_at}

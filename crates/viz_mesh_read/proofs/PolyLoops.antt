@@ -1,13 +1,12 @@
 -- Reading sections one after the other, as a loop does.
-use Rattle.std.proofs.Common.{◌≡◌, ℕ, zero, suc, ◌-◌, ◌+◌, ◌≤◌, ◌<◌, Bool, true, false, List, Result, Ok, Err, refl, sym, ◌∙◌, arith}
-use Rattle.std.specs.Prelude.{if◌then◌else◌}
+use Rattle.std.proofs.Common.{◌≡◌, ℕ, suc, ◌-◌, ◌+◌, ◌≤◌, ◌<◌, Bool, true, false, List, Result, Ok, Err, refl, sym, ◌∙◌, arith}
 use Rattle.viz_lex.specs.declared.fault.FileFault.{FileFault}
-use Rattle.viz_lex.specs.Reading.{Reading, ◌>>=◌}
+use Rattle.viz_lex.specs.Reading.{Reading}
 use Rattle.viz_attr.specs.declared.stop.AttrStop.{AttrStop}
 use Rattle.viz_attr.specs.declared.stop.AttrStop.TheVariants.{File, Memory}
 use Rattle.viz_attr.specs.Reads.{Stops}
-use Rattle.viz_mesh_read.specs.declared.polydata.SectionKind.{SectionKind}
-use Rattle.viz_mesh_read.specs.declared.polydata.Seen.{Seen}
+use Rattle.viz_mesh_read.specs.declared.poly.SectionKind.{SectionKind}
+use Rattle.viz_mesh_read.specs.declared.poly.Seen.{Seen}
 use Rattle.viz_mesh_read.specs.Poly.{ByKind, with_kind, seen_with, is_due}
 use Rattle.viz_mesh_read.specs.GridSteps.{fields_at}
 use Rattle.viz_mesh_read.specs.PolySteps.{kind_at, sections_at}

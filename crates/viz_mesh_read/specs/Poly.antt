@@ -6,11 +6,11 @@ use Rattle.viz_lex.specs.Steps.{same_word, is_next}
 use Rattle.viz_lex.specs.Rules.{Rule, gives, demand, beside, ◌>>=◌}
 use Rattle.viz_lex.specs.Items.{word}
 use Rattle.viz_mesh_read.specs.declared.coordinates.FilePoints.{FilePoints}
-use Rattle.viz_mesh_read.specs.declared.polydata.SectionKind.{SectionKind}
-use Rattle.viz_mesh_read.specs.declared.polydata.SectionKind.TheVariants.{Vertices, Lines, Polygons, Strips}
-use Rattle.viz_mesh_read.specs.declared.polydata.Seen.{Seen}
-use Rattle.viz_mesh_read.specs.declared.polydata.PolyCells.{PolyCells}
-use Rattle.viz_mesh_read.specs.declared.polydata.PolyFile.{PolyFile}
+use Rattle.viz_mesh_read.specs.declared.poly.SectionKind.{SectionKind}
+use Rattle.viz_mesh_read.specs.declared.poly.SectionKind.TheVariants.{Vertices, Lines, Polygons, Strips}
+use Rattle.viz_mesh_read.specs.declared.poly.Seen.{Seen}
+use Rattle.viz_mesh_read.specs.declared.poly.PolyCells.{PolyCells}
+use Rattle.viz_mesh_read.specs.declared.poly.PolyFile.{PolyFile}
 use Rattle.viz_mesh_read.specs.Points.{points}
 use Rattle.viz_mesh_read.specs.Sections.{section, numbers_of_cells, section_of}
 use Rattle.viz_mesh_read.specs.Grid.{fields}
@@ -63,11 +63,11 @@ sections binary later points zero seen all = gives all
 sections binary later points (suc n) seen all = do
   passed ← fields binary
   beside (is_due seen) (do
-      key ← word
-      demand (not later) (fault_at Sections51 key.0) (do
-          cells ← section binary points
-          sections binary later points n (seen_with seen (kind_named key.1)) (with_kind all (kind_named key.1) cells)))
-    (gives all)
+    key ← word
+    demand (not later) (fault_at Sections51 key.0) (do
+      cells ← section binary points
+      sections binary later points n (seen_with seen (kind_named key.1)) (with_kind all (kind_named key.1) cells)))
+      (gives all)
 
 -- the points and the cells of polydata
 pub record Poly : Type 0 where

@@ -5,8 +5,8 @@ use Rattle.viz_lex.specs.declared.fault.FileKind.TheVariants.{Sections51}
 use Rattle.viz_lex.specs.Reading.{Reading, ◌>>=◌}
 use Rattle.viz_lex.specs.Steps.{guard, due_word}
 use Rattle.viz_mesh_read.specs.declared.coordinates.FilePoints.{FilePoints}
-use Rattle.viz_mesh_read.specs.declared.polydata.SectionKind.{SectionKind}
-use Rattle.viz_mesh_read.specs.declared.polydata.Seen.{Seen}
+use Rattle.viz_mesh_read.specs.declared.poly.SectionKind.{SectionKind}
+use Rattle.viz_mesh_read.specs.declared.poly.Seen.{Seen}
 use Rattle.viz_mesh_read.specs.Poly.{ByKind, for_each, with_kind, kind_named, none_seen, seen_with, is_due}
 use Rattle.viz_mesh_read.specs.Steps.{points_at, section_at}
 use Rattle.viz_mesh_read.specs.GridSteps.{fields_at}

@@ -12,12 +12,15 @@ mod fields;
 mod grids;
 mod laws;
 mod numbers;
-mod polydata;
+mod poly;
 mod sections;
 mod types;
 
 pub use coordinates::{FilePoints, points};
 pub use grids::{GridFile, grid};
 pub use laws::{geometry_is_definite, readers_decide_their_rules};
-pub use polydata::{PolyCells, PolyFile, poly_file};
+pub use poly::{PolyCells, PolyFile, polydata};
 pub use sections::{CellSection, section};
+
+#[cfg(test)]
+mod tests;

@@ -1,7 +1,7 @@
 use Rattle.std.proofs.Common.{◌≡◌, ◌-◌, []}
 use Rattle.viz_mesh_read.specs.Poly.{for_each, none_seen, sections_of}
 use Rattle.viz_mesh_read.specs.PolySteps.{sections_at}
-use Rattle.viz_mesh_read.proofs.polydata.poly_cells.Given as goal
+use Rattle.viz_mesh_read.proofs.poly.poly_cells.Given as goal
 
 -- what comes of the sections that are left is what comes of all
 abbrev pub invariant-loop : goal.invariant-loop

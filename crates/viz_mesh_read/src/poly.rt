@@ -222,7 +222,7 @@ fn whole_polydata(
 /// The geometry of polydata: called behind the words DATASET POLYDATA. It ends where the next word
 /// is the keyword of no section, or of one that was read. `later` says that the file has version
 /// 5.1 or above, where sections stand otherwise and aren't read.
-pub fn poly_file(
+pub fn polydata(
     alloc: Global,
     lexer: &mut Lexer<'_>,
     binary: bool,
