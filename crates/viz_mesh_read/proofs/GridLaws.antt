@@ -81,7 +81,7 @@ decides-cell_types_list binary [] = decides-gives tt
 decides-cell_types_list binary (cell ∷ cells) =
     decides-follow (cell_type binary (length cell)) _ (cell_type_at binary (length cell)) _ (decides-cell_type binary (length cell)) (λ x. decides-cell_types_list binary cells)
 
-behind_cell : (cell numbers : List ℕ) → behind_first (cell_numbers cell ++ numbers) ≡ numbers
+pub behind_cell : (cell numbers : List ℕ) → behind_first (cell_numbers cell ++ numbers) ≡ numbers
 behind_cell cell numbers = drop_front cell numbers where
   drop_front : (xs ys : List ℕ) → drop (length xs) (xs ++ ys) ≡ ys
   drop_front [] ys = refl

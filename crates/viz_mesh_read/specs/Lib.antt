@@ -3,6 +3,7 @@ pub mod Points
 pub mod Sections
 pub mod Grid
 pub mod Poly
+pub mod Pieces
 pub mod Steps
 pub mod GridSteps
 pub mod PolySteps

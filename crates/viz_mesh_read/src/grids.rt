@@ -67,7 +67,7 @@ pub fn grid(
     binary: bool,
     later: bool,
 ) -> Result<GridFile, AttrStop>
-    ensures { MeetsBy grid_of (grid_numbers binary later) result lexer.old lexer.new }
+    ensures meets { MeetsBy grid_of (grid_numbers binary later) result lexer.old lexer.new }
 {
     whole_grid(alloc, lexer, binary, later)
 }

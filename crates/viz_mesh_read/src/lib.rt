@@ -12,6 +12,7 @@ mod fields;
 mod grids;
 mod laws;
 mod numbers;
+mod pieces;
 mod poly;
 mod sections;
 mod types;
@@ -19,6 +20,7 @@ mod types;
 pub use coordinates::{FilePoints, points};
 pub use grids::{GridFile, grid};
 pub use laws::{geometry_is_definite, readers_decide_their_rules};
+pub use pieces::{PolyPieces, split};
 pub use poly::{PolyCells, PolyFile, polydata};
 pub use sections::{CellSection, section};
 

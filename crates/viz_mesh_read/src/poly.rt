@@ -228,7 +228,7 @@ pub fn polydata(
     binary: bool,
     later: bool,
 ) -> Result<PolyFile, AttrStop>
-    ensures { MeetsBy polydata_of (polydata_numbers binary later) result lexer.old lexer.new }
+    ensures meets { MeetsBy polydata_of (polydata_numbers binary later) result lexer.old lexer.new }
 {
     whole_polydata(alloc, lexer, binary, later)
 }

@@ -117,7 +117,7 @@ pub fn section(
     points: u64,
 ) -> Result<CellSection, AttrStop>
     requires { points < 2 ^ 31 }
-    ensures { MeetsBy section_of (section_numbers binary points) result lexer.old lexer.new }
+    ensures meets { MeetsBy section_of (section_numbers binary points) result lexer.old lexer.new }
 {
     all_cells(alloc, lexer, binary, points)
 }
