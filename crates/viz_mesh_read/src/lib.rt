@@ -1,0 +1,28 @@
+//! The geometry of a grid or polydata file: its points, and its cells by the indices of points.
+//!
+//! Contract: each reader gives just what the rules say, or the first fault. Definitions:
+//! `specs/Points.antt` and `specs/Sections.antt`; the rules are those of docs/FORMATS.md, "Grids
+//! and polydata".
+#![tactic(auto)]
+
+mod arrays;
+mod coordinates;
+mod counts;
+mod fields;
+mod grids;
+mod laws;
+mod numbers;
+mod pieces;
+mod poly;
+mod sections;
+mod types;
+
+pub use coordinates::{FilePoints, points};
+pub use grids::{GridFile, grid};
+pub use laws::{geometry_is_definite, readers_decide_their_rules};
+pub use pieces::{PolyPieces, split};
+pub use poly::{PolyCells, PolyFile, polydata};
+pub use sections::{CellSection, section};
+
+#[cfg(test)]
+mod tests;
