@@ -1,13 +1,12 @@
 -- The indices that rules let through are those of points.
-use Rattle.std.proofs.Common.{◌≡◌, ℕ, ℤ, pos, negsuc, zero, suc, ◌+◌, ◌-◌, ◌<◌, Bool, true, false, All, List, [], ◌∷◌, length, refl, sym, subst, inl, inr}
-use Rattle.std.specs.Prelude.{unsigned_abs, codes}
+use Rattle.std.proofs.Common.{◌≡◌, ℕ, ℤ, pos, negsuc, zero, suc, ◌-◌, ◌<◌, Bool, true, List, [], ◌∷◌, length, sym, subst, inl, inr}
+use Rattle.std.specs.Prelude.{unsigned_abs}
 use Rattle.std.proofs.lemmas.Bool.{ltb-true, true≢false}
 use Rattle.std.proofs.lemmas.List.Elements.{All-nil, All-cons}
-use Rattle.viz_lex.specs.Reading.{Reading, fault_at}
-use Rattle.viz_lex.specs.declared.fault.FileKind.TheVariants.{Index}
-use Rattle.viz_lex.specs.Rules.{follow, gives, demand}
+use Rattle.viz_lex.specs.Reading.{Reading}
+use Rattle.viz_lex.specs.Rules.{follow, gives}
 use Rattle.viz_lex.specs.Repeats.{AreTimes}
-use Rattle.viz_mesh_read.specs.Sections.{is_index, index, cell, cells, section, HasIndices, HaveIndices}
+use Rattle.viz_mesh_read.specs.Sections.{is_index, index, cells, section, HasIndices, HaveIndices}
 use Rattle.viz_mesh_read.specs.Grid.{Grid, grid}
 use Rattle.viz_mesh_read.specs.declared.poly.SectionKind.{SectionKind}
 use Rattle.viz_mesh_read.specs.declared.poly.SectionKind.TheVariants.{Vertices, Lines, Polygons, Strips}

@@ -96,11 +96,7 @@ fn push_triangle(pieces: &mut Vec<[u32; 3]>, corners: [u32; 3]) -> Result<(), Al
     Ok(())
 }
 
-fn push_triangles(
-    pieces: &mut Vec<[u32; 3]>,
-    cell: &[u32],
-    strip: bool,
-) -> Result<(), AllocError>
+fn push_triangles(pieces: &mut Vec<[u32; 3]>, cell: &[u32], strip: bool) -> Result<(), AllocError>
     ensures { OnOk result (pieces.new.items ≡ pieces.old.items ++ triangles_of strip cell.now) }
 {
     for i in 0..cell.len().saturating_sub(2) {
