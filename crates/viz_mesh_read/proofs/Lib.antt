@@ -1,5 +1,6 @@
 pub mod GridLaws
 pub mod GridLoops
+pub mod IndexLaws
 pub mod Loops
 pub mod MeetLemmas
 pub mod PieceLemmas

@@ -12,7 +12,7 @@ use Rattle.viz_mesh_read.specs.declared.poly.Seen.{Seen}
 use Rattle.viz_mesh_read.specs.declared.poly.PolyCells.{PolyCells}
 use Rattle.viz_mesh_read.specs.declared.poly.PolyFile.{PolyFile}
 use Rattle.viz_mesh_read.specs.Points.{points}
-use Rattle.viz_mesh_read.specs.Sections.{section, numbers_of_cells, section_of}
+use Rattle.viz_mesh_read.specs.Sections.{section, numbers_of_cells, section_of, HaveIndices}
 use Rattle.viz_mesh_read.specs.Grid.{fields}
 
 -- something of each kind of section
@@ -113,3 +113,10 @@ sections_of all = record {
 -- polydata, as the code holds it
 abbrev pub polydata_of : PolyFile → FilePoints × ByKind (ℕ × List ℕ)
 polydata_of p = (p.points, sections_of p.cells)
+
+-- each index of each cell of each kind is that of one of so many points
+pub record HaveIndicesByKind (points : ℕ) (all : ByKind (List (List ℕ))) : Type 0 where
+  pub vertices : HaveIndices points all.vertices
+  pub lines : HaveIndices points all.lines
+  pub polygons : HaveIndices points all.polygons
+  pub strips : HaveIndices points all.strips

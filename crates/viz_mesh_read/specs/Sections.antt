@@ -1,5 +1,5 @@
 -- The cells of a grid or polydata file, section by section (VTK User's Guide, "Simple legacy formats"; docs/FORMATS.md, "Grids and polydata").
-use Rattle.std.specs.Prelude.{◌≡◌, ℕ, ℤ, pos, negsuc, zero, suc, ◌+◌, ◌-◌, ◌^◌, Bool, false, not, ◌&&◌, ◌||◌, ◌==◌, nat_le, nat_lt, unsigned_abs, List, [], ◌∷◌, length}
+use Rattle.std.specs.Prelude.{◌≡◌, ◌<◌, ℕ, ℤ, pos, negsuc, zero, suc, ◌+◌, ◌-◌, ◌^◌, All, Bool, false, not, ◌&&◌, ◌||◌, ◌==◌, nat_le, nat_lt, unsigned_abs, List, [], ◌∷◌, length}
 use Rattle.std.specs.List.{flat_map}
 use Rattle.viz_column.specs.declared.kind.Kind8.TheVariants.{I32}
 use Rattle.viz_column.specs.Bytes.{number_in}
@@ -93,3 +93,11 @@ section_numbers binary points = do
 -- a section, as the code holds it
 abbrev pub section_of : CellSection → ℕ × List ℕ
 section_of s = (s.count, s.numbers.items)
+
+-- each index is that of one of so many points
+abbrev pub HasIndices : ℕ → List ℕ → Type 0
+HasIndices points indices = All (λ i. i < points) indices
+
+-- each index of each cell is that of one of so many points
+abbrev pub HaveIndices : ℕ → List (List ℕ) → Type 0
+HaveIndices points cells = All (HasIndices points) cells

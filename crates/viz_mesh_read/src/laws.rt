@@ -1,13 +1,14 @@
 //! What the rules of points and sections mean. A law is a function that does nothing: its contract
 //! holds of the definitions alone.
 
-ghost use Rattle.std.specs.Prelude.{ℕ, Bool};
+ghost use Rattle.std.specs.Prelude.{ℕ, Bool, List};
+ghost use Rattle.viz_lex.specs.Reading.{Reading};
 ghost use Rattle.viz_lex.specs.Rules.{Decides, IsDefinite};
 ghost use Rattle.viz_mesh_read.specs.Points.{points};
-ghost use Rattle.viz_mesh_read.specs.Sections.{section, section_numbers};
-ghost use Rattle.viz_mesh_read.specs.Grid.{grid, grid_numbers};
+ghost use Rattle.viz_mesh_read.specs.Sections.{section, section_numbers, HaveIndices};
+ghost use Rattle.viz_mesh_read.specs.Grid.{Grid, grid, grid_numbers};
 ghost use Rattle.viz_mesh_read.specs.GridSteps.{grid_at};
-ghost use Rattle.viz_mesh_read.specs.Poly.{polydata, polydata_numbers};
+ghost use Rattle.viz_mesh_read.specs.Poly.{Poly, polydata, polydata_numbers, HaveIndicesByKind};
 ghost use Rattle.viz_mesh_read.specs.PolySteps.{polydata_at};
 ghost use Rattle.viz_mesh_read.specs.Steps.{points_at, section_at};
 
@@ -28,4 +29,14 @@ pub fn readers_decide_their_rules()
         → Decides (grid_numbers binary later) (grid_at binary later) }
     ensures polydata { (binary later : Bool)
         → Decides (polydata_numbers binary later) (polydata_at binary later) }
+{}
+
+/// Each index of a cell that is read is that of a point: of a section, of a grid and of polydata.
+pub fn indices_are_those_of_points()
+    ensures section { (binary : Bool) (n : ℕ) (old new : Reading) (cells : List (List ℕ))
+        → (section binary n).is old new cells → HaveIndices n cells }
+    ensures grid { (binary later : Bool) (old new : Reading) (g : Grid)
+        → (grid binary later).is old new g → HaveIndices g.points.count g.cells }
+    ensures polydata { (binary later : Bool) (old new : Reading) (p : Poly)
+        → (polydata binary later).is old new p → HaveIndicesByKind p.points.count p.cells }
 {}

@@ -1,12 +1,59 @@
 //! Geometries that were written by hand; the places of faults were counted by Python.
 
-use crate::{CellSection, GridFile, PolyFile, grid, polydata};
+use crate::{CellSection, GridFile, PolyFile, PolyPieces, grid, polydata, split};
 use std::alloc::Global;
 use std::process::Abort;
 use std::test::Fail;
 use viz_attr::AttrStop;
 use viz_column::Kind8;
 use viz_lex::{FileFault, FileKind, Lexer};
+
+/// A grid of a tetrahedron, a triangle and a line, in words.
+const GRID_WORDS: &[u8] = b"FIELD f 1
+a 1 1 int 5
+POINTS 4 int
+0 0 0 1 0 0 0 1 0 0 0 -7
+METADATA
+x
+
+FIELD g 0
+CELLS 3 12
+4 0 1 2 3
+3 0 1 2
+2 3 1
+FIELD h 0
+cell_types 3
+10 5 3 behind";
+
+/// The same in BINARY.
+const GRID_BLOCKS: &[u8] = b"POINTS 4 int
+\x00\x00\x00\x00\x00\x00\x00\x00\x00\x00\x00\x00\x00\x00\x00\x01\x00\x00\x00\x00\x00\x00\
+\x00\x00\x00\x00\x00\x00\x00\x00\x00\x01\x00\x00\x00\x00\x00\x00\x00\x00\x00\x00\x00\x00\
+\xff\xff\xff\xf9
+METADATA
+x
+
+CELLS 3 12 \t\r
+\x00\x00\x00\x04\x00\x00\x00\x00\x00\x00\x00\x01\x00\x00\x00\x02\x00\x00\x00\x03\x00\x00\
+\x00\x03\x00\x00\x00\x00\x00\x00\x00\x01\x00\x00\x00\x02\x00\x00\x00\x02\x00\x00\x00\x03\
+\x00\x00\x00\x01
+FIELD h 0
+CELL_TYPES 3
+\x00\x00\x00
+\x00\x00\x00\x05\x00\x00\x00\x03 behind";
+
+/// Polydata of all four kinds, in another order.
+const ALL_SECTIONS: &[u8] = b"POINTS 3 int
+0 0 0 1 0 0 0 1 0
+POLYGONS 1 4
+3 0 1 2
+FIELD f 0
+VERTICES 2 5
+1 0 2 1 2
+LINES 1 3 2 0 1
+triangle_strips 1 5 4 0 1 2 0
+FIELD f 0
+";
 
 /// The fault of a stop, and none for want of memory.
 fn fault_of(stop: &AttrStop) -> Option<FileFault> {
@@ -476,18 +523,7 @@ fn tells(alloc: Global, binary: bool, text: &[u8]) -> Option<u64> {
 
 #[test]
 fn a_grid_in_both_forms(rt: HostRuntime) -> Result<(), Fail> {
-    for (binary, text, read) in [
-        (
-            false,
-            b"FIELD f 1\na 1 1 int 5\nPOINTS 4 int\n0 0 0 1 0 0 0 1 0 0 0 -7\nMETADATA\nx\n\nFIELD g 0\nCELLS 3 12\n4 0 1 2 3\n3 0 1 2\n2 3 1\nFIELD h 0\ncell_types 3\n10 5 3 behind".as_slice(),
-            146,
-        ),
-        (
-            true,
-            b"POINTS 4 int\n\x00\x00\x00\x00\x00\x00\x00\x00\x00\x00\x00\x00\x00\x00\x00\x01\x00\x00\x00\x00\x00\x00\x00\x00\x00\x00\x00\x00\x00\x00\x00\x01\x00\x00\x00\x00\x00\x00\x00\x00\x00\x00\x00\x00\xff\xff\xff\xf9\nMETADATA\nx\n\nCELLS 3 12 \x09\x0d\n\x00\x00\x00\x04\x00\x00\x00\x00\x00\x00\x00\x01\x00\x00\x00\x02\x00\x00\x00\x03\x00\x00\x00\x03\x00\x00\x00\x00\x00\x00\x00\x01\x00\x00\x00\x02\x00\x00\x00\x02\x00\x00\x00\x03\x00\x00\x00\x01\nFIELD h 0\nCELL_TYPES 3\n\x00\x00\x00\n\x00\x00\x00\x05\x00\x00\x00\x03 behind",
-            172,
-        ),
-    ] {
+    for (binary, text, read) in [(false, GRID_WORDS, 146), (true, GRID_BLOCKS, 172)] {
         assert_eq!(rt; tells(rt.alloc(), binary, text), Some(read), "{text:?}");
     }
     Ok(())
@@ -524,11 +560,7 @@ fn polydata_ends_where_no_section_is_due(rt: HostRuntime) -> Result<(), Fail> {
     let strip: (u64, &[u32]) = (1, &[4, 0, 1, 2, 0]);
     for (text, sections, read) in [
         // a FIELD behind all four isn't passed over
-        (
-            b"POINTS 3 int\n0 0 0 1 0 0 0 1 0\nPOLYGONS 1 4\n3 0 1 2\nFIELD f 0\nVERTICES 2 5\n1 0 2 1 2\nLINES 1 3 2 0 1\ntriangle_strips 1 5 4 0 1 2 0\nFIELD f 0\n".as_slice(),
-            [vertices, line, triangle, strip],
-            130,
-        ),
+        (ALL_SECTIONS, [vertices, line, triangle, strip], 130),
         // a FIELD behind one is, and a section that was read isn't read again
         (
             b"POINTS 3 int\n0 0 0 1 0 0 0 1 0\nPOLYGONS 1 4\n3 0 1 2\nFIELD f 0\nPOLYGONS 9\n",
@@ -552,5 +584,56 @@ fn polydata_ends_where_no_section_is_due(rt: HostRuntime) -> Result<(), Fail> {
             "{text:?}"
         );
     }
+    Ok(())
+}
+
+/// Cells of each kind, among them some that repeat an index or have too few points.
+const SPLIT: &[u8] = b"POINTS 5 char
+0 0 0 0 0 0 0 0 0 0 0 0 0 0 0
+VERTICES 2 5
+1 4 2 0 0
+LINES 3 9
+3 0 1 1 1 2 2 3 4
+POLYGONS 3 12
+4 0 1 2 3 3 1 1 2 2 0 1
+TRIANGLE_STRIPS 2 13
+5 0 1 2 3 4
+6 0 1 2 2 3 4
+";
+
+fn has_pieces(
+    pieces: &PolyPieces,
+    vertices: &[[u32; 1]],
+    lines: &[[u32; 2]],
+    triangles: &[[u32; 3]],
+) -> bool {
+    pieces.vertices.as_slice() == vertices
+        && pieces.lines.as_slice() == lines
+        && pieces.triangles.as_slice() == triangles
+}
+
+/// The pieces of polydata that is well formed.
+fn pieces_told(alloc: Global, text: &[u8]) -> Option<PolyPieces> {
+    let mut lexer = Lexer::new(text);
+    match &polydata(alloc, &mut lexer, false, false) {
+        Ok(found) => split(alloc, &found.cells).ok(),
+        Err(_) => None,
+    }
+}
+
+#[test]
+fn cells_are_split_into_pieces(rt: HostRuntime) -> Result<(), Fail> {
+    let pieces = pieces_told(rt.alloc(), SPLIT).ok_or("no pieces")?;
+    // a polygon of four, one that repeats an index, a strip of five, and one that is stitched
+    let triangles = [
+        [0, 1, 2],
+        [0, 2, 3],
+        [0, 1, 2],
+        [2, 1, 3],
+        [2, 3, 4],
+        [0, 1, 2],
+        [3, 2, 4],
+    ];
+    assert!(rt; has_pieces(&pieces, &[[4], [0], [0]], &[[0, 1], [3, 4]], &triangles));
     Ok(())
 }

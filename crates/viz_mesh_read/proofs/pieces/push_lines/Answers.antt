@@ -1,4 +1,4 @@
-use Rattle.std.proofs.Common.{◌≡◌, ◌++◌, ◌∙◌, ap, ℕ, List}
+use Rattle.std.proofs.Common.{◌++◌, ◌∙◌, ap, ℕ, List}
 use Rattle.viz_mesh_read.specs.Pieces.{kept, is_segment, segment_of}
 use Rattle.viz_mesh_read.proofs.PieceLemmas.{pieces-on}
 use Rattle.viz_mesh_read.proofs.pieces.push_lines.Goals as goal

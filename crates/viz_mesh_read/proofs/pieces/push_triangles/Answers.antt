@@ -1,4 +1,3 @@
-use Rattle.std.proofs.Common.{◌≡◌, ◌++◌, ◌∙◌, ap, List}
 use Rattle.viz_mesh_read.specs.Pieces.{kept, is_triangle, triangle_of}
 use Rattle.viz_mesh_read.proofs.PieceLemmas.{pieces-on}
 use Rattle.viz_mesh_read.proofs.pieces.push_triangles.Goals as goal

@@ -1,7 +1,7 @@
 use Rattle.std.proofs.Common.{◌≡◌, ◌++◌, ◌∙◌, ap, List, ℕ, Result, Ok, Err}
 use Rattle.std.specs.Prelude.{IfOk}
 use Rattle.viz_mesh_read.specs.declared.pieces.PolyPieces.{PolyPieces}
-use Rattle.viz_mesh_read.specs.Poly.{ByKind, numbers_by_kind, sections_of}
+use Rattle.viz_mesh_read.specs.Poly.{ByKind}
 use Rattle.viz_mesh_read.specs.Pieces.{pieces_in, pieces_of}
 use Rattle.viz_mesh_read.proofs.PieceLemmas.{pieces_in-list}
 use Rattle.viz_mesh_read.proofs.pieces.split.Goals as goal

@@ -1,0 +1,11 @@
+use Rattle.viz_mesh_read.proofs.IndexLaws.{section-below, grid-below, polydata-below}
+use Rattle.viz_mesh_read.proofs.laws.indices_are_those_of_points.Goals as goal
+
+pub returns-clause-section : goal.returns-clause-section
+returns-clause-section c = section-below
+
+pub returns-clause-grid : goal.returns-clause-grid
+returns-clause-grid c = grid-below
+
+pub returns-clause-polydata : goal.returns-clause-polydata
+returns-clause-polydata c = polydata-below
