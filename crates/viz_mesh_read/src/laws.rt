@@ -1,9 +1,10 @@
 //! What the rules of points and sections mean. A law is a function that does nothing: its contract
 //! holds of the definitions alone.
 
-ghost use Rattle.std.specs.Prelude.{ℕ, Bool, List};
+ghost use Rattle.std.specs.Prelude.{◌≡◌, ◌*◌, ℕ, Bool, List, length};
 ghost use Rattle.viz_lex.specs.Reading.{Reading};
 ghost use Rattle.viz_lex.specs.Rules.{Decides, IsDefinite};
+ghost use Rattle.viz_mesh_read.specs.declared.coordinates.FilePoints.{FilePoints};
 ghost use Rattle.viz_mesh_read.specs.Points.{points};
 ghost use Rattle.viz_mesh_read.specs.Sections.{section, section_numbers, HaveIndices};
 ghost use Rattle.viz_mesh_read.specs.Grid.{Grid, grid, grid_numbers};
@@ -39,4 +40,10 @@ pub fn indices_are_those_of_points()
         → (grid binary later).is old new g → HaveIndices g.points.count g.cells }
     ensures polydata { (binary later : Bool) (old new : Reading) (p : Poly)
         → (polydata binary later).is old new p → HaveIndicesByKind p.points.count p.cells }
+{}
+
+/// There are three coordinates for each point.
+pub fn points_have_three_coordinates()
+    ensures sized { (binary : Bool) (old new : Reading) (p : FilePoints)
+        → (points binary).is old new p → length p.coordinates.items ≡ 3 * p.count }
 {}

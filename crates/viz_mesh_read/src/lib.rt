@@ -19,7 +19,10 @@ mod types;
 
 pub use coordinates::{FilePoints, points};
 pub use grids::{GridFile, grid};
-pub use laws::{geometry_is_definite, indices_are_those_of_points, readers_decide_their_rules};
+pub use laws::{
+    geometry_is_definite, indices_are_those_of_points, points_have_three_coordinates,
+    readers_decide_their_rules,
+};
 pub use pieces::{PolyPieces, split};
 pub use poly::{PolyCells, PolyFile, polydata};
 pub use sections::{CellSection, section};

@@ -347,7 +347,8 @@ fn faults_in_binary(rt: HostRuntime) -> Result<(), Fail> {
         ),
         // counts and indices
         (
-            b"POINTS 2 char\nabcdef\nCELLS 1 3\n\x00\x00\x00\x03\x00\x00\x00\x00\x00\x00\x00\x01\x00\x00\x00\x00",
+            b"POINTS 2 char\nabcdef\nCELLS 1 3\n\
+              \x00\x00\x00\x03\x00\x00\x00\x00\x00\x00\x00\x01\x00\x00\x00\x00",
             FileKind::Count,
             31,
         ),
@@ -384,17 +385,20 @@ fn faults_in_binary(rt: HostRuntime) -> Result<(), Fail> {
         ),
         // the types
         (
-            b"POINTS 2 char\nabcdef\nCELLS 1 3\n\x00\x00\x00\x02\x00\x00\x00\x00\x00\x00\x00\x01\nCELL_TYPES 1\n\x00\x00\x00\x07",
+            b"POINTS 2 char\nabcdef\nCELLS 1 3\n\
+              \x00\x00\x00\x02\x00\x00\x00\x00\x00\x00\x00\x01\nCELL_TYPES 1\n\x00\x00\x00\x07",
             FileKind::CellType(7),
             57,
         ),
         (
-            b"POINTS 2 char\nabcdef\nCELLS 1 3\n\x00\x00\x00\x02\x00\x00\x00\x00\x00\x00\x00\x01\nCELL_TYPES 1\n\x00\x00\x00\x05",
+            b"POINTS 2 char\nabcdef\nCELLS 1 3\n\
+              \x00\x00\x00\x02\x00\x00\x00\x00\x00\x00\x00\x01\nCELL_TYPES 1\n\x00\x00\x00\x05",
             FileKind::Count,
             57,
         ),
         (
-            b"POINTS 2 char\nabcdef\nCELLS 1 3\n\x00\x00\x00\x02\x00\x00\x00\x00\x00\x00\x00\x01\nCELL_TYPES 1\n\x00\x00\x00",
+            b"POINTS 2 char\nabcdef\nCELLS 1 3\n\
+              \x00\x00\x00\x02\x00\x00\x00\x00\x00\x00\x00\x01\nCELL_TYPES 1\n\x00\x00\x00",
             FileKind::Truncated,
             60,
         ),
