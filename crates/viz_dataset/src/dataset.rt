@@ -2,6 +2,7 @@
 
 use crate::image::Image;
 use viz_extent::Extent;
+use viz_sheet::Mesh;
 
 /// What the header of a file says.
 #[derive(Clone, Copy, Debug)]
@@ -20,4 +21,5 @@ pub enum Info {
 #[derive(Debug, Drop)]
 pub enum Dataset {
     Image(Image),
+    Mesh(Mesh),
 }

@@ -1,0 +1,2 @@
+pub mod FileMesh
+pub mod GridPieces

@@ -1,0 +1,14 @@
+//! The mesh of a grid or polydata file: one sheet of its points and pieces.
+//!
+//! Contract: the mesh is that of the definition. Definitions: `specs/FileMesh.antt`; the rule is
+//! that of docs/FORMATS.md, "Grids and polydata".
+#![tactic(auto)]
+
+mod laws;
+mod meshes;
+
+pub use laws::read_pieces_are_cells;
+pub use meshes::{grid_mesh, poly_mesh};
+
+#[cfg(test)]
+mod tests;
