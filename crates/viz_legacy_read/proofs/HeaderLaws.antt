@@ -1,4 +1,4 @@
--- The readers of an image header decide their rules.
+-- The readers of a header decide their rules.
 use Rattle.std.proofs.Common.{◌≡◌, ◌⊎◌, ℕ, suc, ◌+◌, ◌*◌, ◌^◌, Bool, true, false, not, ◌&&◌, ◌||◌, List, [], ◌∷◌, ◌++◌, length, Option, Some, None, Result, Ok, Err, refl, sym, ap, subst, ◌∙◌, add-one}
 use Rattle.std.specs.Prelude.{codes, nat_le, nat_lt, fold, unsigned_abs, if◌then◌else◌}
 use Rattle.viz_extent.specs.Extent.{Bounds}
@@ -20,11 +20,14 @@ use Rattle.viz_attr.specs.Counts.{is_at_least}
 use Rattle.viz_attr.specs.Passed.{passed_field}
 use Rattle.viz_attr.specs.PassedSteps.{passed_field_at}
 use Rattle.viz_attr.proofs.PassedLaws.{decides-passed_field}
-use Rattle.viz_legacy_read.specs.Header.{form, dataset, is_left_out_dataset, Line, Geometry, no_line, with_line, geometry_of, size, whole_of, sizes, origin, is_above, step, spacing, behind, one_field, header_line, header_of, header}
+use Rattle.viz_legacy_read.specs.declared.front.DatasetWord.{DatasetWord}
+use Rattle.viz_legacy_read.specs.declared.front.DatasetWord.TheVariants.{Points, Grid, Polydata}
+use Rattle.viz_legacy_read.specs.declared.front.Preamble.{Preamble}
+use Rattle.viz_legacy_read.specs.Header.{form, dataset_word, dataset, preamble, is_image, image_header, Heading, behind_preamble, is_left_out_dataset, Line, Geometry, no_line, with_line, geometry_of, size, whole_of, sizes, origin, is_above, step, spacing, behind, one_field, header_line, header_of, header}
 use Rattle.viz_legacy_read.specs.Header.Line.{Sizes, Origin, Spacing_of}
-use Rattle.viz_legacy_read.specs.Steps.{two_lines_at, form_at, dataset_at, size_at, sizes_at, origin_at, step_at, spacing_at, behind_at, one_field_at, fields_at, header_line_at, lines_at, lines_header_at, header_at}
+use Rattle.viz_legacy_read.specs.Header.Heading.{OfImage, OfMesh}
+use Rattle.viz_legacy_read.specs.Steps.{two_lines_at, form_at, dataset_word_at, dataset_at, preamble_at, image_heading_at, behind_preamble_at, size_at, sizes_at, origin_at, step_at, spacing_at, behind_at, one_field_at, fields_at, header_line_at, lines_at, lines_header_at, header_at}
 use Rattle.std.proofs.Common.{◌-◌, length-append, length-drop, drop, take, inl, inr, arith}
-use Rattle.viz_base.specs.declared.node.Pick.{Pick}
 use Rattle.viz_lex.specs.declared.fault.FileKind.{FileKind}
 use Rattle.viz_lex.specs.declared.fault.FileKind.TheVariants.{Magic, Title}
 use Rattle.viz_lex.specs.Reading.{rest_of, advanced}
@@ -35,13 +38,9 @@ use Rattle.viz_lex.specs.Readers.{folded_at}
 use Rattle.viz_lex.proofs.PassRules.{decides-total}
 use Rattle.viz_lex.proofs.LineLemmas.{line_len-Some, line_len-None, line_at-next, line_at-none, text_of-line}
 use Rattle.viz_lex.proofs.FoldLemmas.{as_state, fold-known}
-use Rattle.viz_attr.specs.Grammar.{attributes}
-use Rattle.viz_attr.specs.Steps.Parts.{attributes_at}
-use Rattle.viz_attr.proofs.AttributeLaws.{decides-attributes}
-use Rattle.viz_legacy_read.specs.Magic.{is_magic, line, two_lines}
+use Rattle.viz_legacy_read.specs.Magic.{magic, is_magic, is_later, line, two_lines}
 use Rattle.viz_legacy_read.specs.Header.{Header}
-use Rattle.viz_legacy_read.specs.ImageFile.{asked, image_of, image_file}
-use Rattle.viz_legacy_read.specs.Steps.{due_line, image_file_at}
+use Rattle.viz_legacy_read.specs.Steps.{due_line}
 
 -- ---- the two lines in front
 
@@ -73,7 +72,7 @@ unfolding two_lines_at
 decides-two_lines =
     decides-follow (line Magic) _ (due_line Magic) _ (decides-line Magic) (λ first.
     decides-demand (is_magic first) Magic 0 _ _ (
-    decides-follow (line Title) _ (due_line Title) _ (decides-line Title) (λ title. decides-gives tt)))
+    decides-follow (line Title) _ (due_line Title) _ (decides-line Title) (λ title. decides-gives (is_later (drop (length magic) first)))))
 
 -- ---- words in front
 
@@ -84,13 +83,26 @@ decides-form =
     decides-choose (same_word w.1 (codes "ASCII")) _ _ _ _ (decides-gives false)
     (decides-choose (same_word w.1 (codes "BINARY")) _ _ _ _ (decides-gives true) (decides-refuses (fault_at Form w.0))))
 
+decides-dataset_word : (w : ℕ × List ℕ) → Decides (dataset_word w) (dataset_word_at w)
+unfolding dataset_word_at
+decides-dataset_word w =
+    decides-choose (same_word w.1 (codes "STRUCTURED_POINTS")) _ _ _ _ (decides-gives Points)
+    (decides-choose (same_word w.1 (codes "UNSTRUCTURED_GRID")) _ _ _ _ (decides-gives Grid)
+    (decides-choose (same_word w.1 (codes "POLYDATA")) _ _ _ _ (decides-gives Polydata)
+    (decides-choose (is_left_out_dataset w.1) _ _ _ _ (decides-refuses (fault_at Unsupported w.0)) (decides-refuses (fault_at (keyword_kind w.1) w.0)))))
+
 pub decides-dataset : Decides dataset dataset_at
 unfolding dataset_at
 decides-dataset =
     decides-follow (keyword (codes "DATASET")) _ (keyword_at (codes "DATASET")) _ (decides-keyword (codes "DATASET")) (λ key.
-    decides-follow word _ due_word _ decides-word (λ w.
-    decides-choose (same_word w.1 (codes "STRUCTURED_POINTS")) _ _ _ _ (decides-gives tt)
-    (decides-choose (is_left_out_dataset w.1) _ _ _ _ (decides-refuses (fault_at Unsupported w.0)) (decides-refuses (fault_at (keyword_kind w.1) w.0)))))
+    decides-follow word _ due_word _ decides-word (λ w. decides-dataset_word w))
+
+pub decides-preamble : Decides preamble preamble_at
+unfolding preamble_at
+decides-preamble =
+    decides-follow two_lines _ two_lines_at _ decides-two_lines (λ later.
+    decides-follow form _ form_at _ decides-form (λ binary.
+    decides-follow dataset _ dataset_at _ decides-dataset (λ points. decides-gives _)))
 
 -- ---- the three lines
 
@@ -266,24 +278,23 @@ made_same : (binary : Bool) (o : Result (List Line × Reading) FileFault) → (a
 made_same binary (Ok all) = refl
 made_same binary (Err f) = refl
 
-decides-made : (binary : Bool) → Decides (follow (times_knowing 3 (header_line binary)) (λ all. gives (header_of binary (geometry_of all)))) (lines_header_at binary)
+pub decides-image_header : (binary : Bool) → Decides (image_header binary) (lines_header_at binary)
 unfolding lines_header_at
-decides-made binary =
-    decides-same (follow (times_knowing 3 (header_line binary)) (λ all. gives (header_of binary (geometry_of all)))) (λ r. listed binary r >>= made_listed binary) (lines_header_at binary)
+decides-image_header binary =
+    decides-same (image_header binary) (λ r. listed binary r >>= made_listed binary) (lines_header_at binary)
     (λ r. ap (λ (o : Known). o >>= made binary) (lines_listed binary r) ∙ made_same binary (listed binary r))
     (decides-follow (times_knowing 3 (header_line binary)) _ (listed binary) _
     (decides-times_knowing (header_line binary) (λ before. one_line binary (geometry_of before)) (decides-header_line binary) 3)
     (λ all. decides-gives (header_of binary (geometry_of all))))
 
+decides-image_heading : (binary : Bool) → Decides (follow (image_header binary) (λ h. gives (OfImage h))) (image_heading_at binary)
+unfolding image_heading_at
+decides-image_heading binary = decides-follow (image_header binary) _ (lines_header_at binary) _ (decides-image_header binary) (λ h. decides-gives (OfImage h))
+
+decides-behind_preamble : (p : Preamble) → Decides (behind_preamble p) (behind_preamble_at p)
+unfolding behind_preamble_at
+decides-behind_preamble p = decides-choose (is_image p) _ _ _ _ (decides-image_heading p.binary) (decides-gives (OfMesh p))
+
 pub decides-header : Decides header header_at
 unfolding header_at
-decides-header =
-    decides-follow two_lines _ two_lines_at _ decides-two_lines (λ lines.
-    decides-follow form _ form_at _ decides-form (λ binary.
-    decides-follow dataset _ dataset_at _ decides-dataset (λ points. decides-made binary)))
-
-pub decides-image_file : (pick : Pick) → Decides (image_file pick) (image_file_at pick)
-unfolding image_file_at
-decides-image_file pick =
-    decides-follow header _ header_at _ decides-header (λ h.
-    decides-follow (attributes (asked h pick)) _ (attributes_at (asked h pick)) _ (decides-attributes (asked h pick)) (λ column. decides-gives (image_of h column)))
+decides-header = decides-follow preamble _ preamble_at _ decides-preamble (λ p. decides-behind_preamble p)

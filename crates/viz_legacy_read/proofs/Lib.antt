@@ -1,3 +1,5 @@
 pub mod FieldLoops
 pub mod HeaderLaws
+pub mod FileLaws
 pub mod ReadLaws
+pub mod MeshLemmas

@@ -3,17 +3,20 @@ use Rattle.std.proofs.Common.{◌≡◌, ℕ, zero, suc, ℤ, pos, List, ◌∷�
 use Rattle.std.specs.Prelude.{map, replicate, IfSome}
 use Rattle.viz_base.specs.declared.node.Pick.{Pick}
 use Rattle.viz_column.specs.Numbers.{Numbers}
-use Rattle.viz_dataset.specs.Images.{ImageData}
+use Rattle.viz_dataset.specs.declared.dataset.Dataset.{Dataset}
 use Rattle.viz_lex.specs.declared.fault.FileFault.{FileFault}
 use Rattle.viz_lex.specs.Reading.{Reading}
 use Rattle.viz_legacy_read.specs.declared.stop.ReadStop.{ReadStop}
 use Rattle.viz_legacy_read.specs.declared.stop.ReadStop.TheVariants.{File, Memory}
-use Rattle.viz_legacy_read.specs.declared.lines.ImageHeader.{ImageHeader}
+use Rattle.viz_legacy_read.specs.declared.front.FileHeader.{FileHeader}
+use Rattle.viz_legacy_read.specs.declared.front.FileHeader.TheVariants as head
+use Rattle.viz_legacy_read.specs.Header.Heading.{OfImage, OfMesh}
 use Rattle.viz_legacy_read.specs.ImageFile.{numbers_or_zeros}
 use Rattle.viz_legacy_read.specs.Reading.{front, IsInfo, Reads, StopsInHeader, IsStop}
-use Rattle.viz_legacy_read.specs.Reads.{StopsAt, header_seen, info_of}
-use Rattle.viz_legacy_read.specs.Steps.{header_at, image_file_at}
-use Rattle.viz_legacy_read.proofs.HeaderLaws.{decides-header, decides-image_file}
+use Rattle.viz_legacy_read.specs.Reads.{StopsAt, image_seen, header_seen, info_of}
+use Rattle.viz_legacy_read.specs.Steps.{header_at, file_at}
+use Rattle.viz_legacy_read.proofs.HeaderLaws.{decides-header}
+use Rattle.viz_legacy_read.proofs.FileLaws.{decides-file}
 
 -- zeros of a byte are zeros
 pub zeros_are : (n : ℕ) → map (λ (b : ℕ). pos b) (replicate n 0) ≡ replicate n (pos 0)
@@ -30,17 +33,20 @@ count_is points None h = length_zeros points
 count_is points (Some n) h = h
 
 -- the header of the front
-pub header_is : (bytes : List ℕ) (r next : Reading) (h : ImageHeader) → r ≡ front bytes → header_at r ≡ Ok (header_seen h, next) → IsInfo bytes (info_of h)
-header_is bytes r next h e read =
-    (header_seen h, (next, decides-header.found (front bytes) (header_seen h, next) (subst (λ (s : Reading). header_at s ≡ Ok (header_seen h, next)) e read)), record { whole = refl; origin = refl; spacing = refl })
+pub header_is : (bytes : List ℕ) (r next : Reading) (h : FileHeader) → r ≡ front bytes → header_at r ≡ Ok (header_seen h, next) → IsInfo bytes (info_of h)
+header_is bytes r next (head.Image h) e read =
+    (image_seen h, (next, decides-header.found (front bytes) (OfImage (image_seen h), next) (subst (λ (s : Reading). header_at s ≡ Ok (OfImage (image_seen h), next)) e read)), record { whole = refl; origin = refl; spacing = refl })
+header_is bytes r next (head.Mesh p) e read =
+    (p, (next, decides-header.found (front bytes) (OfMesh p, next) (subst (λ (s : Reading). header_at s ≡ Ok (OfMesh p, next)) e read)))
 
 pub header_stops : (bytes : List ℕ) (r : Reading) (f : FileFault) → r ≡ front bytes → header_at r ≡ Err f → StopsInHeader bytes f
 header_stops bytes r f e read = decides-header.stops (front bytes) f (subst (λ (s : Reading). header_at s ≡ Err f) e read)
 
--- the image, or where reading stops
-pub image_is : (bytes : List ℕ) (pick : Pick) (image : ImageData) (next : Reading) → image_file_at pick (front bytes) ≡ Ok (image, next) → Reads bytes pick image
-image_is bytes pick image next e = (next, (decides-image_file pick).found (front bytes) (image, next) e)
+-- the dataset, or where reading stops
+pub file_is : (bytes : List ℕ) (pick : Pick) (unit : ℕ) (r next : Reading) (d : Dataset) → r ≡ front bytes → file_at pick unit r ≡ Ok (d, next) → Reads bytes pick unit d
+file_is bytes pick unit r next d e read =
+    (next, (decides-file pick unit).found (front bytes) (d, next) (subst (λ (s : Reading). file_at pick unit s ≡ Ok (d, next)) e read))
 
-pub image_stops : (bytes : List ℕ) (pick : Pick) (stop : ReadStop) → StopsAt stop (image_file_at pick (front bytes)) → IsStop bytes pick stop
-image_stops bytes pick (File f) e = (decides-image_file pick).stops (front bytes) f e
-image_stops bytes pick Memory e = tt
+pub file_stops : (bytes : List ℕ) (pick : Pick) (unit : ℕ) (r : Reading) (stop : ReadStop) → r ≡ front bytes → StopsAt stop (file_at pick unit r) → IsStop bytes pick unit stop
+file_stops bytes pick unit r (File f) e read = (decides-file pick unit).stops (front bytes) f (subst (λ (s : Reading). file_at pick unit s ≡ Err f) e read)
+file_stops bytes pick unit r Memory e read = tt

@@ -1,4 +1,4 @@
--- The header of an image file, up to its third header line (VTK User's Guide, "Simple legacy formats"; docs/FORMATS.md, "Images").
+-- The header of a file: up to the word of the dataset, and of an image up to its third header line (VTK User's Guide, "Simple legacy formats"; docs/FORMATS.md, "Images").
 use Rattle.std.specs.Prelude.{ℕ, ℤ, pos, negsuc, ◌-◌, ◌*◌, ◌^◌, Bool, true, false, not, ◌&&◌, ◌||◌, nat_le, nat_lt, List, [], ◌∷◌, codes, fold, Option, Some, None, unwrap_or, unsigned_abs}
 use Rattle.viz_extent.specs.Extent.{Bounds, bounds_of}
 use Rattle.viz_dataset.specs.Images.{Vector}
@@ -10,6 +10,9 @@ use Rattle.viz_lex.specs.Steps.{has, same_word, keyword_kind, is_next}
 use Rattle.viz_lex.specs.Rules.{Rule, gives, refuses, demand, choose, ◌>>=◌}
 use Rattle.viz_lex.specs.Repeats.{times_knowing, skip}
 use Rattle.viz_lex.specs.Items.{word, number, decimal, keyword}
+use Rattle.viz_legacy_read.specs.declared.front.DatasetWord.{DatasetWord}
+use Rattle.viz_legacy_read.specs.declared.front.DatasetWord.TheVariants.{Points, Grid, Polydata}
+use Rattle.viz_legacy_read.specs.declared.front.Preamble.{Preamble}
 use Rattle.viz_legacy_read.specs.Magic.{two_lines}
 
 -- ASCII or BINARY
@@ -20,15 +23,40 @@ form = do
 
 -- the datasets of the format that aren't read here
 abbrev pub is_left_out_dataset : List ℕ → Bool
-is_left_out_dataset word =
-    same_word word (codes "UNSTRUCTURED_GRID") || same_word word (codes "POLYDATA") || same_word word (codes "STRUCTURED_GRID") || same_word word (codes "RECTILINEAR_GRID")
+is_left_out_dataset word = same_word word (codes "STRUCTURED_GRID") || same_word word (codes "RECTILINEAR_GRID")
 
--- DATASET STRUCTURED_POINTS
-abbrev pub dataset : Rule (Unit {0})
+-- a word for a dataset
+abbrev pub dataset_word : ℕ × List ℕ → Rule DatasetWord
+dataset_word w =
+    choose (same_word w.1 (codes "STRUCTURED_POINTS")) (gives Points)
+    (choose (same_word w.1 (codes "UNSTRUCTURED_GRID")) (gives Grid)
+    (choose (same_word w.1 (codes "POLYDATA")) (gives Polydata)
+    (choose (is_left_out_dataset w.1) (refuses (fault_at Unsupported w.0)) (refuses (fault_at (keyword_kind w.1) w.0)))))
+
+-- DATASET and a word for a dataset
+abbrev pub dataset : Rule DatasetWord
 dataset = do
   key ← keyword (codes "DATASET")
   w ← word
-  choose (same_word w.1 (codes "STRUCTURED_POINTS")) (gives tt) (choose (is_left_out_dataset w.1) (refuses (fault_at Unsupported w.0)) (refuses (fault_at (keyword_kind w.1) w.0)))
+  dataset_word w
+
+-- what stands in front of the geometry: the two lines, the form and the word of the dataset
+abbrev pub preamble : Rule Preamble
+preamble = do
+  later ← two_lines
+  binary ← form
+  points ← dataset
+  gives (record { later = later; binary = binary; dataset = points })
+
+-- the word of images
+abbrev pub is_points : DatasetWord → Bool
+is_points Points = true
+is_points Grid = false
+is_points Polydata = false
+
+-- the dataset is an image
+abbrev pub is_image : Preamble → Bool
+is_image p = is_points p.dataset
 
 -- ---- the three header lines
 
@@ -132,7 +160,7 @@ header_line binary before = do
 
 -- ---- the header
 
--- the form of the values, the whole extent, the origin and the spacing
+-- of an image: the form of the values, the whole extent, the origin and the spacing
 pub record Header : Type 0 where
   pub binary : Bool
   pub whole : Bounds
@@ -152,11 +180,26 @@ header_of binary g = record {
   spacing = unwrap_or g.spacing (all_of (pos (10 ^ 9)));
 }
 
--- the header of an image file
-abbrev pub header : Rule Header
-header = do
-  lines ← two_lines
-  binary ← form
-  points ← dataset
+-- three header lines, and the header that they make
+abbrev pub image_header : Bool → Rule Header
+image_header binary = do
   all ← times_knowing 3 (header_line binary)
   gives (header_of binary (geometry_of all))
+
+-- what the header of a file says: that of an image, or that a mesh stands behind the preamble
+pub data Heading : Type 0 where
+  OfImage : Header → Heading
+  OfMesh : Preamble → Heading
+
+-- the header lines of an image; there are none of a mesh
+abbrev pub behind_preamble : Preamble → Rule Heading
+behind_preamble p = choose (is_image p) (do
+    h ← image_header p.binary
+    gives (OfImage h))
+  (gives (OfMesh p))
+
+-- the header of a file
+abbrev pub header : Rule Heading
+header = do
+  p ← preamble
+  behind_preamble p

@@ -8,7 +8,7 @@ use Rattle.viz_dataset.specs.Images.{ImageData}
 use Rattle.viz_attr.specs.Picks.{Given}
 use Rattle.viz_attr.specs.Grammar.{attributes}
 use Rattle.viz_lex.specs.Rules.{Rule, gives, ◌>>=◌}
-use Rattle.viz_legacy_read.specs.Header.{Header, header}
+use Rattle.viz_legacy_read.specs.Header.{Header}
 
 -- the cells along an axis: one fewer than points, and one where there is one point
 abbrev pub cells_along : ℕ → ℕ → ℕ
@@ -31,9 +31,8 @@ numbers_or_zeros points (Some numbers) = numbers
 abbrev pub image_of : Header → Option Numbers → ImageData
 image_of h column = record { extent = h.whole; origin = h.origin; spacing = h.spacing; values = numbers_or_zeros (count_of h.whole) column }
 
--- a whole image file: the header, and the attributes to the end
-abbrev pub image_file : Pick → Rule ImageData
-image_file pick = do
-  h ← header
+-- the image behind its header: the attributes to the end
+abbrev pub image_behind : Pick → Header → Rule ImageData
+image_behind pick h = do
   column ← attributes (asked h pick)
   gives (image_of h column)

@@ -1,5 +1,7 @@
 pub mod Reading
+pub mod File
 pub mod ImageFile
+pub mod MeshFile
 pub mod Header
 pub mod Magic
 pub mod Steps

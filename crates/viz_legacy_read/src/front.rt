@@ -1,19 +1,46 @@
-//! The header of an image file.
+//! The header of a file.
 
 ghost use Rattle.std.specs.Prelude.{◌≡◌, ◌+◌, ◌^◌, pos, unwrap_or, length, IfOk};
 ghost use Rattle.viz_dataset.specs.Images.{vector_of, IsOrigin, IsSpacing};
 ghost use Rattle.viz_lex.specs.Reading.{Reads};
 ghost use Rattle.viz_lex.specs.Readers.{skip_at};
 ghost use Rattle.viz_lex.specs.Steps.{is_next};
-ghost use Rattle.viz_legacy_read.specs.Header.{is_left_out_dataset, whole_of, all_of, header_of};
-ghost use Rattle.viz_legacy_read.specs.Steps.{form_at, dataset_at, one_field_at, fields_at, header_line_at, lines_header_at, header_at};
-ghost use Rattle.viz_legacy_read.specs.Reads.{lines_of, header_seen, AreWithin, HasLimits};
+ghost use Rattle.viz_legacy_read.specs.Header.{is_left_out_dataset, is_image, whole_of, all_of, header_of};
+ghost use Rattle.viz_legacy_read.specs.Steps.{form_at, dataset_word_at, dataset_at, preamble_at, one_field_at, fields_at, header_line_at, lines_header_at, image_heading_at, behind_preamble_at, header_at};
+ghost use Rattle.viz_legacy_read.specs.Reads.{lines_of, image_seen, header_seen, AreWithin, HasLimits, IsWithin};
 
 use crate::lines::{ImageHeader, Lines, behind};
 use crate::magic::two_lines;
 use viz_attr::pass_field;
 use viz_extent::Extent;
 use viz_lex::{FileFault, FileKind, Lexer, is_word, keyword_fault};
+
+/// The dataset of a file, by its word.
+#[derive(Clone, Copy, PartialEq, Eq, Debug)]
+pub(crate) enum DatasetWord {
+    /// STRUCTURED_POINTS.
+    Points,
+    /// UNSTRUCTURED_GRID.
+    Grid,
+    /// POLYDATA.
+    Polydata,
+}
+
+/// What stands in front of the geometry: whether the version is 5.1 or above, whether the form is
+/// BINARY, and the dataset.
+#[derive(Clone, Copy)]
+pub(crate) struct Preamble {
+    pub later: bool,
+    pub binary: bool,
+    pub dataset: DatasetWord,
+}
+
+/// The header of a file: that of an image, or what stands in front of a mesh.
+#[derive(Clone, Copy)]
+pub(crate) enum FileHeader {
+    Image(ImageHeader),
+    Mesh(Preamble),
+}
 
 /// ASCII or BINARY: whether it is the second.
 #[tactic(auto, unfolding(crate::specs::Steps::form_at))]
@@ -36,21 +63,24 @@ fn form(lexer: &mut Lexer<'_>) -> Result<bool, FileFault>
 fn is_left_out(word: &[u8]) -> bool
     ensures { result ≡ is_left_out_dataset word.now }
 {
-    is_word(word, b"UNSTRUCTURED_GRID")
-        || is_word(word, b"POLYDATA")
-        || is_word(word, b"STRUCTURED_GRID")
-        || is_word(word, b"RECTILINEAR_GRID")
+    is_word(word, b"STRUCTURED_GRID") || is_word(word, b"RECTILINEAR_GRID")
 }
 
-/// DATASET STRUCTURED_POINTS.
-#[tactic(auto, unfolding(crate::specs::Steps::dataset_at))]
-fn dataset(lexer: &mut Lexer<'_>) -> Result<(), FileFault>
-    ensures { Reads (λ done. done) result lexer.new (dataset_at lexer.old) }
+/// DATASET, and the word for a dataset behind it.
+#[tactic(auto, unfolding(crate::specs::Steps::dataset_word_at, crate::specs::Steps::dataset_at))]
+fn dataset(lexer: &mut Lexer<'_>) -> Result<DatasetWord, FileFault>
+    ensures { Reads (λ kind. kind) result lexer.new (dataset_at lexer.old) }
 {
     lexer.due_keyword(b"DATASET")?;
     let (place, word) = lexer.due_word()?;
     if is_word(word, b"STRUCTURED_POINTS") {
-        return Ok(());
+        return Ok(DatasetWord::Points);
+    }
+    if is_word(word, b"UNSTRUCTURED_GRID") {
+        return Ok(DatasetWord::Grid);
+    }
+    if is_word(word, b"POLYDATA") {
+        return Ok(DatasetWord::Polydata);
     }
     if is_left_out(word) {
         return Err(FileFault {
@@ -59,6 +89,21 @@ fn dataset(lexer: &mut Lexer<'_>) -> Result<(), FileFault>
         });
     }
     Err(keyword_fault(place, word))
+}
+
+/// The two lines, the form and the word of the dataset.
+#[tactic(auto, unfolding(crate::specs::Steps::preamble_at))]
+fn preamble(lexer: &mut Lexer<'_>) -> Result<Preamble, FileFault>
+    ensures { Reads (λ p. p) result lexer.new (preamble_at lexer.old) }
+{
+    let later = two_lines(lexer)?;
+    let binary = form(lexer)?;
+    let dataset = dataset(lexer)?;
+    Ok(Preamble {
+        later,
+        binary,
+        dataset,
+    })
 }
 
 /// A FIELD, which is passed over.
@@ -138,7 +183,7 @@ fn spacing_of_lines(lines: &Lines) -> [i128; 3]
 /// The header that three lines make.
 fn header_of_lines(binary: bool, lines: Lines) -> ImageHeader
     requires { AreWithin lines }
-    ensures value { header_seen result ≡ header_of binary (lines_of lines) }
+    ensures value { image_seen result ≡ header_of binary (lines_of lines) }
     ensures within { HasLimits result }
 {
     ImageHeader {
@@ -152,7 +197,7 @@ fn header_of_lines(binary: bool, lines: Lines) -> ImageHeader
 /// Three header lines, and the header that they make.
 #[tactic(auto, unfolding(crate::specs::Steps::lines_at, crate::specs::Steps::lines_header_at))]
 fn lines_header(lexer: &mut Lexer<'_>, binary: bool) -> Result<ImageHeader, FileFault>
-    ensures read { Reads header_seen result lexer.new (lines_header_at binary lexer.old) }
+    ensures read { Reads image_seen result lexer.new (lines_header_at binary lexer.old) }
     ensures within { IfOk result HasLimits }
 {
     let none = Lines {
@@ -167,13 +212,40 @@ fn lines_header(lexer: &mut Lexer<'_>, binary: bool) -> Result<ImageHeader, File
 }
 
 /// The header of an image.
-#[tactic(auto, unfolding(crate::specs::Steps::header_at))]
-pub(crate) fn image_header(lexer: &mut Lexer<'_>) -> Result<ImageHeader, FileFault>
-    ensures read { Reads header_seen result lexer.new (header_at lexer.old) }
-    ensures within { IfOk result HasLimits }
+#[tactic(auto, unfolding(crate::specs::Steps::image_heading_at))]
+fn image_heading(lexer: &mut Lexer<'_>, binary: bool) -> Result<FileHeader, FileFault>
+    ensures read { Reads header_seen result lexer.new (image_heading_at binary lexer.old) }
+    ensures within { IfOk result IsWithin }
 {
-    two_lines(lexer)?;
-    let binary = form(lexer)?;
-    dataset(lexer)?;
-    lines_header(lexer, binary)
+    let header = lines_header(lexer, binary)?;
+    Ok(FileHeader::Image(header))
+}
+
+fn is_image(preamble: &Preamble) -> bool
+    ensures { result ≡ is_image preamble.now }
+{
+    matches!(preamble.dataset, DatasetWord::Points)
+}
+
+/// The header lines of an image; there are none of a mesh.
+#[tactic(auto, unfolding(crate::specs::Steps::behind_preamble_at))]
+fn behind_preamble(lexer: &mut Lexer<'_>, preamble: Preamble) -> Result<FileHeader, FileFault>
+    ensures read { Reads header_seen result lexer.new (behind_preamble_at preamble lexer.old) }
+    ensures within { IfOk result IsWithin }
+{
+    if is_image(&preamble) {
+        image_heading(lexer, preamble.binary)
+    } else {
+        Ok(FileHeader::Mesh(preamble))
+    }
+}
+
+/// The header of a file.
+#[tactic(auto, unfolding(crate::specs::Steps::header_at))]
+pub(crate) fn file_header(lexer: &mut Lexer<'_>) -> Result<FileHeader, FileFault>
+    ensures read { Reads header_seen result lexer.new (header_at lexer.old) }
+    ensures within { IfOk result IsWithin }
+{
+    let preamble = preamble(lexer)?;
+    behind_preamble(lexer, preamble)
 }

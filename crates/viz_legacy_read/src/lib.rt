@@ -5,9 +5,11 @@
 #![tactic(auto)]
 
 mod front;
+mod image;
 mod laws;
 mod lines;
 mod magic;
+mod mesh;
 mod reading;
 mod stop;
 

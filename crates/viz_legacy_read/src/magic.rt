@@ -1,10 +1,11 @@
 //! The two lines in front of a file.
 
-ghost use Rattle.std.specs.Prelude.{◌≡◌, ◌≤◌, length, if◌then◌else◌, IfSome};
+ghost use Rattle.std.specs.Prelude.{◌≡◌, ◌≤◌, length, drop, if◌then◌else◌, IfSome};
 ghost use Rattle.std.specs.List.{list_all};
+ghost use Rattle.viz_lex.specs.Numbers.{digits_value};
 ghost use Rattle.viz_lex.specs.Words.{is_blank};
 ghost use Rattle.viz_lex.specs.Reading.{Reads};
-ghost use Rattle.viz_legacy_read.specs.Magic.{digits_len, has_short_number, is_minor, is_version, is_magic};
+ghost use Rattle.viz_legacy_read.specs.Magic.{digits_len, has_short_number, leading_number, is_minor, is_version, is_later, magic, is_magic};
 ghost use Rattle.viz_legacy_read.specs.Steps.{due_line, two_lines_at};
 
 use viz_lex::{FileFault, FileKind, Lexer};
@@ -25,14 +26,30 @@ fn digits(text: &[u8]) -> usize
     text.len()
 }
 
-/// Whether one to three digits stand in front; then how many.
-fn short_number(text: &[u8]) -> Option<usize>
+/// The number of up to three digits.
+fn short_value(text: &[u8]) -> u32
+    requires { length text.now ≤ 3 }
+    ensures { result ≡ digits_value text.now }
+{
+    let mut n: u32 = 0;
+    for b in text {
+        n = n * 10 + u32::from(b.saturating_sub(b'0'));
+    }
+    n
+}
+
+/// Whether one to three digits stand in front; then how many, and the number that they represent.
+fn short_number(text: &[u8]) -> Option<(usize, u32)>
     ensures value { result ≡ (if has_short_number text.now
-        then Some (digits_len text.now) else None) }
-    ensures within { IfSome result (λ n. n ≤ length text.now) }
+        then Some (digits_len text.now, leading_number text.now) else None) }
+    ensures within { IfSome result (λ n. n.0 ≤ length text.now) }
 {
     let n = digits(text);
-    if 1 <= n && n <= 3 { Some(n) } else { None }
+    if 1 <= n && n <= 3 {
+        Some((n, short_value(&text[..n])))
+    } else {
+        None
+    }
 }
 
 fn is_blank_text(text: &[u8]) -> bool
@@ -41,31 +58,39 @@ fn is_blank_text(text: &[u8]) -> bool
     text.iter().all(|b| matches!(*b, 9..=13 | b' '))
 }
 
-fn is_minor(text: &[u8]) -> bool
-    ensures { result ≡ is_minor text.now }
+/// The part of a version behind its point.
+fn minor(text: &[u8]) -> Option<u32>
+    ensures { result ≡ (if is_minor text.now
+        then Some (leading_number (drop 1 text.now)) else None) }
 {
-    let Some((point, behind)) = text.split_first() else {
-        return false;
-    };
-    match short_number(behind) {
-        Some(n) => *point == b'.' && is_blank_text(&behind[n..]),
-        None => false,
+    let (point, behind) = text.split_first()?;
+    let (n, number) = short_number(behind)?;
+    if *point == b'.' && is_blank_text(&behind[n..]) {
+        Some(number)
+    } else {
+        None
     }
 }
 
-fn is_version(text: &[u8]) -> bool
-    ensures { result ≡ is_version text.now }
+/// Whether the version is 5.1 or above, where it is a version.
+fn version(text: &[u8]) -> Option<bool>
+    ensures { result ≡ (if is_version text.now then Some (is_later text.now) else None) }
 {
-    match short_number(text) {
-        Some(n) => is_minor(&text[n..]),
-        None => false,
-    }
+    let (n, major) = short_number(text)?;
+    let minor = minor(&text[n..])?;
+    Some(major > 5 || (major == 5 && minor >= 1))
 }
 
-fn is_magic(line: &[u8]) -> bool
-    ensures { result ≡ is_magic line.now }
+/// Whether the version of a file's first line is 5.1 or above.
+fn version_of_line(line: &[u8]) -> Option<bool>
+    ensures { result ≡ (if is_magic line.now
+        then Some (is_later (drop (length magic) line.now)) else None) }
 {
-    line.starts_with(MAGIC) && is_version(&line[MAGIC.len()..])
+    if line.starts_with(MAGIC) {
+        version(&line[MAGIC.len()..])
+    } else {
+        None
+    }
 }
 
 /// The next line, which is due: else the fault of this kind at its start.
@@ -80,18 +105,18 @@ fn line<'a>(lexer: &mut Lexer<'a>, kind: FileKind) -> Result<&'a [u8], FileFault
     }
 }
 
-/// The line of the version, and the title.
+/// The line of the version, and the title: whether the version is 5.1 or above.
 #[tactic(auto, unfolding(crate::specs::Steps::two_lines_at))]
-pub(crate) fn two_lines(lexer: &mut Lexer<'_>) -> Result<(), FileFault>
-    ensures { Reads (λ done. done) result lexer.new (two_lines_at lexer.old) }
+pub(crate) fn two_lines(lexer: &mut Lexer<'_>) -> Result<bool, FileFault>
+    ensures { Reads (λ later. later) result lexer.new (two_lines_at lexer.old) }
 {
     let first = line(lexer, FileKind::Magic)?;
-    if !is_magic(first) {
+    let Some(later) = version_of_line(first) else {
         return Err(FileFault {
             kind: FileKind::Magic,
             place: 0,
         });
-    }
+    };
     line(lexer, FileKind::Title)?;
-    Ok(())
+    Ok(later)
 }

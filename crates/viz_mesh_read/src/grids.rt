@@ -68,6 +68,7 @@ pub fn grid(
     later: bool,
 ) -> Result<GridFile, AttrStop>
     ensures meets { MeetsBy grid_of (grid_numbers binary later) result lexer.old lexer.new }
+    ensures exact { ReadsUnlessMemory grid_of result lexer.new (grid_at binary later lexer.old) }
 {
     whole_grid(alloc, lexer, binary, later)
 }

@@ -229,6 +229,8 @@ pub fn polydata(
     later: bool,
 ) -> Result<PolyFile, AttrStop>
     ensures meets { MeetsBy polydata_of (polydata_numbers binary later) result lexer.old lexer.new }
+    ensures exact { ReadsUnlessMemory polydata_of result lexer.new
+        (polydata_at binary later lexer.old) }
 {
     whole_polydata(alloc, lexer, binary, later)
 }

@@ -1,7 +1,7 @@
 use Rattle.std.proofs.Common.{◌∙◌, ap, length}
 use Rattle.viz_column.specs.Numbers.{Numbers}
 use Rattle.viz_legacy_read.proofs.ReadLaws.{count_is}
-use Rattle.viz_legacy_read.proofs.reading.image.Goals as goal
+use Rattle.viz_legacy_read.proofs.image.image_behind.Goals as goal
 
 pub new-requires-clause-count : goal.new-requires-clause-count
 new-requires-clause-count c =
