@@ -1,7 +1,8 @@
 -- Some items of a list, kept by marks, and the rank that a kept item then has.
-use Rattle.std.specs.Prelude.{◌≡◌, ◌↔◌, ℕ, Bool, true, false, List, [], ◌∷◌, length, map, take, Contains, count_by, slice_index_or, if◌then◌else◌}
-use Rattle.std.specs.List.{flat_map}
+use Rattle.std.specs.Prelude.{◌≡◌, ◌↔◌, ℕ, Bool, true, false, nat_eq, List, [], ◌∷◌, length, map, take, Contains, count_by, slice_index_or, if◌then◌else◌}
+use Rattle.std.specs.List.{flat_map, list_any, range_with_len}
 use Rattle.viz_fraction.specs.Points.{Point}
+use Rattle.viz_sheet.specs.Sheet.{SheetData}
 use Rattle.viz_sheet.specs.Ranked.{AreCells, AreRanks, by_names}
 
 -- the marked items
@@ -22,6 +23,22 @@ renumbered marks cells = map (λ cell. map (kept_rank marks) cell) cells
 pub record AreMarks (count : ℕ) (cells : List (List ℕ)) (marks : List Bool) : Type 0 where
   pub size : length marks ≡ count
   pub each : (r : ℕ) → (slice_index_or marks r false ≡ true) ↔ Contains (flat_map (λ cell. cell) cells) r
+
+-- whether a cell has this rank
+abbrev pub is_used : List (List ℕ) → ℕ → Bool
+is_used cells r = list_any (nat_eq r) (flat_map (λ cell. cell) cells)
+
+-- of so many ranks, marks of those that the cells have
+abbrev pub used_marks : ℕ → List (List ℕ) → List Bool
+used_marks count cells = map (is_used cells) (range_with_len 0 count)
+
+-- the sheet of cells by ranks: the names that they have, with their points
+abbrev pub sheet_with : List (List ℕ) → List Point → List (List ℕ) → SheetData
+sheet_with names points cells = record {
+  names = kept (used_marks (length names) cells) names;
+  points = kept (used_marks (length names) cells) points;
+  cells = by_names names cells;
+}
 
 -- with the marked names alone it is a sheet, of the same cells by names
 pub record IsCompacted (names : List (List ℕ)) (points : List Point) (cells : List (List ℕ)) (marks : List Bool) : Type 0 where

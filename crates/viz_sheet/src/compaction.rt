@@ -2,7 +2,7 @@
 
 ghost use Rattle.std.specs.Prelude.{◌≡◌, ◌<◌, All, length, map, IfOk};
 ghost use Rattle.viz_sheet.specs.Arrays.{names_in, points_in, ranks_in};
-ghost use Rattle.viz_sheet.specs.Kept.{AreMarks};
+ghost use Rattle.viz_sheet.specs.Kept.{AreMarks, sheet_with};
 ghost use Rattle.viz_sheet.specs.Ranked.{AreCells, by_names};
 ghost use Rattle.viz_sheet.specs.Sheet.{KeepPoints};
 ghost use Rattle.viz_sheet.specs.Steps.Lookup.{looked_up};
@@ -31,6 +31,8 @@ pub fn compacted(
         s.cells ≡ by_names (names_in leaves.now) (ranks_in ranks.now)) }
     ensures points { IfOk result (λ s.
         KeepPoints s.names s.points (names_in leaves.now) (points_in places.now)) }
+    ensures value { IfOk result (λ s.
+        s ≡ sheet_with (names_in leaves.now) (points_in places.now) (ranks_in ranks.now)) }
 {
     let marks = marks_of(alloc, leaves.len(), ranks)?;
     with_marked(alloc, &marks, leaves, places, ranks)
@@ -47,6 +49,8 @@ pub fn sheet_of(
     ensures cells { IfOk result (λ s. s.cells ≡ by_names (names_in leaves) (ranks_in ranks)) }
     ensures points { IfOk result (λ s.
         KeepPoints s.names s.points (names_in leaves) (points_in places)) }
+    ensures value { IfOk result (λ s.
+        s ≡ sheet_with (names_in leaves) (points_in places) (ranks_in ranks)) }
 {
     let marks = marks_of(alloc, leaves.len(), &ranks)?;
     if kept_count(&marks) == leaves.len() {
@@ -69,6 +73,8 @@ fn with_marked(
         s.cells ≡ by_names (names_in leaves.now) (ranks_in ranks.now)) }
     ensures points { IfOk result (λ s.
         KeepPoints s.names s.points (names_in leaves.now) (points_in places.now)) }
+    ensures value { IfOk result (λ s.
+        s ≡ sheet_with (names_in leaves.now) (points_in places.now) (ranks_in ranks.now)) }
 {
     let count = kept_count(marks);
     let before = kept_ranks(alloc, marks)?;
