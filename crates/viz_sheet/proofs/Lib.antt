@@ -7,5 +7,6 @@ pub mod CompactedLemmas
 pub mod MarkingLemmas
 pub mod LookupLemmas
 pub mod PassLemmas
+pub mod UsedLemmas
 pub mod LeafLemmas
 pub mod RuleLemmas

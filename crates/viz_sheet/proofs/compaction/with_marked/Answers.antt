@@ -3,6 +3,7 @@ use Rattle.viz_fraction.specs.Points.{Point}
 use Rattle.viz_sheet.specs.Arrays.{names_in, points_in, ranks_in}
 use Rattle.viz_sheet.specs.Sheet.{KeepPoints}
 use Rattle.viz_sheet.proofs.PassLemmas.{before_of, length-before_of, all_below, made_from, IsMade, points_from}
+use Rattle.viz_sheet.proofs.UsedLemmas.{marked_is}
 use Rattle.viz_sheet.proofs.compaction.with_marked.Goals as goal
 
 pub looked_up_ranks-requires : goal.looked_up_ranks-requires
@@ -44,3 +45,8 @@ returns-clause-points c =
     points_from marks names points _ _ c.requires.marks.size c.requires.cells.matched c.in_ok-kept_names.ensures c.in_ok-kept_points.ensures in
     subst (λ (a : List (List ℕ)). KeepPoints a c.new.result.points names points) (sym c.new.ensures.names)
     (subst (λ (b : List Point). KeepPoints (names_in c.in_ok-kept_names.kept_names) b names points) (sym c.new.ensures.points) kept_points)
+
+pub returns-clause-value : goal.returns-clause-value
+returns-clause-value c =
+    marked_is c.new.result (names_in c.args.leaves.now) (points_in c.args.places.now) (ranks_in c.args.ranks.now) c.args.marks.now c.requires.marks
+    (c.new.ensures.names ∙ c.in_ok-kept_names.ensures) (c.new.ensures.points ∙ c.in_ok-kept_points.ensures) (returns-clause-cells c)
