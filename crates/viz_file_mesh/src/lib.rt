@@ -10,5 +10,3 @@ mod meshes;
 pub use laws::read_pieces_are_cells;
 pub use meshes::{grid_mesh, poly_mesh};
 
-#[cfg(test)]
-mod tests;

@@ -93,7 +93,7 @@ fn dataset(lexer: &mut Lexer<'_>) -> Result<DatasetWord, FileFault>
 
 /// The two lines, the form and the word of the dataset.
 #[tactic(auto, unfolding(crate::specs::Steps::preamble_at))]
-fn preamble(lexer: &mut Lexer<'_>) -> Result<Preamble, FileFault>
+fn all_in_front(lexer: &mut Lexer<'_>) -> Result<Preamble, FileFault>
     ensures { Reads (λ p. p) result lexer.new (preamble_at lexer.old) }
 {
     let later = two_lines(lexer)?;
@@ -246,6 +246,6 @@ pub(crate) fn file_header(lexer: &mut Lexer<'_>) -> Result<FileHeader, FileFault
     ensures read { Reads header_seen result lexer.new (header_at lexer.old) }
     ensures within { IfOk result IsWithin }
 {
-    let preamble = preamble(lexer)?;
+    let preamble = all_in_front(lexer)?;
     behind_preamble(lexer, preamble)
 }
