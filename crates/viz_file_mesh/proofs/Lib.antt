@@ -3,3 +3,4 @@ pub mod GridCells
 pub mod MeshLemmas
 pub mod PieceLoops
 pub mod PolyCells
+pub mod ReadCells
