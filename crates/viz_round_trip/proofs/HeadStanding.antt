@@ -1,5 +1,5 @@
--- The two lines in front, the form and the dataset, as they are written.
-use Rattle.std.proofs.Common.{◌≡◌, ◌≢◌, ℕ, ◌+◌, Bool, true, false, not, List, [], ◌∷◌, ◌++◌, length, refl, ◌∙◌}
+-- What stands in front of the geometry, as it is written: the two lines, the form and the dataset.
+use Rattle.std.proofs.Common.{◌≡◌, ◌≢◌, ℕ, ◌+◌, Bool, true, false, not, List, [], ◌∷◌, ◌++◌, length, drop, refl, ◌∙◌}
 use Rattle.std.specs.Prelude.{codes, nat_eq}
 use Rattle.std.specs.List.{list_all}
 use Rattle.std.proofs.lemmas.Bool.{eqb-false}
@@ -13,8 +13,10 @@ use Rattle.viz_lex.specs.Steps.{same_word}
 use Rattle.viz_lex.specs.Rules.{gives, refuses, demand, choose, follow}
 use Rattle.viz_lex.specs.Items.{word, keyword}
 use Rattle.viz_lex.proofs.LineLemmas.{rest_of-line}
-use Rattle.viz_legacy_read.specs.Magic.{is_magic, line, two_lines}
-use Rattle.viz_legacy_read.specs.Header.{form, dataset}
+use Rattle.viz_legacy_read.specs.declared.front.DatasetWord.TheVariants.{Points}
+use Rattle.viz_legacy_read.specs.declared.front.Preamble.{Preamble}
+use Rattle.viz_legacy_read.specs.Magic.{magic, is_magic, is_later, line, two_lines}
+use Rattle.viz_legacy_read.specs.Header.{form, dataset, dataset_word, preamble}
 use Rattle.viz_legacy_write.specs.ImageText.{title_lines, form_line, dataset_line}
 use Rattle.viz_round_trip.proofs.StandingLemmas.{Stands, stands-gives, stands-follow, stands-demand}
 use Rattle.viz_round_trip.proofs.WordStanding.{word-solid, blank-nil, blank-one, stands-next, stands-keyword}
@@ -45,13 +47,14 @@ title_parts : (behind : List ℕ) → title_lines ++ behind ≡ version ++ 10 �
 unfolding title_lines
 title_parts behind = refl
 
-pub stands-title : (old : Reading) (behind : List ℕ) → rest_of old ≡ title_lines ++ behind → Stands two_lines old tt behind
+pub stands-title : (old : Reading) (behind : List ℕ) → rest_of old ≡ title_lines ++ behind → Stands two_lines old false behind
 stands-title old behind e =
     let first = stands-line Magic old version (title ++ 10 ∷ behind) refl (e ∙ title_parts behind) in
     let second = stands-line Title first.new title behind refl first.rest in
-    stands-follow (line Magic) (λ first. demand (is_magic first) (fault_at Magic 0) (follow (line Title) (λ title. gives tt))) old version tt (title ++ 10 ∷ behind) behind first
-    (stands-demand _ _ _ first.new tt behind refl
-    (stands-follow (line Title) (λ title. gives tt) first.new title tt behind behind second (stands-gives tt second.new behind second.rest)))
+    let later = λ (text : List ℕ). is_later (drop (length magic) text) in
+    stands-follow (line Magic) (λ text. demand (is_magic text) (fault_at Magic 0) (follow (line Title) (λ title. gives (later text)))) old version false (title ++ 10 ∷ behind) behind first
+    (stands-demand _ _ _ first.new false behind refl
+    (stands-follow (line Title) (λ title. gives (later version)) first.new title false behind behind second (stands-gives false second.new behind second.rest)))
 
 -- ---- the form
 
@@ -73,11 +76,28 @@ stands-form false old behind e =
 
 -- ---- the dataset
 
-pub stands-dataset : (old : Reading) (behind : List ℕ) → rest_of old ≡ 10 ∷ (dataset_line ++ behind) → Stands dataset old tt (10 ∷ behind)
+pub stands-dataset : (old : Reading) (behind : List ℕ) → rest_of old ≡ 10 ∷ (dataset_line ++ behind) → Stands dataset old Points (10 ∷ behind)
 unfolding dataset_line
 stands-dataset old behind e =
     let first = stands-keyword (codes "DATASET") old (10 ∷ []) (codes "DATASET") (32 ∷ (codes "STRUCTURED_POINTS" ++ 10 ∷ behind)) refl (record { parts = e; blank = blank-one 10 refl; is_word = word-solid (codes "DATASET") refl; ends = refl }) in
     let second = stands-next first.new (32 ∷ []) (codes "STRUCTURED_POINTS") (10 ∷ behind) (record { parts = first.rest; blank = blank-one 32 refl; is_word = word-solid (codes "STRUCTURED_POINTS") refl; ends = refl }) in
-    stands-follow (keyword (codes "DATASET")) _ old tt tt (32 ∷ (codes "STRUCTURED_POINTS" ++ 10 ∷ behind)) (10 ∷ behind) first
-    (stands-follow word _ first.new (first.new.place + 1, codes "STRUCTURED_POINTS") tt (10 ∷ behind) (10 ∷ behind) second
-    (stands-gives tt second.new (10 ∷ behind) second.rest))
+    stands-follow (keyword (codes "DATASET")) _ old tt Points (32 ∷ (codes "STRUCTURED_POINTS" ++ 10 ∷ behind)) (10 ∷ behind) first
+    (stands-follow word dataset_word first.new (first.new.place + 1, codes "STRUCTURED_POINTS") Points (10 ∷ behind) (10 ∷ behind) second
+    (stands-gives Points second.new (10 ∷ behind) second.rest))
+
+-- ---- all of it
+
+-- what stands in front of an image that is written
+abbrev pub image_preamble : Bool → Preamble
+image_preamble binary = record { later = false; binary = binary; dataset = Points }
+
+pub stands-preamble : (binary : Bool) (old : Reading) (behind : List ℕ) → rest_of old ≡ title_lines ++ (form_line binary ++ (dataset_line ++ behind)) → Stands preamble old (image_preamble binary) (10 ∷ behind)
+stands-preamble binary old behind e =
+    let a = stands-title old (form_line binary ++ (dataset_line ++ behind)) e in
+    let b = stands-form binary a.new (dataset_line ++ behind) a.rest in
+    let c = stands-dataset b.new behind b.rest in
+    let p = image_preamble binary in
+    stands-follow two_lines _ old false p (form_line binary ++ (dataset_line ++ behind)) (10 ∷ behind) a
+    (stands-follow form _ a.new binary p (10 ∷ (dataset_line ++ behind)) (10 ∷ behind) b
+    (stands-follow dataset _ b.new Points p (10 ∷ behind) (10 ∷ behind) c
+    (stands-gives p c.new (10 ∷ behind) c.rest)))
