@@ -1,4 +1,4 @@
--- What stands in front of the geometry, as it is written: the two lines, the form and the dataset.
+-- The two lines in front, the form and the dataset, as they are written.
 use Rattle.std.proofs.Common.{◌≡◌, ◌≢◌, ℕ, ◌+◌, Bool, true, false, not, List, [], ◌∷◌, ◌++◌, length, drop, refl, ◌∙◌}
 use Rattle.std.specs.Prelude.{codes, nat_eq}
 use Rattle.std.specs.List.{list_all}
@@ -13,10 +13,9 @@ use Rattle.viz_lex.specs.Steps.{same_word}
 use Rattle.viz_lex.specs.Rules.{gives, refuses, demand, choose, follow}
 use Rattle.viz_lex.specs.Items.{word, keyword}
 use Rattle.viz_lex.proofs.LineLemmas.{rest_of-line}
-use Rattle.viz_legacy_read.specs.declared.front.DatasetWord.TheVariants.{Points}
-use Rattle.viz_legacy_read.specs.declared.front.Preamble.{Preamble}
 use Rattle.viz_legacy_read.specs.Magic.{magic, is_magic, is_later, line, two_lines}
-use Rattle.viz_legacy_read.specs.Header.{form, dataset, dataset_word, preamble}
+use Rattle.viz_legacy_read.specs.Header.{form, Header, image_header, header}
+use Rattle.viz_legacy_read.specs.Header.Heading.{OfImage}
 use Rattle.viz_legacy_write.specs.ImageText.{title_lines, form_line, dataset_line}
 use Rattle.viz_round_trip.proofs.StandingLemmas.{Stands, stands-gives, stands-follow, stands-demand}
 use Rattle.viz_round_trip.proofs.WordStanding.{word-solid, blank-nil, blank-one, stands-next, stands-keyword}
@@ -74,30 +73,21 @@ stands-form false old behind e =
     form_word old (codes "ASCII") (10 ∷ behind) false (record { parts = e; blank = blank-nil; is_word = word-solid (codes "ASCII") refl; ends = refl }) (λ new place rest.
     stands-gives false new (10 ∷ behind) rest)
 
--- ---- the dataset
+-- ---- up to the dataset
 
-pub stands-dataset : (old : Reading) (behind : List ℕ) → rest_of old ≡ 10 ∷ (dataset_line ++ behind) → Stands dataset old Points (10 ∷ behind)
+-- the header of an image, where its lines stand behind the dataset
+pub stands-dataset : (binary : Bool) (old : Reading) (h : Header) (behind left : List ℕ) → rest_of old ≡ title_lines ++ (form_line binary ++ (dataset_line ++ behind))
+    → ((new : Reading) → rest_of new ≡ 10 ∷ behind → Stands (image_header binary) new h left) → Stands header old (OfImage h) left
 unfolding dataset_line
-stands-dataset old behind e =
-    let first = stands-keyword (codes "DATASET") old (10 ∷ []) (codes "DATASET") (32 ∷ (codes "STRUCTURED_POINTS" ++ 10 ∷ behind)) refl (record { parts = e; blank = blank-one 10 refl; is_word = word-solid (codes "DATASET") refl; ends = refl }) in
-    let second = stands-next first.new (32 ∷ []) (codes "STRUCTURED_POINTS") (10 ∷ behind) (record { parts = first.rest; blank = blank-one 32 refl; is_word = word-solid (codes "STRUCTURED_POINTS") refl; ends = refl }) in
-    stands-follow (keyword (codes "DATASET")) _ old tt Points (32 ∷ (codes "STRUCTURED_POINTS" ++ 10 ∷ behind)) (10 ∷ behind) first
-    (stands-follow word dataset_word first.new (first.new.place + 1, codes "STRUCTURED_POINTS") Points (10 ∷ behind) (10 ∷ behind) second
-    (stands-gives Points second.new (10 ∷ behind) second.rest))
-
--- ---- all of it
-
--- what stands in front of an image that is written
-abbrev pub image_preamble : Bool → Preamble
-image_preamble binary = record { later = false; binary = binary; dataset = Points }
-
-pub stands-preamble : (binary : Bool) (old : Reading) (behind : List ℕ) → rest_of old ≡ title_lines ++ (form_line binary ++ (dataset_line ++ behind)) → Stands preamble old (image_preamble binary) (10 ∷ behind)
-stands-preamble binary old behind e =
+stands-dataset binary old h behind left e later =
+    let points = codes "STRUCTURED_POINTS" in
     let a = stands-title old (form_line binary ++ (dataset_line ++ behind)) e in
     let b = stands-form binary a.new (dataset_line ++ behind) a.rest in
-    let c = stands-dataset b.new behind b.rest in
-    let p = image_preamble binary in
-    stands-follow two_lines _ old false p (form_line binary ++ (dataset_line ++ behind)) (10 ∷ behind) a
-    (stands-follow form _ a.new binary p (10 ∷ (dataset_line ++ behind)) (10 ∷ behind) b
-    (stands-follow dataset _ b.new Points p (10 ∷ behind) (10 ∷ behind) c
-    (stands-gives p c.new (10 ∷ behind) c.rest)))
+    let key = stands-keyword (codes "DATASET") b.new (10 ∷ []) (codes "DATASET") (32 ∷ (points ++ 10 ∷ behind)) refl (record { parts = b.rest; blank = blank-one 10 refl; is_word = word-solid (codes "DATASET") refl; ends = refl }) in
+    let name = stands-next key.new (32 ∷ []) points (10 ∷ behind) (record { parts = key.rest; blank = blank-one 32 refl; is_word = word-solid points refl; ends = refl }) in
+    let lines = later name.new name.rest in
+    record {
+      new = lines.new;
+      is = (_, name.new, (false, a.new, a.is, (binary, b.new, b.is, (_, name.new, (tt, key.new, key.is, ((key.new.place + 1, points), name.new, name.is, (refl, refl))), (refl, refl)))), (h, lines.new, lines.is, (refl, refl)));
+      rest = lines.rest;
+    }
