@@ -11,7 +11,7 @@ use Rattle.viz_lex.specs.Reading.{Reading, rest_of, advanced, fault_at}
 use Rattle.viz_lex.specs.Words.{HasNoNewline, IsNextLine, IsNextWord}
 use Rattle.viz_lex.specs.Steps.{same_word}
 use Rattle.viz_lex.specs.Rules.{gives, refuses, demand, choose, follow}
-use Rattle.viz_lex.specs.Items.{word, keyword}
+use Rattle.viz_lex.specs.Items.{word}
 use Rattle.viz_lex.proofs.LineLemmas.{rest_of-line}
 use Rattle.viz_legacy_read.specs.Magic.{magic, is_magic, is_later, line, two_lines}
 use Rattle.viz_legacy_read.specs.Header.{form, Header, image_header, header}
@@ -75,7 +75,7 @@ stands-form false old behind e =
 
 -- ---- up to the dataset
 
--- the header of an image, where its lines stand behind the dataset
+-- the header of an image, where its lines stand behind the dataset; the reader keeps the types of the holes to itself
 pub stands-dataset : (binary : Bool) (old : Reading) (h : Header) (behind left : List ℕ) → rest_of old ≡ title_lines ++ (form_line binary ++ (dataset_line ++ behind))
     → ((new : Reading) → rest_of new ≡ 10 ∷ behind → Stands (image_header binary) new h left) → Stands header old (OfImage h) left
 unfolding dataset_line
@@ -88,6 +88,11 @@ stands-dataset binary old h behind left e later =
     let lines = later name.new name.rest in
     record {
       new = lines.new;
-      is = (_, name.new, (false, a.new, a.is, (binary, b.new, b.is, (_, name.new, (tt, key.new, key.is, ((key.new.place + 1, points), name.new, name.is, (refl, refl))), (refl, refl)))), (h, lines.new, lines.is, (refl, refl)));
+      is = (
+        _,
+        name.new,
+        (false, a.new, a.is, (binary, b.new, b.is, (_, name.new, (tt, key.new, key.is, ((key.new.place + 1, points), name.new, name.is, (refl {a = name.new}, refl))), (refl {a = name.new}, refl)))),
+        (h, lines.new, lines.is, (refl {a = lines.new}, refl)),
+      );
       rest = lines.rest;
     }
