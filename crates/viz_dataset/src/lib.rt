@@ -1,4 +1,4 @@
-//! Datasets: images of whole numbers on a grid of points.
+//! Datasets: images of whole numbers on a grid of points, and meshes.
 //!
 //! Contract: an image keeps the rule of an image, its points lie where the formula says, and
 //! `restrict` gives the same numbers on a part of the extent.

@@ -221,7 +221,9 @@ fn other_numbers_stand_at_the_same_points(rt: HostRuntime) -> Result<(), Fail> {
         spacing: other.spacing(),
     };
     assert!(rt; matches!(info, Info::Image { .. }));
-    let Dataset::Image(again) = Dataset::Image(other);
+    let Dataset::Image(again) = Dataset::Image(other) else {
+        return Err("an image")?;
+    };
     assert_eq!(rt; again.column().numbers::<i64>(), Some([0, 1].as_slice()));
     Ok(())
 }

@@ -1,8 +1,7 @@
 -- The cells of a grid that is read: each has 1 to 4 indices of points, and a piece of it repeats none.
-use Rattle.std.proofs.Common.{◌≡◌, ◌≢◌, ℕ, ℤ, pos, negsuc, ◌≤◌, ◌<◌, Bool, true, false, not, List, [], ◌∷◌, length, sym, subst, arith}
+use Rattle.std.proofs.Common.{◌≡◌, ◌≢◌, ℕ, ℤ, pos, negsuc, ◌≤◌, Bool, true, false, not, List, [], ◌∷◌, length, sym, subst, arith}
 use Rattle.std.specs.Prelude.{◌==◌, unwrap_or, Option, Some, None, if◌then◌else◌}
 use Rattle.std.specs.List.{All}
-use Rattle.std.proofs.Math.Dec.{eqb}
 use Rattle.std.proofs.lemmas.Bool.{true≢false, eqb-true, eqb-false, and_parts, or_parts, not-true}
 use Rattle.std.proofs.lemmas.List.Elements.{All-nil, All-cons, All-head, All-tail}
 use Rattle.viz_lex.specs.Reading.{Reading}

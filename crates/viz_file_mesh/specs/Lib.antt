@@ -1,2 +1,3 @@
 pub mod FileMesh
 pub mod GridPieces
+pub mod Steps

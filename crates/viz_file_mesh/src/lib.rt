@@ -4,8 +4,12 @@
 //! that of docs/FORMATS.md, "Grids and polydata".
 #![tactic(auto)]
 
+mod cells;
+mod grids;
 mod laws;
 mod meshes;
+mod points;
+mod polys;
 
 pub use laws::read_pieces_are_cells;
 pub use meshes::{grid_mesh, poly_mesh};

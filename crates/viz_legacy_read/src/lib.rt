@@ -19,3 +19,5 @@ pub use stop::ReadStop;
 
 #[cfg(test)]
 mod tests;
+#[cfg(test)]
+mod tests_meshes;

@@ -32,13 +32,14 @@ fn told(
     pick: &Pick,
     text: &[u8],
 ) -> Result<(Place, Kind8, [i128; 2]), Option<FileFault>> {
-    match read(alloc, text, pick) {
+    match read(alloc, text, pick, 0) {
         Ok(Dataset::Image(image)) => {
             let place = (image.extent().bounds(), image.origin(), image.spacing());
             let column = image.column();
             let last = image.extent().count() - 1;
             Ok((place, column.kind(), [column.get(0), column.get(last)]))
         }
+        Ok(Dataset::Mesh(_)) => Err(None),
         Err(ReadStop::File(fault)) => Err(Some(fault)),
         Err(ReadStop::Memory) => Err(None),
     }
@@ -123,7 +124,7 @@ fn faults_in_front_of_the_header_lines(rt: HostRuntime) -> Result<(), Fail> {
             43,
         ),
         (
-            b"# vtk DataFile Version 3.0\nt\nASCII\nDATASET POLYDATA\n",
+            b"# vtk DataFile Version 3.0\nt\nASCII\nDATASET STRUCTURED_GRID\n",
             FileKind::Unsupported,
             43,
         ),

@@ -178,6 +178,9 @@ fn all_pieces(alloc: Global, cells: &PolyCells) -> Result<PolyPieces, AllocError
 /// fanned from their first point, and of a strip each other triangle is turned. One that repeats an
 /// index is dropped.
 pub fn split(alloc: Global, cells: &PolyCells) -> Result<PolyPieces, AllocError>
+    ensures numbers { IfOk result (λ p.
+        p.vertices.items ++ (p.lines.items ++ p.triangles.items)
+        ≡ pieces_in (sections_of cells.now)) }
     ensures pieces { (all : ByKind (List (List ℕ)))
         → sections_of cells.now ≡ numbers_by_kind all
         → IfOk result (λ p.

@@ -1,0 +1,8 @@
+use Rattle.std.proofs.Common.{◌≡◌, ◌-◌, ◌++◌, map}
+use Rattle.viz_mesh_read.specs.Pieces.{in_cells}
+use Rattle.viz_file_mesh.specs.GridPieces.{grid_piece}
+use Rattle.viz_file_mesh.proofs.grids.pieces_of_size.Given as goal
+
+-- the pieces so far, and those of the cells that are left, are all
+abbrev pub invariant-loop : goal.invariant-loop
+invariant-loop g l = map g.C.CellIndices.list l.pieces.items ++ in_cells grid_piece (l.cells.count - l.counter) l.left ≡ in_cells grid_piece l.fn.cells.count l.fn.cells.numbers.items

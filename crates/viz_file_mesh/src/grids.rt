@@ -1,0 +1,162 @@
+//! The pieces of a grid, by ranks.
+
+ghost use Rattle.std.specs.Prelude.{◌≡◌, ◌++◌, ℕ, List, All, IfOk, OnOk, IfSome, IsTrue, length, map, true};
+ghost use Rattle.viz_mesh_read.specs.Grid.{first_count, behind_first};
+ghost use Rattle.viz_mesh_read.specs.Pieces.{first_indices, in_cells};
+ghost use Rattle.viz_mesh_read.specs.Sections.{section_of};
+ghost use Rattle.viz_sheet.specs.Arrays.{ranks_in};
+ghost use Rattle.viz_sheet.specs.Ranked.{IsCell};
+ghost use Rattle.viz_file_mesh.specs.GridPieces.{is_among, repeats_none, grid_piece, grid_pieces_in};
+
+use crate::cells::{CellIndices, mixed_cell};
+use std::alloc::{AllocError, Global};
+use viz_mesh_read::CellSection;
+use viz_sheet::{Mixed, Ranks};
+
+/// The indices of the first cell, and none where there is no cell.
+fn first_indices(numbers: &[u32]) -> &[u32]
+    ensures { result.now ≡ first_indices numbers.now }
+{
+    match numbers {
+        [c, rest @ ..] => &rest[..(*c as usize).min(rest.len())],
+        [] => numbers,
+    }
+}
+
+/// The numbers behind the first cell.
+fn behind_first(numbers: &[u32]) -> &[u32]
+    ensures { result.now ≡ behind_first numbers.now }
+{
+    match numbers {
+        [c, rest @ ..] => &rest[(*c as usize).min(rest.len())..],
+        [] => numbers,
+    }
+}
+
+/// How many indices the first cell has, and 0 where there is no cell.
+fn first_size(numbers: &[u32]) -> u32 {
+    match numbers {
+        [c, ..] => *c,
+        [] => 0,
+    }
+}
+
+/// No index is repeated.
+fn repeats_none(cell: &[u32]) -> bool
+    ensures { result ≡ repeats_none cell.now }
+{
+    match cell {
+        [] => true,
+        [first, others @ ..] => !is_among(*first, others) && repeats_none(others),
+    }
+}
+
+/// The index is one of these.
+fn is_among(index: u32, others: &[u32]) -> bool
+    ensures { result ≡ is_among index others.now }
+{
+    match others {
+        [] => false,
+        [first, rest @ ..] => index == *first || is_among(index, rest),
+    }
+}
+
+/// One cell more, where it repeats no index. It answers whether cells of this type have its size.
+fn put_cell<C: CellIndices>(pieces: &mut Vec<C>, cell: &[u32]) -> Result<bool, AllocError>
+    ensures { IfOk result (λ fits. fits ≡ true
+        → map C.list pieces.new.items ≡ map C.list pieces.old.items ++ grid_piece cell.now) }
+{
+    let Some(piece) = C::of(cell) else {
+        return Ok(false);
+    };
+    if !repeats_none(cell) {
+        return Ok(true);
+    }
+    pieces.push(piece)?;
+    Ok(true)
+}
+
+/// The pieces, where all have the size of this type.
+fn pieces_of_size<C: CellIndices>(
+    alloc: Global,
+    cells: &CellSection,
+) -> Result<Option<Vec<C>>, AllocError>
+    ensures { IfOk result (λ pieces. IfSome pieces (λ v.
+        map C.list v.items ≡ grid_pieces_in (section_of cells.now))) }
+{
+    let mut left = cells.numbers.as_slice();
+    let room = cells.count.min(left.len() as u64);
+    let mut pieces = Vec::with_capacity(alloc, room as usize)?;
+    for _ in 0..cells.count {
+        if !put_cell(&mut pieces, first_indices(left))? {
+            return Ok(None);
+        }
+        left = behind_first(left);
+    }
+    Ok(Some(pieces))
+}
+
+/// One cell more, where it repeats no index.
+fn put_mixed(pieces: &mut Vec<Mixed>, cell: &[u32], points: u64) -> Result<(), AllocError>
+    requires { All (IsCell points) (grid_piece cell.now) }
+    ensures { OnOk result (pieces.new.items ≡ pieces.old.items ++ grid_piece cell.now) }
+{
+    // A piece has 1 to 4 indices: another cell repeats one.
+    let Some(piece) = mixed_cell(cell) else {
+        return Ok(());
+    };
+    if !repeats_none(cell) {
+        return Ok(());
+    }
+    pieces.push(piece)?;
+    Ok(())
+}
+
+/// The pieces, of whatever sizes they are.
+fn pieces_of_any_size(
+    alloc: Global,
+    cells: &CellSection,
+    points: u64,
+) -> Result<Vec<Mixed>, AllocError>
+    requires { All (IsCell points) (grid_pieces_in (section_of cells.now)) }
+    ensures { IfOk result (λ v. v.items ≡ grid_pieces_in (section_of cells.now)) }
+{
+    let mut left = cells.numbers.as_slice();
+    let room = cells.count.min(left.len() as u64);
+    let mut pieces = Vec::with_capacity(alloc, room as usize)?;
+    for _ in 0..cells.count {
+        put_mixed(&mut pieces, first_indices(left), points)?;
+        left = behind_first(left);
+    }
+    Ok(pieces)
+}
+
+/// The pieces of one size as ranks, where all have the size of the first cell.
+fn ranks_of_size(alloc: Global, cells: &CellSection) -> Result<Option<Ranks>, AllocError>
+    ensures { IfOk result (λ ranks. IfSome ranks (λ r.
+        ranks_in r ≡ grid_pieces_in (section_of cells.now))) }
+{
+    let ranks = match first_size(&cells.numbers) {
+        1 => pieces_of_size(alloc, cells)?.map(Ranks::Vertices),
+        2 => pieces_of_size(alloc, cells)?.map(Ranks::Lines),
+        3 => pieces_of_size(alloc, cells)?.map(Ranks::Triangles),
+        4 => pieces_of_size(alloc, cells)?.map(Ranks::Tetrahedra),
+        _ => None,
+    };
+    Ok(ranks)
+}
+
+/// The pieces of a grid of so many points. The numbers of its cells are given up.
+pub(crate) fn grid_ranks(
+    alloc: Global,
+    cells: CellSection,
+    points: u64,
+) -> Result<Ranks, AllocError>
+    requires { All (IsCell points) (grid_pieces_in (section_of cells)) }
+    ensures { IfOk result (λ r. ranks_in r ≡ grid_pieces_in (section_of cells)) }
+{
+    if let Some(ranks) = ranks_of_size(alloc, &cells)? {
+        return Ok(ranks);
+    }
+    Ok(Ranks::Any(pieces_of_any_size(alloc, &cells, points)?))
+}
