@@ -1,5 +1,5 @@
 -- The two lines in front, the form and the dataset, as they are written.
-use Rattle.std.proofs.Common.{◌≡◌, ◌≢◌, ℕ, ◌+◌, Bool, true, false, not, List, [], ◌∷◌, ◌++◌, length, refl, ◌∙◌}
+use Rattle.std.proofs.Common.{◌≡◌, ◌≢◌, ℕ, ◌+◌, Bool, true, false, not, List, [], ◌∷◌, ◌++◌, length, drop, refl, ◌∙◌}
 use Rattle.std.specs.Prelude.{codes, nat_eq}
 use Rattle.std.specs.List.{list_all}
 use Rattle.std.proofs.lemmas.Bool.{eqb-false}
@@ -11,10 +11,11 @@ use Rattle.viz_lex.specs.Reading.{Reading, rest_of, advanced, fault_at}
 use Rattle.viz_lex.specs.Words.{HasNoNewline, IsNextLine, IsNextWord}
 use Rattle.viz_lex.specs.Steps.{same_word}
 use Rattle.viz_lex.specs.Rules.{gives, refuses, demand, choose, follow}
-use Rattle.viz_lex.specs.Items.{word, keyword}
+use Rattle.viz_lex.specs.Items.{word}
 use Rattle.viz_lex.proofs.LineLemmas.{rest_of-line}
-use Rattle.viz_legacy_read.specs.Magic.{is_magic, line, two_lines}
-use Rattle.viz_legacy_read.specs.Header.{form, dataset}
+use Rattle.viz_legacy_read.specs.Magic.{magic, is_magic, is_later, line, two_lines}
+use Rattle.viz_legacy_read.specs.Header.{form, Header, image_header, header}
+use Rattle.viz_legacy_read.specs.Header.Heading.{OfImage}
 use Rattle.viz_legacy_write.specs.ImageText.{title_lines, form_line, dataset_line}
 use Rattle.viz_round_trip.proofs.StandingLemmas.{Stands, stands-gives, stands-follow, stands-demand}
 use Rattle.viz_round_trip.proofs.WordStanding.{word-solid, blank-nil, blank-one, stands-next, stands-keyword}
@@ -45,13 +46,14 @@ title_parts : (behind : List ℕ) → title_lines ++ behind ≡ version ++ 10 �
 unfolding title_lines
 title_parts behind = refl
 
-pub stands-title : (old : Reading) (behind : List ℕ) → rest_of old ≡ title_lines ++ behind → Stands two_lines old tt behind
+pub stands-title : (old : Reading) (behind : List ℕ) → rest_of old ≡ title_lines ++ behind → Stands two_lines old false behind
 stands-title old behind e =
     let first = stands-line Magic old version (title ++ 10 ∷ behind) refl (e ∙ title_parts behind) in
     let second = stands-line Title first.new title behind refl first.rest in
-    stands-follow (line Magic) (λ first. demand (is_magic first) (fault_at Magic 0) (follow (line Title) (λ title. gives tt))) old version tt (title ++ 10 ∷ behind) behind first
-    (stands-demand _ _ _ first.new tt behind refl
-    (stands-follow (line Title) (λ title. gives tt) first.new title tt behind behind second (stands-gives tt second.new behind second.rest)))
+    let later = λ (text : List ℕ). is_later (drop (length magic) text) in
+    stands-follow (line Magic) (λ text. demand (is_magic text) (fault_at Magic 0) (follow (line Title) (λ title. gives (later text)))) old version false (title ++ 10 ∷ behind) behind first
+    (stands-demand _ _ _ first.new false behind refl
+    (stands-follow (line Title) (λ title. gives (later version)) first.new title false behind behind second (stands-gives false second.new behind second.rest)))
 
 -- ---- the form
 
@@ -71,13 +73,26 @@ stands-form false old behind e =
     form_word old (codes "ASCII") (10 ∷ behind) false (record { parts = e; blank = blank-nil; is_word = word-solid (codes "ASCII") refl; ends = refl }) (λ new place rest.
     stands-gives false new (10 ∷ behind) rest)
 
--- ---- the dataset
+-- ---- up to the dataset
 
-pub stands-dataset : (old : Reading) (behind : List ℕ) → rest_of old ≡ 10 ∷ (dataset_line ++ behind) → Stands dataset old tt (10 ∷ behind)
+-- the header of an image, where its lines stand behind the dataset; the reader keeps the types of the holes to itself
+pub stands-dataset : (binary : Bool) (old : Reading) (h : Header) (behind left : List ℕ) → rest_of old ≡ title_lines ++ (form_line binary ++ (dataset_line ++ behind))
+    → ((new : Reading) → rest_of new ≡ 10 ∷ behind → Stands (image_header binary) new h left) → Stands header old (OfImage h) left
 unfolding dataset_line
-stands-dataset old behind e =
-    let first = stands-keyword (codes "DATASET") old (10 ∷ []) (codes "DATASET") (32 ∷ (codes "STRUCTURED_POINTS" ++ 10 ∷ behind)) refl (record { parts = e; blank = blank-one 10 refl; is_word = word-solid (codes "DATASET") refl; ends = refl }) in
-    let second = stands-next first.new (32 ∷ []) (codes "STRUCTURED_POINTS") (10 ∷ behind) (record { parts = first.rest; blank = blank-one 32 refl; is_word = word-solid (codes "STRUCTURED_POINTS") refl; ends = refl }) in
-    stands-follow (keyword (codes "DATASET")) _ old tt tt (32 ∷ (codes "STRUCTURED_POINTS" ++ 10 ∷ behind)) (10 ∷ behind) first
-    (stands-follow word _ first.new (first.new.place + 1, codes "STRUCTURED_POINTS") tt (10 ∷ behind) (10 ∷ behind) second
-    (stands-gives tt second.new (10 ∷ behind) second.rest))
+stands-dataset binary old h behind left e later =
+    let points = codes "STRUCTURED_POINTS" in
+    let a = stands-title old (form_line binary ++ (dataset_line ++ behind)) e in
+    let b = stands-form binary a.new (dataset_line ++ behind) a.rest in
+    let key = stands-keyword (codes "DATASET") b.new (10 ∷ []) (codes "DATASET") (32 ∷ (points ++ 10 ∷ behind)) refl (record { parts = b.rest; blank = blank-one 10 refl; is_word = word-solid (codes "DATASET") refl; ends = refl }) in
+    let name = stands-next key.new (32 ∷ []) points (10 ∷ behind) (record { parts = key.rest; blank = blank-one 32 refl; is_word = word-solid points refl; ends = refl }) in
+    let lines = later name.new name.rest in
+    record {
+      new = lines.new;
+      is = (
+        _,
+        name.new,
+        (false, a.new, a.is, (binary, b.new, b.is, (_, name.new, (tt, key.new, key.is, ((key.new.place + 1, points), name.new, name.is, (refl {a = name.new}, refl))), (refl {a = name.new}, refl)))),
+        (h, lines.new, lines.is, (refl {a = lines.new}, refl)),
+      );
+      rest = lines.rest;
+    }

@@ -5,11 +5,11 @@ use Rattle.viz_lex.specs.Rules.{gives}
 use Rattle.viz_lex.specs.Repeats.{times_knowing}
 use Rattle.viz_extent.specs.Extent.{Bounds}
 use Rattle.viz_dataset.specs.Images.{Vector, IsOrigin, IsSpacing}
-use Rattle.viz_legacy_read.specs.Magic.{two_lines}
-use Rattle.viz_legacy_read.specs.Header.{form, dataset, geometry_of, whole_of, header_line, Header, header_of, header}
+use Rattle.viz_legacy_read.specs.Header.{geometry_of, whole_of, header_line, Header, header_of, header}
+use Rattle.viz_legacy_read.specs.Header.Heading.{OfImage}
 use Rattle.viz_legacy_write.specs.ImageText.{title_lines, form_line, dataset_line, dimensions_line, origin_line, spacing_line}
 use Rattle.viz_round_trip.proofs.StandingLemmas.{Stands, stands-gives, stands-follow}
-use Rattle.viz_round_trip.proofs.HeadStanding.{stands-title, stands-form, stands-dataset}
+use Rattle.viz_round_trip.proofs.HeadStanding.{stands-dataset}
 use Rattle.viz_round_trip.proofs.SizeStanding.{AreSizes}
 use Rattle.viz_round_trip.proofs.GeometryStanding.{lines_of, stands-lines}
 
@@ -23,16 +23,10 @@ header_text binary x y z v w tail =
     title_lines ++ (form_line binary ++ (dataset_line ++ (dimensions_line x y z ++ (origin_line v ++ (spacing_line w ++ tail)))))
 
 pub stands-header : (binary : Bool) (old : Reading) (x y z : ℕ) (v w : Vector) (tail : List ℕ) → AreSizes x y z → IsOrigin v → IsSpacing w
-    → rest_of old ≡ header_text binary x y z v w tail → Stands header old (header_with binary (whole_of x y z) v w) (10 ∷ tail)
+    → rest_of old ≡ header_text binary x y z v w tail → Stands header old (OfImage (header_with binary (whole_of x y z) v w)) (10 ∷ tail)
 stands-header binary old x y z v w tail are is_origin is_spacing e =
-    let geometry = dimensions_line x y z ++ (origin_line v ++ (spacing_line w ++ tail)) in
-    let a = stands-title old (form_line binary ++ (dataset_line ++ geometry)) e in
-    let b = stands-form binary a.new (dataset_line ++ geometry) a.rest in
-    let c = stands-dataset b.new geometry b.rest in
-    let d = stands-lines binary c.new x y z v w tail are is_origin is_spacing c.rest in
     let h = header_with binary (whole_of x y z) v w in
-    stands-follow two_lines _ old tt h (form_line binary ++ (dataset_line ++ geometry)) (10 ∷ tail) a
-    (stands-follow form _ a.new binary h (10 ∷ (dataset_line ++ geometry)) (10 ∷ tail) b
-    (stands-follow dataset _ b.new tt h (10 ∷ geometry) (10 ∷ tail) c
-    (stands-follow (times_knowing 3 (header_line binary)) (λ all. gives (header_of binary (geometry_of all))) c.new (lines_of (whole_of x y z) v w) h (10 ∷ tail) (10 ∷ tail) d
-    (stands-gives h d.new (10 ∷ tail) d.rest))))
+    let all = lines_of (whole_of x y z) v w in
+    stands-dataset binary old h (dimensions_line x y z ++ (origin_line v ++ (spacing_line w ++ tail))) (10 ∷ tail) e (λ new rest.
+    let lines = stands-lines binary new x y z v w tail are is_origin is_spacing rest in
+    stands-follow (times_knowing 3 (header_line binary)) (λ all. gives (header_of binary (geometry_of all))) new all h (10 ∷ tail) (10 ∷ tail) lines (stands-gives h lines.new (10 ∷ tail) lines.rest))

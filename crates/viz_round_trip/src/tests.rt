@@ -48,7 +48,9 @@ fn again<T: Number>(
 ) -> Result<(), Fail> {
     for binary in [false, true] {
         let text = text_of::<T>(alloc, written, binary, numbers)?;
-        let Dataset::Image(image) = read(alloc, text.list(), &Pick::First)?;
+        let Dataset::Image(image) = read(alloc, text.list(), &Pick::First, 0)? else {
+            return Err("an image".into());
+        };
         let found = (image.extent().bounds(), image.origin(), image.spacing());
         assert_eq!(*rt; found, *place, "{binary}");
         let column = image.column();
