@@ -5,6 +5,7 @@ ghost use Rattle.viz_mesh_read.specs.Sections.{section_of};
 ghost use Rattle.viz_mesh_read.specs.Poly.{sections_of};
 ghost use Rattle.viz_mesh_read.specs.Pieces.{pieces_in};
 ghost use Rattle.viz_sheet.specs.Ranked.{IsCell};
+ghost use Rattle.viz_sheet.specs.Sheet.{IsSheet};
 ghost use Rattle.viz_file_mesh.specs.FileMesh.{ArePoints, mesh_of};
 ghost use Rattle.viz_file_mesh.specs.GridPieces.{grid_pieces_in};
 
@@ -26,6 +27,7 @@ pub fn grid_mesh(
     requires cells { All (IsCell grid.points.count) (grid_pieces_in (section_of grid.cells)) }
     ensures value { IfOk result (λ m.
         m ≡ mesh_of unit grid.points picked (grid_pieces_in (section_of grid.cells))) }
+    ensures valid { IfOk result (All IsSheet) }
 {
     Err(AllocError)
 }
@@ -42,6 +44,7 @@ pub fn poly_mesh(
     requires cells { All (IsCell poly.points.count) (pieces_in (sections_of poly.cells)) }
     ensures value { IfOk result (λ m.
         m ≡ mesh_of unit poly.points picked (pieces_in (sections_of poly.cells))) }
+    ensures valid { IfOk result (All IsSheet) }
 {
     Err(AllocError)
 }

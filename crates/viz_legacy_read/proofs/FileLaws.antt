@@ -42,12 +42,12 @@ view-forth : {A B C : Type 0} (a : Rule A) (view : A → B) (by_view : B → Rul
 view-forth {B = B} {C = C} a view by_view f same r next y h =
     let one : (by_view h.0).is h.2.1 next y = subst (λ (s : Reading). (by_view h.0).is s next y) h.2.3.0 h.3 in
     let two : (by_view (view h.2.0)).is h.2.1 next y = subst (λ (b : B). (by_view b).is h.2.1 next y) h.2.3.1 one in
-    (h.2.0, (h.2.1, (h.2.2, subst (λ (rule : Rule C). rule.is h.2.1 next y) (same h.2.0) two)))
+    (h.2.0, h.2.1, h.2.2, subst (λ (rule : Rule C). rule.is h.2.1 next y) (same h.2.0) two)
 
 view-back : {A B C : Type 0} (a : Rule A) (view : A → B) (by_view : B → Rule C) (f : A → Rule C) → ((x : A) → by_view (view x) ≡ f x)
     → (r next : Reading) (y : C) → (follow a f).is r next y → (by_views a view by_view).is r next y
 view-back {C = C} a view by_view f same r next y h =
-    (view h.0, (h.1, ((h.0, (h.1, (h.2, (refl, refl)))), subst (λ (rule : Rule C). rule.is h.1 next y) (sym (same h.0)) h.3)))
+    (view h.0, h.1, (h.0, h.1, h.2, (refl, refl)), subst (λ (rule : Rule C). rule.is h.1 next y) (sym (same h.0)) h.3)
 
 fault-forth : {A B C : Type 0} (a : Rule A) (view : A → B) (by_view : B → Rule C) (f : A → Rule C) → ((x : A) → by_view (view x) ≡ f x)
     → (r : Reading) (fault : FileFault) → (by_views a view by_view).isnt r fault → (follow a f).isnt r fault
@@ -57,7 +57,7 @@ fault-forth {B = B} {C = C} a view by_view f same r fault h =
       | inr g ↦
           (let one : (by_view g.0).isnt g.2.1 fault = subst (λ (s : Reading). (by_view g.0).isnt s fault) g.2.3.0 g.3 in
           let two : (by_view (view g.2.0)).isnt g.2.1 fault = subst (λ (b : B). (by_view b).isnt g.2.1 fault) g.2.3.1 one in
-          inr (g.2.0, (g.2.1, (g.2.2, subst (λ (rule : Rule C). rule.isnt g.2.1 fault) (same g.2.0) two))))
+          inr (g.2.0, g.2.1, g.2.2, subst (λ (rule : Rule C). rule.isnt g.2.1 fault) (same g.2.0) two))
     ]
 
 fault-back : {A B C : Type 0} (a : Rule A) (view : A → B) (by_view : B → Rule C) (f : A → Rule C) → ((x : A) → by_view (view x) ≡ f x)
@@ -65,7 +65,7 @@ fault-back : {A B C : Type 0} (a : Rule A) (view : A → B) (by_view : B → Rul
 fault-back {C = C} a view by_view f same r fault h =
     elim h [
       | inl first ↦ inl (inl first)
-      | inr g ↦ inr (view g.0, (g.1, ((g.0, (g.1, (g.2, (refl, refl)))), subst (λ (rule : Rule C). rule.isnt g.1 fault) (sym (same g.0)) g.3)))
+      | inr g ↦ inr (view g.0, g.1, (g.0, g.1, g.2, (refl, refl)), subst (λ (rule : Rule C). rule.isnt g.1 fault) (sym (same g.0)) g.3)
     ]
 
 decides-view : {A B C : Type 0} (a : Rule A) (view : A → B) (by_view : B → Rule C) (f : A → Rule C) (read : Reading → Result (C × Reading) FileFault)

@@ -1,6 +1,6 @@
 -- What reading gives, beside the rules of a file.
-use Rattle.std.proofs.Common.{◌≡◌, ℕ, zero, suc, ℤ, pos, List, ◌∷◌, length, Option, Some, None, Ok, Err, refl, ap, subst}
-use Rattle.std.specs.Prelude.{map, replicate, IfSome}
+use Rattle.std.proofs.Common.{◌≡◌, ℕ, zero, suc, ℤ, pos, List, ◌∷◌, length, Option, Some, None, Result, Ok, Err, refl, ap, subst}
+use Rattle.std.specs.Prelude.{map, replicate, IfSome, IfOk, IfErr}
 use Rattle.viz_base.specs.declared.node.Pick.{Pick}
 use Rattle.viz_column.specs.Numbers.{Numbers}
 use Rattle.viz_dataset.specs.declared.dataset.Dataset.{Dataset}
@@ -13,7 +13,7 @@ use Rattle.viz_legacy_read.specs.declared.front.FileHeader.TheVariants as head
 use Rattle.viz_legacy_read.specs.Header.Heading.{OfImage, OfMesh}
 use Rattle.viz_legacy_read.specs.ImageFile.{numbers_or_zeros}
 use Rattle.viz_legacy_read.specs.Reading.{front, IsInfo, Reads, StopsInHeader, IsStop}
-use Rattle.viz_legacy_read.specs.Reads.{StopsAt, image_seen, header_seen, info_of}
+use Rattle.viz_legacy_read.specs.Reads.{StopsAt, ReadsUnlessMemory, image_seen, header_seen, info_of}
 use Rattle.viz_legacy_read.specs.Steps.{header_at, file_at}
 use Rattle.viz_legacy_read.proofs.HeaderLaws.{decides-header}
 use Rattle.viz_legacy_read.proofs.FileLaws.{decides-file}
@@ -50,3 +50,11 @@ file_is bytes pick unit r next d e read =
 pub file_stops : (bytes : List ℕ) (pick : Pick) (unit : ℕ) (r : Reading) (stop : ReadStop) → r ≡ front bytes → StopsAt stop (file_at pick unit r) → IsStop bytes pick unit stop
 file_stops bytes pick unit r (File f) e read = (decides-file pick unit).stops (front bytes) f (subst (λ (s : Reading). file_at pick unit s ≡ Err f) e read)
 file_stops bytes pick unit r Memory e read = tt
+
+pub file_found : (bytes : List ℕ) (pick : Pick) (unit : ℕ) (r next : Reading) (found : Result Dataset ReadStop) → r ≡ front bytes → ReadsUnlessMemory (λ (d : Dataset). d) found next (file_at pick unit r) → IfOk found (Reads bytes pick unit)
+file_found bytes pick unit r next (Ok d) e read = file_is bytes pick unit r next d e read
+file_found bytes pick unit r next (Err stop) e read = tt
+
+pub file_fault : (bytes : List ℕ) (pick : Pick) (unit : ℕ) (r next : Reading) (found : Result Dataset ReadStop) → r ≡ front bytes → ReadsUnlessMemory (λ (d : Dataset). d) found next (file_at pick unit r) → IfErr found (IsStop bytes pick unit)
+file_fault bytes pick unit r next (Ok d) e read = tt
+file_fault bytes pick unit r next (Err stop) e read = file_stops bytes pick unit r stop e read

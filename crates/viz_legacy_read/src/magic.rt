@@ -1,6 +1,6 @@
 //! The two lines in front of a file.
 
-ghost use Rattle.std.specs.Prelude.{◌≡◌, ◌≤◌, length, drop, if◌then◌else◌, IfSome};
+ghost use Rattle.std.specs.Prelude.{◌≡◌, ◌≤◌, ◌-◌, length, drop, if◌then◌else◌, IfSome};
 ghost use Rattle.std.specs.List.{list_all};
 ghost use Rattle.viz_lex.specs.Numbers.{digits_value};
 ghost use Rattle.viz_lex.specs.Words.{is_blank};
@@ -26,16 +26,25 @@ fn digits(text: &[u8]) -> usize
     text.len()
 }
 
+/// What a digit stands for.
+fn digit(b: u8) -> u32
+    ensures value { result ≡ b - 48 }
+    ensures small { result ≤ 207 }
+{
+    u32::from(b.saturating_sub(b'0'))
+}
+
 /// The number of up to three digits.
 fn short_value(text: &[u8]) -> u32
     requires { length text.now ≤ 3 }
     ensures { result ≡ digits_value text.now }
 {
-    let mut n: u32 = 0;
-    for b in text {
-        n = n * 10 + u32::from(b.saturating_sub(b'0'));
+    match text {
+        [] => 0,
+        [a] => digit(*a),
+        [a, b] => digit(*a) * 10 + digit(*b),
+        [a, b, c, ..] => (digit(*a) * 10 + digit(*b)) * 10 + digit(*c),
     }
-    n
 }
 
 /// Whether one to three digits stand in front; then how many, and the number that they represent.

@@ -8,6 +8,7 @@ ghost use Rattle.viz_mesh_read.specs.Poly.{polydata_of, sections_of};
 ghost use Rattle.viz_mesh_read.specs.PolySteps.{polydata_at};
 ghost use Rattle.viz_mesh_read.specs.Pieces.{pieces_in};
 ghost use Rattle.viz_sheet.specs.Ranked.{IsCell};
+ghost use Rattle.viz_sheet.specs.Sheet.{IsSheet};
 ghost use Rattle.viz_file_mesh.specs.FileMesh.{ArePoints};
 ghost use Rattle.viz_file_mesh.specs.GridPieces.{grid_pieces_in};
 ghost use Rattle.viz_legacy_read.specs.Steps.{cells_in, grid_behind_at, poly_behind_at};
@@ -49,8 +50,9 @@ pub(crate) fn grid_behind(
     unit: u8,
 ) -> Result<Mesh, ReadStop>
     requires { unit ≤ 9 }
-    ensures { ReadsUnlessMemory (λ m. m) result lexer.new
+    ensures read { ReadsUnlessMemory (λ m. m) result lexer.new
         (grid_behind_at pick.now unit preamble.now lexer.old) }
+    ensures valid { IfOk result (All IsSheet) }
 {
     let grid = grid_geometry(alloc, lexer, preamble)?;
     let points = grid.points.count;
@@ -95,8 +97,9 @@ pub(crate) fn poly_behind(
     unit: u8,
 ) -> Result<Mesh, ReadStop>
     requires { unit ≤ 9 }
-    ensures { ReadsUnlessMemory (λ m. m) result lexer.new
+    ensures read { ReadsUnlessMemory (λ m. m) result lexer.new
         (poly_behind_at pick.now unit preamble.now lexer.old) }
+    ensures valid { IfOk result (All IsSheet) }
 {
     let poly = poly_geometry(alloc, lexer, preamble)?;
     let points = poly.points.count;

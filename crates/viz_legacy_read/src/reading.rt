@@ -1,6 +1,6 @@
 //! Reading a file: its header alone, and all of it.
 
-ghost use Rattle.std.specs.Prelude.{◌≡◌, ◌≤◌, IfOk, IfErr};
+ghost use Rattle.std.specs.Prelude.{◌≡◌, ◌≤◌, All, IfOk, IfErr};
 ghost use Rattle.viz_legacy_read.specs.MeshFile.{is_grid};
 ghost use Rattle.viz_legacy_read.specs.Reading.{IsInfo, StopsInHeader, Reads, IsStop, IsSound};
 ghost use Rattle.viz_legacy_read.specs.Steps.{mesh_behind_at, contents_at, file_at};
@@ -61,6 +61,7 @@ fn mesh_behind(
     requires { unit ≤ 9 }
     ensures read { ReadsUnlessMemory (λ m. m) result lexer.new
         (mesh_behind_at pick.now unit preamble.now lexer.old) }
+    ensures valid { IfOk result (All IsSheet) }
 {
     if is_grid(preamble) {
         grid_behind(alloc, lexer, preamble, pick, unit)
