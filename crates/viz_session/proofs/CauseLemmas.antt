@@ -7,8 +7,7 @@ use Rattle.viz_dataset.specs.Images.{ImageData}
 use Rattle.viz_dataset.specs.declared.dataset.Dataset.{Dataset}
 use Rattle.viz_dataset.specs.declared.dataset.Dataset.TheVariants as dataset
 use Rattle.viz_sheet.specs.Sheet.{SheetData}
-use Rattle.viz_legacy_read.specs.declared.front.Preamble.{Preamble}
-use Rattle.viz_legacy_read.specs.Header.{Header, Heading, header}
+use Rattle.viz_legacy_read.specs.Header.{Heading, header}
 use Rattle.viz_legacy_read.specs.Header.Heading.{OfImage, OfMesh}
 use Rattle.viz_legacy_read.specs.File.{contents, file}
 use Rattle.viz_legacy_read.specs.Reading.{front, Reads, Stops, StopsInHeader, IsImageFile, IsMeshFile}
@@ -45,35 +44,39 @@ same_image i j e = cc
 apart : (i : ImageData) (m : List SheetData) → dataset.Image i ≡ dataset.Mesh m → ⊥
 apart i m e = cc
 
-apart_headers : (h : Header) (p : Preamble) → OfImage h ≡ OfMesh p → ⊥
-apart_headers h p e = cc
+-- the header of an image
+abbrev IsOfImage : Heading → Type 0
+IsOfImage (OfImage h) = Unit {0}
+IsOfImage (OfMesh p) = ⊥
 
 -- the header of an image isn't that of a mesh
 no_mesh_file : (bytes : List ℕ) → IsImageFile bytes → IsMeshFile bytes → ⊥
-no_mesh_file bytes image mesh = apart_headers image.0 mesh.0 (header_is.one (front bytes) image.1.0 mesh.1.0 (OfImage image.0) (OfMesh mesh.0) image.1.1 mesh.1.1).0
+no_mesh_file bytes image mesh =
+    subst IsOfImage (header_is.one (front bytes) image.1.0 mesh.1.0 (OfImage image.0) (OfMesh mesh.0) image.1.1 mesh.1.1).0 tt
 
--- behind the header of an image stands no mesh, and behind that of a mesh no image
-mesh_behind_image : (h : Header) (mid behind : lexer.Reading) (m : List SheetData) → (contents First 0 (OfImage h)).is mid behind (dataset.Mesh m) → ⊥
-mesh_behind_image h mid behind m c = apart c.0 m (sym c.3.1)
+-- an image stands behind the header of an image alone, and a mesh doesn't
+behind-image : (h : Heading) (mid behind : lexer.Reading) (i : ImageData) → (contents First 0 h).is mid behind (dataset.Image i) → IsOfImage h
+behind-image (OfImage h) mid behind i c = tt
+behind-image (OfMesh p) mid behind i c = apart i c.0 c.3.1
 
-image_behind_mesh : (p : Preamble) (mid behind : lexer.Reading) (i : ImageData) → (contents First 0 (OfMesh p)).is mid behind (dataset.Image i) → ⊥
-image_behind_mesh p mid behind i c = apart i c.0 c.3.1
+behind-mesh : (h : Heading) (mid behind : lexer.Reading) (m : List SheetData) → (contents First 0 h).is mid behind (dataset.Mesh m) → IsOfImage h → ⊥
+behind-mesh (OfImage h) mid behind m c is = apart c.0 m (sym c.3.1)
+behind-mesh (OfMesh p) mid behind m c is = is
 
--- what follows the header of a file, where the header is known
-behind_header : (bytes : List ℕ) (known : Heading) (next : lexer.Reading) (d : Dataset) → header.is (front bytes) next known → (reads : Reads bytes First 0 d)
-    → (contents First 0 known).is reads.1.1 reads.0 d
-behind_header bytes known next d is reads =
-    subst (λ (h : Heading). (contents First 0 h).is reads.1.1 reads.0 d) (header_is.one (front bytes) reads.1.1 next reads.1.0 known reads.1.2 is).0 reads.1.3
+-- the header of a file is the one that is known
+heading_is : (bytes : List ℕ) (d : Dataset) (reads : Reads bytes First 0 d) (known : Heading) (next : lexer.Reading) → header.is (front bytes) next known → reads.1.0 ≡ known
+heading_is bytes d reads known next is = (header_is.one (front bytes) reads.1.1 next reads.1.0 known reads.1.2 is).0
 
 -- a file with the header of an image is no mesh
 pub no_mesh : (bytes : List ℕ) (m : List SheetData) → IsImageFile bytes → Reads bytes First 0 (dataset.Mesh m) → ⊥
 no_mesh bytes m image reads =
-    mesh_behind_image image.0 reads.1.1 reads.0 m (behind_header bytes (OfImage image.0) image.1.0 (dataset.Mesh m) image.1.1 reads)
+    let same : reads.1.0 ≡ OfImage image.0 = heading_is bytes (dataset.Mesh m) reads (OfImage image.0) image.1.0 image.1.1 in
+    behind-mesh reads.1.0 reads.1.1 reads.0 m reads.1.3 (subst IsOfImage (sym same) tt)
 
 -- the file of an image hasn't the header of a mesh
 no_image : (bytes : List ℕ) (i : ImageData) → ReadsImage bytes i → IsMeshFile bytes → ⊥
 no_image bytes i reads mesh =
-    image_behind_mesh mesh.0 reads.1.1 reads.0 i (behind_header bytes (OfMesh mesh.0) mesh.1.0 (dataset.Image i) mesh.1.1 reads)
+    subst IsOfImage (heading_is bytes (dataset.Image i) reads (OfMesh mesh.0) mesh.1.0 mesh.1.1) (behind-image reads.1.0 reads.1.1 reads.0 i reads.1.3)
 
 -- a fault within the header, and one behind the header of an image, is that of a bad file
 pub bad_header : (bytes : List ℕ) (fault : FileFault) → StopsInHeader bytes fault → IsBadFile bytes fault
