@@ -4,27 +4,91 @@ use Rattle.viz_base.specs.declared.call.ReadAnswer.{ReadAnswer}
 use Rattle.viz_base.specs.declared.call.ReadAnswer.TheVariants as read
 use Rattle.viz_base.specs.declared.node.Pick.TheVariants.{First}
 use Rattle.viz_dataset.specs.Images.{ImageData}
-use Rattle.viz_legacy_read.specs.ImageFile.{image_file}
-use Rattle.viz_legacy_read.specs.Reading.{front, Reads, Stops}
-use Rattle.viz_legacy_read.specs.Steps.{image_file_at}
-use Rattle.viz_legacy_read.proofs.HeaderLaws.{decides-image_file}
+use Rattle.viz_dataset.specs.declared.dataset.Dataset.{Dataset}
+use Rattle.viz_dataset.specs.declared.dataset.Dataset.TheVariants as dataset
+use Rattle.viz_sheet.specs.Sheet.{SheetData}
+use Rattle.viz_legacy_read.specs.Header.{Heading, header}
+use Rattle.viz_legacy_read.specs.Header.Heading.{OfImage, OfMesh}
+use Rattle.viz_legacy_read.specs.File.{contents, file}
+use Rattle.viz_legacy_read.specs.Reading.{front, Reads, Stops, StopsInHeader, IsImageFile, IsMeshFile}
+use Rattle.viz_legacy_read.specs.Steps.{header_at, file_at}
+use Rattle.viz_legacy_read.proofs.HeaderLaws.{decides-header}
+use Rattle.viz_legacy_read.proofs.FileLaws.{decides-file}
+use Rattle.viz_lex.specs.Reading as lexer
 use Rattle.viz_lex.specs.Rules.{IsDefinite}
 use Rattle.viz_lex.proofs.DecidedLemmas.{IsDefinite-decided}
 use Rattle.viz_lex.specs.declared.fault.FileFault.{FileFault}
 use Rattle.viz_session.specs.declared.command.Filter.{Filter}
 use Rattle.viz_session.specs.declared.command.Filter.TheVariants.{Threshold, Contour}
 use Rattle.viz_session.specs.declared.outcome.Cause.{Cause}
-use Rattle.viz_session.specs.declared.outcome.Cause.TheVariants.{TooLong, BadFile, TooWide, TooMany}
-use Rattle.viz_session.specs.Causes.{HasImage, IsCauseOf, IsCause}
+use Rattle.viz_session.specs.declared.outcome.Cause.TheVariants.{TooLong, BadFile, WrongInput, TooWide, TooMany}
+use Rattle.viz_session.specs.Causes.{ReadsImage, HasImage, IsBadFile, IsCauseOf, IsCause}
 use Rattle.viz_session.specs.Outputs.{IsTooWide, IsTooMany}
 
--- for all bytes there is one answer
-file_is : IsDefinite (image_file First)
-file_is = IsDefinite-decided (image_file First) (image_file_at First) (decides-image_file First)
+-- for all bytes there is one answer, and one header
+file_is : IsDefinite (file First 0)
+file_is = IsDefinite-decided (file First 0) (file_at First 0) (decides-file First 0)
+
+header_is : IsDefinite header
+header_is = IsDefinite-decided header header_at decides-header
 
 -- bytes that are a file have no fault
-no_fault : (bytes : List ℕ) (i : ImageData) (fault : FileFault) → Reads bytes First i → Stops bytes First fault → ⊥
-no_fault bytes i fault reads stops = file_is.not_both (front bytes) reads.0 i fault reads.1 stops
+no_fault : (bytes : List ℕ) (i : ImageData) (fault : FileFault) → ReadsImage bytes i → IsBadFile bytes fault → ⊥
+no_fault bytes i fault reads bad = file_is.not_both (front bytes) reads.0 (dataset.Image i) fault reads.1 bad.stops
+
+-- ---- images and meshes
+
+same_image : (i j : ImageData) → dataset.Image i ≡ dataset.Image j → i ≡ j
+same_image i j e = cc
+
+apart : (i : ImageData) (m : List SheetData) → dataset.Image i ≡ dataset.Mesh m → ⊥
+apart i m e = cc
+
+-- the header of an image
+abbrev IsOfImage : Heading → Type 0
+IsOfImage (OfImage h) = Unit {0}
+IsOfImage (OfMesh p) = ⊥
+
+-- the header of an image isn't that of a mesh
+no_mesh_file : (bytes : List ℕ) → IsImageFile bytes → IsMeshFile bytes → ⊥
+no_mesh_file bytes image mesh =
+    subst IsOfImage (header_is.one (front bytes) image.1.0 mesh.1.0 (OfImage image.0) (OfMesh mesh.0) image.1.1 mesh.1.1).0 tt
+
+-- an image stands behind the header of an image alone, and a mesh doesn't
+behind-image : (h : Heading) (mid behind : lexer.Reading) (i : ImageData) → (contents First 0 h).is mid behind (dataset.Image i) → IsOfImage h
+behind-image (OfImage h) mid behind i c = tt
+behind-image (OfMesh p) mid behind i c = apart i c.0 c.3.1
+
+behind-mesh : (h : Heading) (mid behind : lexer.Reading) (m : List SheetData) → (contents First 0 h).is mid behind (dataset.Mesh m) → IsOfImage h → ⊥
+behind-mesh (OfImage h) mid behind m c is = apart c.0 m (sym c.3.1)
+behind-mesh (OfMesh p) mid behind m c is = is
+
+-- the header of a file is the one that is known
+heading_is : (bytes : List ℕ) (d : Dataset) (reads : Reads bytes First 0 d) (known : Heading) (next : lexer.Reading) → header.is (front bytes) next known → reads.1.0 ≡ known
+heading_is bytes d reads known next is = (header_is.one (front bytes) reads.1.1 next reads.1.0 known reads.1.2 is).0
+
+-- a file with the header of an image is no mesh
+pub no_mesh : (bytes : List ℕ) (m : List SheetData) → IsImageFile bytes → Reads bytes First 0 (dataset.Mesh m) → ⊥
+no_mesh bytes m image reads =
+    let same : reads.1.0 ≡ OfImage image.0 = heading_is bytes (dataset.Mesh m) reads (OfImage image.0) image.1.0 image.1.1 in
+    behind-mesh reads.1.0 reads.1.1 reads.0 m reads.1.3 (subst IsOfImage (sym same) tt)
+
+-- the file of an image hasn't the header of a mesh
+no_image : (bytes : List ℕ) (i : ImageData) → ReadsImage bytes i → IsMeshFile bytes → ⊥
+no_image bytes i reads mesh =
+    subst IsOfImage (heading_is bytes (dataset.Image i) reads (OfMesh mesh.0) mesh.1.0 mesh.1.1) (behind-image reads.1.0 reads.1.1 reads.0 i reads.1.3)
+
+-- a fault within the header, and one behind the header of an image, is that of a bad file
+pub bad_header : (bytes : List ℕ) (fault : FileFault) → StopsInHeader bytes fault → IsBadFile bytes fault
+bad_header bytes fault stops = record {
+  stops = inl stops;
+  no_mesh = λ mesh. header_is.not_both (front bytes) mesh.1.0 (OfMesh mesh.0) fault mesh.1.1 stops;
+}
+
+pub bad_file : (bytes : List ℕ) (fault : FileFault) → IsImageFile bytes → Stops bytes First 0 fault → IsBadFile bytes fault
+bad_file bytes fault image stops = record { stops = stops; no_mesh = λ mesh. no_mesh_file bytes image mesh }
+
+-- ---- one cause
 
 -- an image that is too wide isn't told as too much
 not_both : (filter : Filter) (i : ImageData) → IsTooWide filter i → IsTooMany filter i → ⊥
@@ -33,22 +97,30 @@ not_both (Contour level) i wide many = elim wide [ inl number ↦ number many.na
 
 wide_or_many : (filter : Filter) (bytes : List ℕ) → HasImage bytes (IsTooWide filter) → HasImage bytes (IsTooMany filter) → ⊥
 wide_or_many filter bytes wide many =
-    let same : wide.0 ≡ many.0 = (file_is.one (front bytes) wide.1.0 many.1.0 wide.0 many.0 wide.1.1 many.1.1).0 in
+    let same : wide.0 ≡ many.0 = same_image wide.0 many.0 (file_is.one (front bytes) wide.1.0 many.1.0 (dataset.Image wide.0) (dataset.Image many.0) wide.1.1 many.1.1).0 in
     not_both filter many.0 (subst (IsTooWide filter) same wide.2) many.2
 
 -- bytes are refused for one cause
 one_of_bytes : (filter : Filter) (bytes : List ℕ) (x y : Cause) → IsCauseOf filter bytes x → IsCauseOf filter bytes y → x ≡ y
 one_of_bytes filter bytes TooLong y a b = absurd a
 one_of_bytes filter bytes (BadFile f) TooLong a b = absurd b
-one_of_bytes filter bytes (BadFile f) (BadFile g) a b = ap BadFile (file_is.one_fault (front bytes) f g a b)
+one_of_bytes filter bytes (BadFile f) (BadFile g) a b = ap BadFile (file_is.one_fault (front bytes) f g a.stops b.stops)
+one_of_bytes filter bytes (BadFile f) WrongInput a b = absurd (a.no_mesh b)
 one_of_bytes filter bytes (BadFile f) TooWide a b = absurd (no_fault bytes b.0 f b.1 a)
 one_of_bytes filter bytes (BadFile f) TooMany a b = absurd (no_fault bytes b.0 f b.1 a)
+one_of_bytes filter bytes WrongInput TooLong a b = absurd b
+one_of_bytes filter bytes WrongInput (BadFile g) a b = absurd (b.no_mesh a)
+one_of_bytes filter bytes WrongInput WrongInput a b = refl
+one_of_bytes filter bytes WrongInput TooWide a b = absurd (no_image bytes b.0 b.1 a)
+one_of_bytes filter bytes WrongInput TooMany a b = absurd (no_image bytes b.0 b.1 a)
 one_of_bytes filter bytes TooWide TooLong a b = absurd b
 one_of_bytes filter bytes TooWide (BadFile g) a b = absurd (no_fault bytes a.0 g a.1 b)
+one_of_bytes filter bytes TooWide WrongInput a b = absurd (no_image bytes a.0 a.1 b)
 one_of_bytes filter bytes TooWide TooWide a b = refl
 one_of_bytes filter bytes TooWide TooMany a b = absurd (wide_or_many filter bytes a b)
 one_of_bytes filter bytes TooMany TooLong a b = absurd b
 one_of_bytes filter bytes TooMany (BadFile g) a b = absurd (no_fault bytes a.0 g a.1 b)
+one_of_bytes filter bytes TooMany WrongInput a b = absurd (no_image bytes a.0 a.1 b)
 one_of_bytes filter bytes TooMany TooWide a b = absurd (wide_or_many filter bytes b a)
 one_of_bytes filter bytes TooMany TooMany a b = refl
 

@@ -14,7 +14,7 @@ use Rattle.viz_legacy_write.specs.SurfaceText.{surface_head, points_line, polygo
 use Rattle.viz_lex.specs.Reading.{fault_at}
 use Rattle.viz_lex.specs.declared.fault.FileKind.TheVariants as kind
 use Rattle.viz_session.specs.declared.command.Filter.TheVariants.{Threshold, Contour}
-use Rattle.viz_session.specs.declared.outcome.Cause.TheVariants.{BadFile, TooWide}
+use Rattle.viz_session.specs.declared.outcome.Cause.TheVariants.{BadFile, WrongInput, TooWide}
 use Rattle.viz_session.specs.Causes.{fault_text}
 use Rattle.viz_session.specs.Command.{Command, number_of, file_name_of, filter_of, command_of}
 use Rattle.viz_session.specs.Outputs.{cube_count, image_points, image_triangles, output_text, cells_made, points_made}
@@ -79,6 +79,10 @@ value_past_type = refl
 bad_cell_type : refused_line (BadFile (fault_at (kind.CellType (negsuc 6)) 40)) ≡ codes "refused fault:src:BadFile(CellType(-7),40)\n"
 unfolding digits fault_text refused_line
 bad_cell_type = refl
+
+mesh_given : refused_line WrongInput ≡ codes "refused fault:op:WrongInput(1)\n"
+unfolding refused_line
+mesh_given = refl
 
 wide_result : refused_line TooWide ≡ codes "refused fault:op:TooWide\n"
 unfolding refused_line

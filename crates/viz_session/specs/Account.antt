@@ -1,6 +1,5 @@
 -- What a run did to the outside: calls of a port, files, and the line put (docs/DEFINITIONS.md, "The account of a run").
 use Rattle.std.specs.Prelude.{◌≡◌, ℕ, ◌≤◌, List, [], ◌∷◌, ◌++◌, ◌⊎◌, Result, Ok, Err, Option, Some, None, IsTrue}
-use Rattle.viz_base.specs.declared.node.Pick.TheVariants.{First}
 use Rattle.viz_base.specs.Faults.{Rose, one_more, answers_after}
 use Rattle.viz_base.specs.Files.{Files, SameFiles, SameOthers, IsLonger, KeepsPrefix}
 use Rattle.viz_base.specs.Texts.{AppendsPrefix}
@@ -15,13 +14,12 @@ use Rattle.viz_base.specs.declared.call.WriteAnswer.TheVariants as write
 use Rattle.viz_base.specs.declared.refusal.WriteRefusal.{WriteRefusal}
 use Rattle.viz_base.specs.declared.refusal.WriteRefusal.TheVariants as writing
 use Rattle.viz_dataset.specs.Images.{ImageData}
-use Rattle.viz_legacy_read.specs.Reading.{Reads}
 use Rattle.viz_session.specs.declared.outcome.Cause.{Cause}
 use Rattle.viz_session.specs.declared.outcome.Failed.TheVariants as call
 use Rattle.viz_session.specs.declared.outcome.Outcome.{Outcome}
 use Rattle.viz_session.specs.declared.outcome.Outcome.TheVariants as outcome
 use Rattle.viz_session.specs.declared.outcome.Status.{Status}
-use Rattle.viz_session.specs.Causes.{IsCause}
+use Rattle.viz_session.specs.Causes.{ReadsImage, IsCause}
 use Rattle.viz_session.specs.Command.{Command, command_of}
 use Rattle.viz_session.specs.Outputs.{output_text, cells_made, points_made, Accepts}
 use Rattle.viz_session.specs.Report.{line_of, status_after, HasMadeLine}
@@ -76,7 +74,7 @@ pub record IsDoneAt {P : Type 0} (m : port.Ghosts P) (c : Command) (deed : Deed)
 
 -- the bytes are a file of this image, which the filter accepts
 pub record IsInput (c : Command) (bytes : List ℕ) (i : ImageData) : Type 0 where
-  pub reads : Reads bytes First i
+  pub reads : ReadsImage bytes i
   pub accepts : Accepts c.filter i
 
 -- a command is refused for a cause

@@ -5,12 +5,13 @@ use Rattle.viz_base.specs.declared.node.Pick.TheVariants.{First}
 use Rattle.viz_base.specs.declared.call.ReadAnswer.{ReadAnswer}
 use Rattle.viz_base.specs.declared.call.ReadAnswer.TheVariants as read
 use Rattle.viz_dataset.specs.Images.{ImageData}
-use Rattle.viz_legacy_read.specs.Reading.{Reads, Stops}
+use Rattle.viz_dataset.specs.declared.dataset.Dataset.TheVariants as dataset
+use Rattle.viz_legacy_read.specs.Reading.{Reads, Stops, IsMeshFile}
 use Rattle.viz_lex.specs.declared.fault.FileFault.{FileFault}
 use Rattle.viz_lex.specs.declared.fault.FileKind.{FileKind}
 use Rattle.viz_lex.specs.declared.fault.FileKind.TheVariants as kind
 use Rattle.viz_session.specs.declared.outcome.Cause.{Cause}
-use Rattle.viz_session.specs.declared.outcome.Cause.TheVariants.{TooLong, BadFile, TooWide, TooMany}
+use Rattle.viz_session.specs.declared.outcome.Cause.TheVariants.{TooLong, BadFile, WrongInput, TooWide, TooMany}
 use Rattle.viz_session.specs.Outputs.{IsTooWide, IsTooMany}
 use Rattle.viz_session.specs.declared.command.Filter.{Filter}
 
@@ -51,17 +52,28 @@ fault_text f = codes "fault:src:BadFile(" ++ kind_text f.kind ++ place_text f.pl
 abbrev pub cause_text : Cause → List ℕ
 cause_text TooLong = codes "TooLong"
 cause_text (BadFile fault) = fault_text fault
+cause_text WrongInput = codes "fault:op:WrongInput(1)"
 cause_text TooWide = codes "fault:op:TooWide"
 cause_text TooMany = codes "fault:op:TooMany"
 
+-- the bytes are a file of this image, whose numbers are those of the first array
+abbrev pub ReadsImage : List ℕ → ImageData → Type 0
+ReadsImage bytes i = Reads bytes First 0 (dataset.Image i)
+
 -- the bytes are a file of an image that is so
 abbrev pub HasImage : List ℕ → (ImageData → Type 0) → Type 0
-HasImage bytes P = (i : ImageData) × Reads bytes First i × P i
+HasImage bytes P = (i : ImageData) × ReadsImage bytes i × P i
+
+-- the first fault of the bytes, whose header isn't that of a mesh
+pub record IsBadFile (bytes : List ℕ) (fault : FileFault) : Type 0 where
+  pub stops : Stops bytes First 0 fault
+  pub no_mesh : IsMeshFile bytes → ⊥
 
 -- when the bytes of a file are refused for a cause
 abbrev pub IsCauseOf : Filter → List ℕ → Cause → Type 0
 IsCauseOf filter bytes TooLong = ⊥
-IsCauseOf filter bytes (BadFile fault) = Stops bytes First fault
+IsCauseOf filter bytes (BadFile fault) = IsBadFile bytes fault
+IsCauseOf filter bytes WrongInput = IsMeshFile bytes
 IsCauseOf filter bytes TooWide = HasImage bytes (IsTooWide filter)
 IsCauseOf filter bytes TooMany = HasImage bytes (IsTooMany filter)
 

@@ -1,26 +1,29 @@
 -- What is made of a file's bytes, before it is written. Words of private contracts alone.
 use Rattle.std.specs.Prelude.{◌≡◌, ℕ, List, Result, Ok, Err}
-use Rattle.viz_base.specs.declared.node.Pick.TheVariants.{First}
 use Rattle.viz_contour.specs.declared.stop.WorkStop.{WorkStop}
 use Rattle.viz_contour.specs.declared.stop.WorkStop.TheVariants as work
 use Rattle.viz_dataset.specs.Images.{ImageData}
-use Rattle.viz_legacy_read.specs.Reading.{Reads}
 use Rattle.viz_legacy_read.specs.declared.stop.ReadStop.{ReadStop}
 use Rattle.viz_legacy_read.specs.declared.stop.ReadStop.TheVariants as read
 use Rattle.viz_legacy_write.specs.declared.stop.WriteStop.{WriteStop}
 use Rattle.viz_legacy_write.specs.declared.stop.WriteStop.TheVariants as write
+use Rattle.viz_lex.specs.declared.fault.FileFault.{FileFault}
 use Rattle.viz_session.specs.declared.command.Filter.{Filter}
 use Rattle.viz_session.specs.declared.made.Made.{Made}
 use Rattle.viz_session.specs.declared.outcome.Cause.{Cause}
 use Rattle.viz_session.specs.declared.outcome.Cause.TheVariants.{BadFile, TooWide, TooMany}
 use Rattle.viz_session.specs.declared.stop.MakeStop.{MakeStop}
 use Rattle.viz_session.specs.declared.stop.MakeStop.TheVariants.{Refused, Memory}
-use Rattle.viz_session.specs.Causes.{IsCauseOf}
+use Rattle.viz_session.specs.Causes.{ReadsImage, IsCauseOf}
 use Rattle.viz_session.specs.Outputs.{output_text, cells_made, points_made, Accepts, IsTooWide, IsTooMany}
 
--- a stop of reading as one of making
+-- a fault of the file as a stop of making
+abbrev pub of_fault : FileFault → MakeStop
+of_fault fault = Refused (BadFile fault)
+
+-- a stop of reading
 abbrev pub of_read : ReadStop → MakeStop
-of_read (read.File fault) = Refused (BadFile fault)
+of_read (read.File fault) = of_fault fault
 of_read read.Memory = Memory
 
 -- a stop of a filter's work
@@ -55,6 +58,6 @@ MakesOf filter i (Err Memory) = Unit {0}
 
 -- what is made of the bytes' image, or why the bytes are refused, unless memory ran out
 abbrev pub Makes : Filter → List ℕ → Result Made MakeStop → Type 0
-Makes filter bytes (Ok made) = (i : ImageData) × Reads bytes First i × IsMadeOf filter i made
+Makes filter bytes (Ok made) = (i : ImageData) × ReadsImage bytes i × IsMadeOf filter i made
 Makes filter bytes (Err (Refused cause)) = IsCauseOf filter bytes cause
 Makes filter bytes (Err Memory) = Unit {0}

@@ -25,6 +25,8 @@ mod contour_texts;
 #[cfg(test)]
 mod image_files;
 #[cfg(test)]
+mod mesh_files;
+#[cfg(test)]
 mod runs;
 #[cfg(test)]
 mod tests;

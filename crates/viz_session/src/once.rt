@@ -4,8 +4,9 @@ ghost use Rattle.std.specs.Prelude.{◌≡◌, ◌<◌, ◌^◌, IfOk, IfErr};
 ghost use Rattle.viz_extent.specs.Extent.{count_of};
 ghost use Rattle.viz_base.specs.declared.node.Pick.TheVariants.{First};
 ghost use Rattle.viz_dataset.specs.Images.{IsImage};
-ghost use Rattle.viz_legacy_read.specs.Reading.{Reads, IsStop};
+ghost use Rattle.viz_legacy_read.specs.Reading.{IsImageFile, IsStop};
 ghost use Rattle.viz_session.specs.Account.{IsServed};
+ghost use Rattle.viz_session.specs.Causes.{ReadsImage};
 ghost use Rattle.viz_session.specs.Commands.{command_view};
 ghost use Rattle.viz_session.specs.Outputs.{cube_count};
 ghost use Rattle.viz_session.specs.Made.{Makes, MakesOf};
@@ -19,9 +20,9 @@ use crate::stop::MakeStop;
 use crate::threshold::threshold;
 use std::alloc::Global;
 use viz_base::{Bytes, Pick, Port, ReadRefusal, WriteRefusal};
-use viz_dataset::{Dataset, Image};
+use viz_dataset::{Dataset, Image, Info};
 use viz_extent::Extent;
-use viz_legacy_read::{ReadStop, read};
+use viz_legacy_read::{ReadStop, header, read};
 use viz_legacy_write::{Style, write_image};
 
 /// How images are written.
@@ -30,15 +31,17 @@ const STYLE: Style = Style {
     digits: 3,
 };
 
-/// The image of a file; the bytes are given up.
+/// The image of a file with the header of one; the bytes are given up.
 fn image_of(alloc: Global, bytes: Bytes) -> Result<Image, ReadStop>
-    ensures found { IfOk result (Reads bytes First) }
-    ensures fault { IfErr result (IsStop bytes First) }
+    requires { IsImageFile bytes }
+    ensures found { IfOk result (ReadsImage bytes) }
+    ensures fault { IfErr result (IsStop bytes First 0) }
     ensures valid { IfOk result IsImage }
 {
-    let dataset = read(alloc, bytes.list(), &Pick::First)?;
-    let Dataset::Image(image) = dataset;
-    Ok(image)
+    match read(alloc, bytes.list(), &Pick::First, 0)? {
+        Dataset::Image(image) => Ok(image),
+        Dataset::Mesh(_) => unreachable!(),
+    }
 }
 
 /// How many cubes there are between the points of an extent.
@@ -75,12 +78,18 @@ fn made_of(alloc: Global, filter: &Filter, image: Image) -> Result<Made, MakeSto
     }
 }
 
-/// What a filter makes of a file's image. The file's bytes are given up before the text is made.
+/// What a filter makes of a file's image. A mesh is refused by its header, and no more of it is
+/// read. The file's bytes are given up before the text is made.
 fn make(alloc: Global, filter: &Filter, bytes: Bytes) -> Result<Made, MakeStop>
     ensures { Makes filter.now bytes result }
 {
-    let image = image_of(alloc, bytes)?;
-    made_of(alloc, filter, image)
+    match header(bytes.list())? {
+        Info::Image { .. } => {
+            let image = image_of(alloc, bytes)?;
+            made_of(alloc, filter, image)
+        }
+        Info::Mesh => Err(MakeStop::Refused(Cause::WrongInput)),
+    }
 }
 
 /// Reads the command's input, and writes its output where the input is a file and the filter

@@ -26,6 +26,8 @@ pub enum Cause {
     TooLong,
     /// The bytes that were read are no file: its first fault.
     BadFile(FileFault),
+    /// The file is no image, but a mesh by its header.
+    WrongInput,
     /// A number of the result is too wide.
     TooWide,
     /// The result has too many points or cells.

@@ -133,6 +133,7 @@ fn put_cause(text: &mut Vec<u8>, cause: &Cause) -> Result<(), AllocError>
     match cause {
         Cause::TooLong => text.extend_from_slice(b"TooLong")?,
         Cause::BadFile(fault) => put_fault(text, fault)?,
+        Cause::WrongInput => text.extend_from_slice(b"fault:op:WrongInput(1)")?,
         Cause::TooWide => text.extend_from_slice(b"fault:op:TooWide")?,
         Cause::TooMany => text.extend_from_slice(b"fault:op:TooMany")?,
     }

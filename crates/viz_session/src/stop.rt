@@ -2,7 +2,7 @@
 
 ghost use Rattle.std.specs.Prelude.{◌≡◌};
 ghost use Rattle.viz_session.specs.declared.stop.MakeStop.TheVariants.{Memory};
-ghost use Rattle.viz_session.specs.Made.{of_read, of_work, of_write};
+ghost use Rattle.viz_session.specs.Made.{of_fault, of_read, of_work, of_write};
 
 use crate::outcome::Cause;
 use std::alloc::AllocError;
@@ -10,16 +10,25 @@ use thiserror::Error;
 use viz_contour::WorkStop;
 use viz_legacy_read::ReadStop;
 use viz_legacy_write::WriteStop;
+use viz_lex::FileFault;
 
 /// Why nothing was made of a file.
 #[derive(Debug, Drop, Error)]
 pub enum MakeStop {
-    /// The file is no file of the format, or the filter refuses its image.
+    /// The file is no file of the format, or no image, or the filter refuses its image.
     #[error("refused")]
     Refused(Cause),
     /// Want of memory.
     #[error("out of memory")]
     Memory,
+}
+
+impl From<FileFault> for MakeStop {
+    ghost from_gives = { λ fault made. made ≡ of_fault fault };
+
+    fn from(fault: FileFault) -> MakeStop {
+        MakeStop::Refused(Cause::BadFile(fault))
+    }
 }
 
 impl From<ReadStop> for MakeStop {

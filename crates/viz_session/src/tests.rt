@@ -1,8 +1,10 @@
 //! Worked values, counted by hand: thresholds, refusals and faults over files in memory.
 
+use crate::contour_texts::FIRST_SURFACE;
 use crate::image_files::{
     CORNER, CORNER_BINARY, CORNER_END, LARGE, LARGE_WRITTEN, PAST_TYPE, SQUARE, SQUARE_WRITTEN,
 };
+use crate::mesh_files::{CUT, GRID, STRIP};
 use crate::runs::{desk, files, joined, output_of, port, ran, ran_on, replaced, words};
 use crate::{Status, run};
 use std::process::Abort;
@@ -124,6 +126,44 @@ fn refusals_leave_the_output(rt: HostRuntime) -> Result<(), Fail> {
     leaves(&rt, &short, 205, 9, refused, want)?;
     leaves(&rt, &short, 204, 9, refused, "refused TooLong\n")?;
     leaves(&rt, &short, 205, 1, fault, "fault read\n")
+}
+
+// Both filters refuse these bytes with this line, and leave the output.
+fn refuses<R: Threads + Wait + Sync + AllocGlobal + Abort>(
+    rt: &R,
+    bytes: &str,
+    want: &str,
+) -> Result<(), Fail> {
+    for line in [
+        "once a.vtk o.vtk threshold 1 2",
+        "once a.vtk o.vtk contour 0",
+    ] {
+        let (status, told, ports) = ran_on(rt, rt.alloc(), line, bytes.as_bytes())?;
+        assert!(rt; status == Status::Refused, "{line}: {told}");
+        assert_eq!(rt; told.as_str(), want, "{line}: {bytes}");
+        assert!(rt; output_of(&ports) == Some(b"old".as_slice()), "{line}");
+    }
+    Ok(())
+}
+
+#[test]
+fn a_mesh_is_refused_by_its_header_alone(rt: HostRuntime) -> Result<(), Fail> {
+    let alloc = rt.alloc();
+    let wrong = "refused fault:op:WrongInput(1)\n";
+    // A grid, polydata without an array, and a written surface.
+    refuses(&rt, GRID, wrong)?;
+    refuses(&rt, STRIP, wrong)?;
+    refuses(&rt, FIRST_SURFACE, wrong)?;
+    // Faults behind the header: no number of points, and an index past them.
+    refuses(&rt, CUT, wrong)?;
+    let past = replaced(alloc, GRID, "4 0 1 2 3", "4 0 1 2 4")?;
+    refuses(&rt, past.as_str(), wrong)?;
+    // Faults of the header come first: the form, and a dataset that isn't read.
+    let form = replaced(alloc, GRID, "ASCII", "TEXT")?;
+    refuses(&rt, form.as_str(), "refused fault:src:BadFile(Form,29)\n")?;
+    let other = replaced(alloc, STRIP, "POLYDATA", "STRUCTURED_GRID")?;
+    let want = "refused fault:src:BadFile(Unsupported,43)\n";
+    refuses(&rt, other.as_str(), want)
 }
 
 #[test]
