@@ -9,7 +9,7 @@ ghost use Rattle.viz_network.specs.EqualStamps.{IsAscending};
 ghost use Rattle.viz_network.specs.declared.node.Node.{Node as Kept};
 
 use crate::node::Node;
-use crate::nodes::{Guesses, Nodes, guessed_rank, guesses_of};
+use crate::nodes::{Guesses, Nodes, guess_all, guessed_rank};
 use viz_base::NodeId;
 
 /// The rank of a node that is there.
@@ -146,6 +146,7 @@ pub fn stamp_in(nodes: &Nodes, order: &[NodeId], id: NodeId) -> u32
     requires there { IsSome (node_of nodes.now.entries id.0) }
     ensures { result ≡ newest (cone_of nodes.now.entries id.0) }
 {
-    let guesses = guesses_of(nodes);
+    let mut guesses = [0; 65536];
+    guess_all(nodes, &mut guesses);
     stamps_of(nodes, &guesses, order)[rank_in(nodes, &guesses, id)]
 }

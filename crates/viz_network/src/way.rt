@@ -5,7 +5,7 @@ ghost use Rattle.viz_network.specs.Network.{node_of};
 ghost use Rattle.viz_network.specs.Cone.{cone_of, has_node};
 ghost use Rattle.viz_network.specs.Steps.Order.{IsOrder, comes_first};
 
-use crate::nodes::{Nodes, guesses_of};
+use crate::nodes::{Nodes, guess_all};
 use crate::part::part;
 use crate::sweep::{mark_of, marks_below};
 use viz_base::NodeId;
@@ -38,7 +38,8 @@ pub fn make_way(nodes: &Nodes, order: &mut Vec<NodeId>, source: NodeId, target: 
     if stands_before(order, source, target) {
         return true;
     }
-    let guesses = guesses_of(nodes);
+    let mut guesses = [0; 65536];
+    guess_all(nodes, &mut guesses);
     let marks = marks_below(nodes, &guesses, order, target);
     if mark_of(nodes, &guesses, &marks, source) {
         return false;
