@@ -53,7 +53,7 @@ fault-forth : {A B C : Type 0} (a : Rule A) (view : A → B) (by_view : B → Ru
     → (r : Reading) (fault : FileFault) → (by_views a view by_view).isnt r fault → (follow a f).isnt r fault
 fault-forth {B = B} {C = C} a view by_view f same r fault h =
     elim h [
-      | inl front ↦ elim front [ | inl first ↦ inl first | inr none ↦ absurd none.3 ]
+      | inl front ↦ elim front [ inl first ↦ inl first | inr none ↦ absurd none.3 ]
       | inr g ↦
           (let one : (by_view g.0).isnt g.2.1 fault = subst (λ (s : Reading). (by_view g.0).isnt s fault) g.2.3.0 g.3 in
           let two : (by_view (view g.2.0)).isnt g.2.1 fault = subst (λ (b : B). (by_view b).isnt g.2.1 fault) g.2.3.1 one in

@@ -194,9 +194,9 @@ pub data Heading : Type 0 where
 -- the header lines of an image; there are none of a mesh
 abbrev pub behind_preamble : Preamble → Rule Heading
 behind_preamble p = choose (is_image p) (do
-    h ← image_header p.binary
-    gives (OfImage h))
-  (gives (OfMesh p))
+  h ← image_header p.binary
+  gives (OfImage h))
+    (gives (OfMesh p))
 
 -- the header of a file
 abbrev pub header : Rule Heading

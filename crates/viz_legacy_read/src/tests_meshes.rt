@@ -10,12 +10,7 @@ use viz_lex::{FileFault, FileKind};
 use viz_sheet::Mesh;
 
 // The mesh of a file, or its first fault.
-fn mesh_of(
-    alloc: Global,
-    text: &[u8],
-    pick: &Pick,
-    unit: u8,
-) -> Result<Mesh, Option<FileFault>> {
+fn mesh_of(alloc: Global, text: &[u8], pick: &Pick, unit: u8) -> Result<Mesh, Option<FileFault>> {
     if unit > 9 {
         return Err(None);
     }
@@ -81,7 +76,7 @@ const MIXED: &[u8] = b"# vtk DataFile Version 4.2\n\
     METADATA\n\
     INFORMATION 0\n\
     \n\
-    CELLS 4 13\n\
+    CELLS 4 14\n\
     4 0 1 2 3\n\
     3 0 0 1\n\
     2 5 1\n\
@@ -145,7 +140,8 @@ fn faults_of_meshes(rt: HostRuntime) {
               DATASET POLYDATA\n\
               POINTS 1 float\n\
               0 0 0\n\
-              ".as_slice(),
+              "
+                .as_slice(),
             FileKind::FloatArray,
             61,
         ),
