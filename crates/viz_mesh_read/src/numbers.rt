@@ -4,6 +4,7 @@ ghost use Rattle.std.specs.Prelude.{◌≡◌, ◌<◌, ◌≤◌, ◌^◌, ℤ,
 ghost use Rattle.viz_column.specs.declared.kind.Kind8.TheVariants.{I32};
 ghost use Rattle.viz_column.specs.Bytes.{number_in};
 ghost use Rattle.viz_lex.specs.Reading.{Reads};
+ghost use Rattle.viz_lex.specs.Steps.{due_number};
 ghost use Rattle.viz_mesh_read.specs.Sections.{is_index, is_cell_count};
 ghost use Rattle.viz_mesh_read.specs.Steps.{block_number_at, section_number_at, section_start_at, index_at};
 
@@ -11,6 +12,7 @@ use crate::arrays::{block, line_end};
 use byteorder::{BigEndian, ByteOrder};
 use viz_lex::{FileFault, FileKind, Lexer};
 
+#[inline(always)]
 fn whole_in(bytes: &[u8]) -> i128
     requires { length bytes.now ≡ 4 }
     ensures { result ≡ number_in I32 bytes.now }
@@ -20,6 +22,7 @@ fn whole_in(bytes: &[u8]) -> i128
 
 /// A number in BINARY: its place and the number.
 #[tactic(auto, unfolding(crate::specs::Steps::block_number_at))]
+#[inline(always)]
 fn block_number(lexer: &mut Lexer<'_>) -> Result<(u64, i128), FileFault>
     ensures { Reads (λ n. n) result lexer.new (block_number_at lexer.old) }
 {
@@ -28,15 +31,24 @@ fn block_number(lexer: &mut Lexer<'_>) -> Result<(u64, i128), FileFault>
     Ok((place, whole_in(bytes)))
 }
 
+/// A number in ASCII: its place and the number.
+#[inline(never)]
+fn word_number(lexer: &mut Lexer<'_>) -> Result<(u64, i128), FileFault>
+    ensures { Reads (λ n. n) result lexer.new (due_number lexer.old) }
+{
+    lexer.due_number()
+}
+
 /// The next number: its place and the number.
 #[tactic(auto, unfolding(crate::specs::Steps::section_number_at))]
+#[inline(always)]
 pub(crate) fn section_number(lexer: &mut Lexer<'_>, binary: bool) -> Result<(u64, i128), FileFault>
     ensures { Reads (λ n. n) result lexer.new (section_number_at binary lexer.old) }
 {
     if binary {
         return block_number(lexer);
     }
-    lexer.due_number()
+    word_number(lexer)
 }
 
 /// The end of the keyword's line, which is due in BINARY.
@@ -50,6 +62,7 @@ pub(crate) fn section_start(lexer: &mut Lexer<'_>, binary: bool) -> Result<(), F
     Ok(())
 }
 
+#[inline(always)]
 fn is_index(points: u64, n: &i128) -> bool
     ensures { result ≡ is_index points n.now }
 {
@@ -58,6 +71,7 @@ fn is_index(points: u64, n: &i128) -> bool
 
 /// The index of one of so many points: else Index.
 #[tactic(auto, unfolding(crate::specs::Steps::index_at))]
+#[inline(always)]
 pub(crate) fn index(lexer: &mut Lexer<'_>, binary: bool, points: u64) -> Result<u32, FileFault>
     requires { points < 2 ^ 31 }
     ensures { Reads (λ n. n) result lexer.new (index_at binary points lexer.old) }
