@@ -1,6 +1,6 @@
 //! Cells of one size or of any, as a loop over many cells makes them.
 
-ghost use Rattle.std.specs.Prelude.{◌≡◌, ◌≤◌, ℕ, List, IfSome, IsSome, length};
+ghost use Rattle.std.specs.Prelude.{◌≡◌, ◌≤◌, ◌↔◌, ℕ, List, IfSome, IsSome, length};
 
 use viz_sheet::Mixed;
 
@@ -9,9 +9,13 @@ use viz_sheet::Mixed;
 pub(crate) trait CellIndices: Drop {
     ghost list: { Self → List ℕ };
 
+    // How many indices a cell has.
+    ghost size: { ℕ };
+
     /// The cell of these indices, where the type has room for just so many.
     fn of(indices: &[u32]) -> Option<Self>
-        ensures value { IfSome result (λ c. list c ≡ indices.now) };
+        ensures value { IfSome result (λ c. list c ≡ indices.now) }
+        ensures some { IsSome result ↔ (length indices.now ≡ size) };
 
     /// The same cell, among cells of other sizes.
     fn mixed(&self) -> Mixed
@@ -20,6 +24,8 @@ pub(crate) trait CellIndices: Drop {
 
 impl CellIndices for [u32; 1] {
     ghost list = { λ c. c };
+
+    ghost size = { 1 };
 
     fn of(indices: &[u32]) -> Option<[u32; 1]> {
         match indices {
@@ -37,6 +43,8 @@ impl CellIndices for [u32; 1] {
 impl CellIndices for [u32; 2] {
     ghost list = { λ c. c };
 
+    ghost size = { 2 };
+
     fn of(indices: &[u32]) -> Option<[u32; 2]> {
         match indices {
             [a, b] => Some([*a, *b]),
@@ -53,6 +61,8 @@ impl CellIndices for [u32; 2] {
 impl CellIndices for [u32; 3] {
     ghost list = { λ c. c };
 
+    ghost size = { 3 };
+
     fn of(indices: &[u32]) -> Option<[u32; 3]> {
         match indices {
             [a, b, c] => Some([*a, *b, *c]),
@@ -68,6 +78,8 @@ impl CellIndices for [u32; 3] {
 
 impl CellIndices for [u32; 4] {
     ghost list = { λ c. c };
+
+    ghost size = { 4 };
 
     fn of(indices: &[u32]) -> Option<[u32; 4]> {
         match indices {
