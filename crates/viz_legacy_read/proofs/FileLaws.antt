@@ -1,14 +1,13 @@
 -- The reader of a file decides its rule.
-use Rattle.std.proofs.Common.{◌≡◌, ℕ, List, length, Result, Ok, refl, sym, ap, subst, ◌∙◌, inl, inr}
+use Rattle.std.proofs.Common.{◌≡◌, ℕ, List, length, Result, refl, sym, ap, subst, inl, inr}
 use Rattle.viz_base.specs.declared.node.Pick.{Pick}
 use Rattle.viz_lex.specs.declared.fault.FileFault.{FileFault}
-use Rattle.viz_lex.specs.Reading.{Reading, ◌>>=◌}
+use Rattle.viz_lex.specs.Reading.{Reading}
 use Rattle.viz_lex.specs.Rules.{Rule, gives, follow, Decides}
 use Rattle.viz_lex.proofs.RuleLemmas.{decides-gives, decides-follow, decides-choose}
 use Rattle.viz_attr.specs.Grammar.{attributes}
 use Rattle.viz_attr.specs.Steps.Parts.{attributes_at}
 use Rattle.viz_attr.proofs.AttributeLaws.{decides-attributes}
-use Rattle.viz_dataset.specs.declared.dataset.Dataset.{Dataset}
 use Rattle.viz_dataset.specs.declared.dataset.Dataset.TheVariants.{Image, Mesh}
 use Rattle.viz_mesh_read.specs.declared.coordinates.FilePoints.{FilePoints}
 use Rattle.viz_mesh_read.specs.Sections.{numbers_of_cells}
@@ -16,13 +15,13 @@ use Rattle.viz_mesh_read.specs.Grid.{Grid, grid, grid_numbers}
 use Rattle.viz_mesh_read.specs.GridSteps.{grid_at}
 use Rattle.viz_mesh_read.specs.Poly.{ByKind, Poly, polydata, polydata_numbers, numbers_by_kind}
 use Rattle.viz_mesh_read.specs.PolySteps.{polydata_at}
-use Rattle.viz_mesh_read.specs.Pieces.{pieces_of, pieces_in}
+use Rattle.viz_mesh_read.specs.Pieces.{pieces_in}
 use Rattle.viz_mesh_read.proofs.GridLaws.{decides-grid_numbers}
 use Rattle.viz_mesh_read.proofs.PolyLaws.{decides-polydata_numbers}
 use Rattle.viz_mesh_read.proofs.PieceLemmas.{pieces_in-list}
 use Rattle.viz_sheet.specs.Sheet.{SheetData}
 use Rattle.viz_file_mesh.specs.FileMesh.{mesh_of}
-use Rattle.viz_file_mesh.specs.GridPieces.{grid_pieces, grid_pieces_in}
+use Rattle.viz_file_mesh.specs.GridPieces.{grid_pieces_in}
 use Rattle.viz_file_mesh.proofs.GridCells.{grid_pieces_in-list}
 use Rattle.viz_legacy_read.specs.declared.front.Preamble.{Preamble}
 use Rattle.viz_legacy_read.specs.Header.{Header, Heading, header}

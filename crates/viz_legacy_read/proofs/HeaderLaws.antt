@@ -20,10 +20,9 @@ use Rattle.viz_attr.specs.Counts.{is_at_least}
 use Rattle.viz_attr.specs.Passed.{passed_field}
 use Rattle.viz_attr.specs.PassedSteps.{passed_field_at}
 use Rattle.viz_attr.proofs.PassedLaws.{decides-passed_field}
-use Rattle.viz_legacy_read.specs.declared.front.DatasetWord.{DatasetWord}
 use Rattle.viz_legacy_read.specs.declared.front.DatasetWord.TheVariants.{Points, Grid, Polydata}
 use Rattle.viz_legacy_read.specs.declared.front.Preamble.{Preamble}
-use Rattle.viz_legacy_read.specs.Header.{form, dataset_word, dataset, preamble, is_image, image_header, Heading, behind_preamble, is_left_out_dataset, Line, Geometry, no_line, with_line, geometry_of, size, whole_of, sizes, origin, is_above, step, spacing, behind, one_field, header_line, header_of, header}
+use Rattle.viz_legacy_read.specs.Header.{form, dataset_word, dataset, preamble, is_image, image_header, behind_preamble, is_left_out_dataset, Line, Geometry, no_line, with_line, geometry_of, size, whole_of, sizes, origin, is_above, step, spacing, behind, one_field, header_line, header_of, header}
 use Rattle.viz_legacy_read.specs.Header.Line.{Sizes, Origin, Spacing_of}
 use Rattle.viz_legacy_read.specs.Header.Heading.{OfImage, OfMesh}
 use Rattle.viz_legacy_read.specs.Steps.{two_lines_at, form_at, dataset_word_at, dataset_at, preamble_at, image_heading_at, behind_preamble_at, size_at, sizes_at, origin_at, step_at, spacing_at, behind_at, one_field_at, fields_at, header_line_at, lines_at, lines_header_at, header_at}

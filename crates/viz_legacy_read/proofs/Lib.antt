@@ -2,4 +2,3 @@ pub mod FieldLoops
 pub mod HeaderLaws
 pub mod FileLaws
 pub mod ReadLaws
-pub mod MeshLemmas

@@ -1,4 +1,3 @@
-use Rattle.std.proofs.Common.{sym}
 use Rattle.viz_legacy_read.proofs.ReadLaws.{file_found, file_fault}
 use Rattle.viz_legacy_read.proofs.reading.read.Goals as goal
 
