@@ -9,28 +9,53 @@ use std::alloc::{AllocError, Global};
 use std::process::Abort;
 use std::test::Fail;
 
-// The indices of the true bits.
-fn trues(alloc: Global, bits: &Bits) -> Result<Vec<u64>, AllocError> {
-    let mut indices = Vec::new(alloc);
+// How many bits are true.
+fn trues(bits: &Bits) -> u64 {
+    let mut found: u64 = 0;
     for i in 0..bits.len() {
         if bits.get(i) {
-            indices.push(i)?;
+            found = found.saturating_add(1);
         }
     }
-    Ok(indices)
+    found
 }
 
 // From the first to the last the bits are true, and no others.
-fn run(rt: &impl Abort, bits: &Bits, first: u64, last: u64, count: usize) {
-    let mut found = 0;
+fn run(rt: &impl Abort, bits: &Bits, first: u64, last: u64) {
     for i in 0..bits.len() {
-        let bit = bits.get(i);
-        assert_eq!(rt; bit, first <= i && i <= last, "bit {i} of {count}");
-        if bit && found < count {
-            found += 1;
-        }
+        assert_eq!(rt; bits.get(i), first <= i && i <= last, "bit {i}");
     }
-    assert_eq!(rt; found, count);
+}
+
+// The numbers from 0 on.
+fn first_numbers(alloc: Global, length: u8) -> Result<Vec<u8>, AllocError> {
+    let mut numbers = Vec::new(alloc);
+    for n in 0..length {
+        numbers.push(n)?;
+    }
+    Ok(numbers)
+}
+
+// 65 numbers: the greatest in the first lane, in one within and the last, and at the one that is
+// left over.
+fn mixed<T: Copy>(alloc: Global, least: T, most: T) -> Result<Vec<T>, AllocError> {
+    let mut numbers = Vec::new(alloc);
+    for i in 0..65 {
+        numbers.push(if is_most(i) { most } else { least })?;
+    }
+    Ok(numbers)
+}
+
+fn is_most(i: u64) -> bool {
+    i == 0 || i == 31 || i >= 63
+}
+
+// Just the greatest numbers of these are true.
+fn only_most(rt: &impl Abort, bits: &Bits) {
+    assert_eq!(rt; bits.len(), 65);
+    for i in 0..bits.len() {
+        assert_eq!(rt; bits.get(i), is_most(i), "bit {i}");
+    }
 }
 
 #[test]
@@ -45,42 +70,30 @@ fn planes_have_every_length(rt: HostRuntime) -> Result<(), Fail> {
         (65, 62, 25),
         (67, 62, 27),
     ] {
-        let mut numbers: Vec<u8> = Vec::new(alloc);
-        for n in 0..length {
-            numbers.push(n)?;
-        }
+        let numbers = first_numbers(alloc, length)?;
         let plane = within_u8(alloc, &numbers, 3, 64)?;
         assert_eq!(&rt; plane.len(), u64::from(length));
-        run(&rt, &plane, 3, 64, within);
+        assert_eq!(&rt; trues(&plane), within, "3 to 64 of {length}");
+        run(&rt, &plane, 3, 64);
         let plane = at_least_u8(alloc, &numbers, 40)?;
         assert_eq!(&rt; plane.len(), u64::from(length));
-        run(&rt, &plane, 40, 66, at_least);
+        assert_eq!(&rt; trues(&plane), at_least, "40 on of {length}");
+        run(&rt, &plane, 40, 66);
     }
     Ok(())
 }
 
-// The greatest number of a type among 65 of its least: the first lane, one within, the last, and
-// one that is left over.
+// Both ends of a type as bounds, and a lower bound above the upper one.
 macro_rules! ends {
     ($rt:expr, $number:ident, $at_least:ident, $within:ident) => {{
         let alloc = $rt.alloc();
         let (least, most) = ($number::MIN, $number::MAX);
-        let mut xs = [least; 65];
-        xs[0] = most;
-        xs[31] = most;
-        xs[63] = most;
-        xs[64] = most;
-        let plane = $at_least(alloc, &xs, most)?;
-        assert_eq!($rt; trues(alloc, &plane)?.as_slice(), [0, 31, 63, 64].as_slice());
-        let plane = $at_least(alloc, &xs, least)?;
-        assert_eq!($rt; trues(alloc, &plane)?.len(), 65);
-        let plane = $within(alloc, &xs, least + 1, most)?;
-        assert_eq!($rt; trues(alloc, &plane)?.as_slice(), [0, 31, 63, 64].as_slice());
-        let plane = $within(alloc, &xs, least, most - 1)?;
-        assert_eq!($rt; trues(alloc, &plane)?.len(), 61);
-        // The lower bound is above the upper one.
-        let plane = $within(alloc, &xs, most, least)?;
-        assert_eq!($rt; trues(alloc, &plane)?.len(), 0);
+        let xs = mixed(alloc, least, most)?;
+        only_most($rt, &$at_least(alloc, &xs, most)?);
+        assert_eq!($rt; trues(&$at_least(alloc, &xs, least)?), 65);
+        only_most($rt, &$within(alloc, &xs, least + 1, most)?);
+        assert_eq!($rt; trues(&$within(alloc, &xs, least, most - 1)?), 61);
+        assert_eq!($rt; trues(&$within(alloc, &xs, most, least)?), 0);
     }};
 }
 
@@ -121,11 +134,9 @@ fn bits_are_pushed_across_words(rt: HostRuntime) -> Result<(), Fail> {
         bits.push(i % 3 == 2)?;
         assert_eq!(&rt; bits.len(), i + 1);
     }
-    // The last of each three, with two more at the end of a word and at the start of the next.
-    let indices = trues(alloc, &bits)?;
-    assert_eq!(&rt; indices.len(), 43);
-    for (row, index) in [(0, 2), (20, 62), (21, 65), (41, 125), (42, 128)] {
-        assert_eq!(&rt; indices.get(row).copied(), Some(index));
+    assert_eq!(&rt; trues(&bits), 43);
+    for i in 0..bits.len() {
+        assert_eq!(&rt; bits.get(i), i % 3 == 2, "bit {i}");
     }
     Ok(())
 }
