@@ -20,11 +20,21 @@ fn trues(bits: &Bits) -> u64 {
     found
 }
 
-// From the first to the last the bits are true, and no others.
-fn run(rt: &impl Abort, bits: &Bits, first: u64, last: u64) {
+// Of so many bits just those from the first to the last are true, and so many are.
+fn run(
+    rt: &impl Abort,
+    plane: Result<Bits, AllocError>,
+    length: u8,
+    [first, last]: [u64; 2],
+    count: u64,
+) -> Result<(), Fail> {
+    let bits = plane?;
+    assert_eq!(rt; bits.len(), u64::from(length));
+    assert_eq!(rt; trues(&bits), count, "{first} on of {length}");
     for i in 0..bits.len() {
-        assert_eq!(rt; bits.get(i), first <= i && i <= last, "bit {i}");
+        assert_eq!(rt; bits.get(i), first <= i && i <= last, "bit {i} of {length}");
     }
+    Ok(())
 }
 
 // The numbers from 0 on.
@@ -51,11 +61,20 @@ fn is_most(i: u64) -> bool {
 }
 
 // Just the greatest numbers of these are true.
-fn only_most(rt: &impl Abort, bits: &Bits) {
+fn only_most(rt: &impl Abort, plane: Result<Bits, AllocError>) -> Result<(), Fail> {
+    let bits = plane?;
     assert_eq!(rt; bits.len(), 65);
     for i in 0..bits.len() {
         assert_eq!(rt; bits.get(i), is_most(i), "bit {i}");
     }
+    Ok(())
+}
+
+// So many are true.
+fn many(rt: &impl Abort, plane: Result<Bits, AllocError>, count: u64) -> Result<(), Fail> {
+    let bits = plane?;
+    assert_eq!(rt; trues(&bits), count);
+    Ok(())
 }
 
 #[test]
@@ -71,14 +90,10 @@ fn planes_have_every_length(rt: HostRuntime) -> Result<(), Fail> {
         (67, 62, 27),
     ] {
         let numbers = first_numbers(alloc, length)?;
-        let plane = within_u8(alloc, &numbers, 3, 64)?;
-        assert_eq!(&rt; plane.len(), u64::from(length));
-        assert_eq!(&rt; trues(&plane), within, "3 to 64 of {length}");
-        run(&rt, &plane, 3, 64);
-        let plane = at_least_u8(alloc, &numbers, 40)?;
-        assert_eq!(&rt; plane.len(), u64::from(length));
-        assert_eq!(&rt; trues(&plane), at_least, "40 on of {length}");
-        run(&rt, &plane, 40, 66);
+        let plane = within_u8(alloc, &numbers, 3, 64);
+        run(&rt, plane, length, [3, 64], within)?;
+        let plane = at_least_u8(alloc, &numbers, 40);
+        run(&rt, plane, length, [40, 66], at_least)?;
     }
     Ok(())
 }
@@ -89,40 +104,51 @@ macro_rules! ends {
         let alloc = $rt.alloc();
         let (least, most) = ($number::MIN, $number::MAX);
         let xs = mixed(alloc, least, most)?;
-        only_most($rt, &$at_least(alloc, &xs, most)?);
-        assert_eq!($rt; trues(&$at_least(alloc, &xs, least)?), 65);
-        only_most($rt, &$within(alloc, &xs, least + 1, most)?);
-        assert_eq!($rt; trues(&$within(alloc, &xs, least, most - 1)?), 61);
-        assert_eq!($rt; trues(&$within(alloc, &xs, most, least)?), 0);
+        only_most($rt, $at_least(alloc, &xs, most))?;
+        only_most($rt, $within(alloc, &xs, least + 1, most))?;
+        many($rt, $within(alloc, &xs, least, most - 1), 61)?;
+        many($rt, $within(alloc, &xs, most, least), 0)
     }};
 }
 
 #[test]
-fn one_byte_has_its_ends(rt: HostRuntime) -> Result<(), Fail> {
-    ends!(&rt, i8, at_least_i8, within_i8);
-    ends!(&rt, u8, at_least_u8, within_u8);
-    Ok(())
+fn i8_has_its_ends(rt: HostRuntime) -> Result<(), Fail> {
+    ends!(&rt, i8, at_least_i8, within_i8)
 }
 
 #[test]
-fn two_bytes_have_their_ends(rt: HostRuntime) -> Result<(), Fail> {
-    ends!(&rt, i16, at_least_i16, within_i16);
-    ends!(&rt, u16, at_least_u16, within_u16);
-    Ok(())
+fn u8_has_its_ends(rt: HostRuntime) -> Result<(), Fail> {
+    ends!(&rt, u8, at_least_u8, within_u8)
 }
 
 #[test]
-fn four_bytes_have_their_ends(rt: HostRuntime) -> Result<(), Fail> {
-    ends!(&rt, i32, at_least_i32, within_i32);
-    ends!(&rt, u32, at_least_u32, within_u32);
-    Ok(())
+fn i16_has_its_ends(rt: HostRuntime) -> Result<(), Fail> {
+    ends!(&rt, i16, at_least_i16, within_i16)
 }
 
 #[test]
-fn eight_bytes_have_their_ends(rt: HostRuntime) -> Result<(), Fail> {
-    ends!(&rt, i64, at_least_i64, within_i64);
-    ends!(&rt, u64, at_least_u64, within_u64);
-    Ok(())
+fn u16_has_its_ends(rt: HostRuntime) -> Result<(), Fail> {
+    ends!(&rt, u16, at_least_u16, within_u16)
+}
+
+#[test]
+fn i32_has_its_ends(rt: HostRuntime) -> Result<(), Fail> {
+    ends!(&rt, i32, at_least_i32, within_i32)
+}
+
+#[test]
+fn u32_has_its_ends(rt: HostRuntime) -> Result<(), Fail> {
+    ends!(&rt, u32, at_least_u32, within_u32)
+}
+
+#[test]
+fn i64_has_its_ends(rt: HostRuntime) -> Result<(), Fail> {
+    ends!(&rt, i64, at_least_i64, within_i64)
+}
+
+#[test]
+fn u64_has_its_ends(rt: HostRuntime) -> Result<(), Fail> {
+    ends!(&rt, u64, at_least_u64, within_u64)
 }
 
 #[test]
