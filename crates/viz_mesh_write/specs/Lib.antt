@@ -1,0 +1,5 @@
+pub mod MeshText
+pub mod Cells
+pub mod Rows
+pub mod Fits
+pub mod Steps
