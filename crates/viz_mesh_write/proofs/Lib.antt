@@ -1,2 +1,3 @@
 mod PointLemmas
 mod CellLemmas
+mod TallyLemmas

@@ -9,4 +9,5 @@ mod cell_ranks;
 mod cell_rows;
 mod numbers;
 mod points;
+mod tally;
 

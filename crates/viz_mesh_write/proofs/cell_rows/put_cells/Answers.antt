@@ -1,4 +1,4 @@
-use Rattle.std.proofs.Common.{◌++◌, ap, sym, subst, ◌∙◌}
+use Rattle.std.proofs.Common.{ap, sym, subst, ◌∙◌}
 use Rattle.std.proofs.lemmas.List.Elements.{All-get_or}
 use Rattle.viz_mesh_write.specs.Steps.Passes.{IsMovable}
 use Rattle.viz_mesh_write.proofs.CellLemmas.{cell_more}
