@@ -1,3 +1,4 @@
 mod PointLemmas
 mod CellLemmas
 mod TallyLemmas
+mod SectionLemmas

@@ -34,6 +34,7 @@ pub(crate) trait CellRow {
 }
 
 /// The numbers of each cell.
+#[derive(Clone, Copy)]
 pub(crate) struct Every;
 
 impl CellRow for Every {
@@ -51,6 +52,7 @@ impl CellRow for Every {
 }
 
 /// The numbers of each cell of so many points.
+#[derive(Clone, Copy)]
 pub(crate) struct OfSize {
     pub(crate) size: usize,
 }
@@ -70,6 +72,7 @@ impl CellRow for OfSize {
 }
 
 /// The type of each cell.
+#[derive(Clone, Copy)]
 pub(crate) struct Types;
 
 impl CellRow for Types {

@@ -7,7 +7,11 @@
 
 mod cell_ranks;
 mod cell_rows;
+mod heads;
+mod mesh;
 mod numbers;
 mod points;
+mod sections;
 mod tally;
 
+pub use mesh::write_mesh;

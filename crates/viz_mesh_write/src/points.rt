@@ -32,6 +32,7 @@ pub(crate) trait PointNumbers {
 }
 
 /// The coordinates, at so many places.
+#[derive(Clone, Copy)]
 pub(crate) struct Coordinates {
     pub(crate) digits: u8,
     ghost few: { digits ≤ 9 },
@@ -46,6 +47,7 @@ impl PointNumbers for Coordinates {
 }
 
 /// The scalar.
+#[derive(Clone, Copy)]
 pub(crate) struct Scalar;
 
 impl PointNumbers for Scalar {

@@ -7,7 +7,7 @@ ghost use Rattle.viz_sheet.specs.Sheet.{IsSheet};
 ghost use Rattle.viz_sheet.specs.Ranked.{ranks_of};
 ghost use Rattle.viz_mesh_write.specs.Cells.{points_of, cells_of, of_size};
 ghost use Rattle.viz_mesh_write.specs.Fits.{FitCounts};
-ghost use Rattle.viz_mesh_write.specs.Steps.Tallies.{capped, IsTally, IsCapped, AreSmall, cell_count, size_count, SectionsFit};
+ghost use Rattle.viz_mesh_write.specs.Steps.Tallies.{capped, IsCapped, IsReady, AreSmall, cell_count, size_count, SectionsFit};
 
 use crate::cell_ranks::CellRanks;
 use crate::cell_rows::sheet_ranks;
@@ -144,8 +144,7 @@ impl Tally {
 /// The counts, where they may be written.
 pub(crate) fn counted(sheets: &[Sheet]) -> Option<Tally>
     ensures some { IsSome result ↔ FitCounts sheets.now }
-    ensures value { IfSome result (IsTally sheets.now) }
-    ensures small { IfSome result AreSmall }
+    ensures value { IfSome result (IsReady sheets.now) }
 {
     known(sheets);
     let tally = capped_tally(sheets);

@@ -1,7 +1,8 @@
 -- Counts of points and cells.
-use Rattle.std.specs.Prelude.{◌≡◌, ℕ, ◌+◌, ◌-◌, ◌*◌, ◌^◌, ◌<◌, ◌≤◌, List, length, min}
-use Rattle.viz_sheet.specs.Sheet.{SheetData}
+use Rattle.std.specs.Prelude.{◌≡◌, ℕ, ◌+◌, ◌-◌, ◌*◌, ◌^◌, ◌<◌, ◌≤◌, List, All, length, min}
+use Rattle.viz_sheet.specs.Sheet.{SheetData, IsSheet}
 use Rattle.viz_mesh_write.specs.declared.tally.Tally.{Tally}
+use Rattle.viz_mesh_write.specs.Fits.{FitCounts}
 use Rattle.viz_mesh_write.specs.Cells.{points_of, cells_of, of_size}
 
 -- a count, or the greatest number of 64 bits where that is less
@@ -48,3 +49,11 @@ SectionsFit t = (0 < t.tetrahedra → size_count t < 2 ^ 31) × (t.tetrahedra �
 pub record IsSized (cell : List ℕ) : Type 0 where
   pub some : 1 ≤ length cell
   pub most : length cell ≤ 4
+
+-- sheets that may be written, and their counts
+pub record IsReady (sheets : List SheetData) (t : Tally) : Type 0 where
+  pub known : All IsSheet sheets
+  pub counts : IsTally sheets t
+  pub small : AreSmall t
+  pub sections : SectionsFit t
+  pub fits : FitCounts sheets
