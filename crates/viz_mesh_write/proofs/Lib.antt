@@ -2,3 +2,4 @@ mod PointLemmas
 mod CellLemmas
 mod TallyLemmas
 mod SectionLemmas
+mod TextLemmas

@@ -61,11 +61,10 @@ fn put_head(
 }
 
 /// Whether a tetrahedron is there.
-fn is_grid(tally: &Tally, sheets: &[Sheet]) -> bool
-    requires { IsReady sheets.now tally.now }
-    ensures { result ≡ has_tetrahedra (cells_of sheets.now) }
+fn is_grid(tally: &Tally, _sheets: &[Sheet]) -> bool
+    requires { IsReady _sheets.now tally.now }
+    ensures { result ≡ has_tetrahedra (cells_of _sheets.now) }
 {
-    let _sheets = sheets;
     tally.tetrahedra > 0
 }
 
