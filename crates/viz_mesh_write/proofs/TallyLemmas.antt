@@ -179,12 +179,12 @@ fit_from sheets t known capped_is small sections =
     record {
       points = omega (arith, is.points, small.points);
       sizes = sections_all (has_tetrahedra cells) cells
-      (λ e. let above = ltb-true 0 (length (of_size 4 cells)) (sym some ∙ e) in
-      let few = sections.0 (omega (arith, above, is.tetrahedra)) in
-      omega (arith, size, few, is.vertices, is.lines, is.triangles, is.tetrahedra))
-      (λ e. let none = ltb-false 0 (length (of_size 4 cells)) (sym some ∙ e) in
-      let few = sections.1 (omega (arith, none, is.tetrahedra)) in
-      (omega (arith, one, few.0, is.vertices), omega (arith, two, few.1, is.lines), omega (arith, three, few.2, is.triangles)));
+          (λ e. let above = ltb-true 0 (length (of_size 4 cells)) (sym some ∙ e) in
+          let few = sections.0 (omega (arith, above, is.tetrahedra)) in
+          omega (arith, size, few, is.vertices, is.lines, is.triangles, is.tetrahedra))
+          (λ e. let none = ltb-false 0 (length (of_size 4 cells)) (sym some ∙ e) in
+          let few = sections.1 (omega (arith, none, is.tetrahedra)) in
+          (omega (arith, one, few.0, is.vertices), omega (arith, two, few.1, is.lines), omega (arith, three, few.2, is.triangles)));
     }
 
 small_by : (b : Bool) (sheets : List SheetData) (t : Tally)
@@ -193,28 +193,32 @@ small_by : (b : Bool) (sheets : List SheetData) (t : Tally)
     → (b ≡ true → size_of (cells_of sheets) < 2 ^ 31) → (b ≡ false → (size_of (of_size 1 (cells_of sheets)) < 2 ^ 31) × (size_of (of_size 2 (cells_of sheets)) < 2 ^ 31) × (size_of (of_size 3 (cells_of sheets)) < 2 ^ 31))
     → AreSmall t × SectionsFit t
 small_by true sheets t size some is points whole parts =
-    let few = whole refl in
-    (record {
-      points = omega (arith, is.points, points);
-      vertices = omega (arith, is.vertices, size, few);
-      lines = omega (arith, is.lines, size, few);
-      triangles = omega (arith, is.triangles, size, few);
-      tetrahedra = omega (arith, is.tetrahedra, size, few);
-    }, ((λ _. omega (arith, is.vertices, is.lines, is.triangles, is.tetrahedra, size, few)), (λ _. (omega (arith, is.vertices, size, few), omega (arith, is.lines, size, few), omega (arith, is.triangles, size, few)))))
+    let few = whole refl in (
+      record {
+        points = omega (arith, is.points, points);
+        vertices = omega (arith, is.vertices, size, few);
+        lines = omega (arith, is.lines, size, few);
+        triangles = omega (arith, is.triangles, size, few);
+        tetrahedra = omega (arith, is.tetrahedra, size, few);
+      },
+      ((λ _. omega (arith, is.vertices, is.lines, is.triangles, is.tetrahedra, size, few)), (λ _. (omega (arith, is.vertices, size, few), omega (arith, is.lines, size, few), omega (arith, is.triangles, size, few)))),
+    )
 small_by false sheets t size some is points whole parts =
     let cells = cells_of sheets in
     let few = parts refl in
     let none = ltb-false 0 (length (of_size 4 cells)) (sym some) in
     let one = size_of_size 1 cells in
     let two = size_of_size 2 cells in
-    let three = size_of_size 3 cells in
-    (record {
-      points = omega (arith, is.points, points);
-      vertices = omega (arith, is.vertices, one, few.0);
-      lines = omega (arith, is.lines, two, few.1);
-      triangles = omega (arith, is.triangles, three, few.2);
-      tetrahedra = omega (arith, is.tetrahedra, none);
-    }, ((λ some. absurd (omega (arith, some, is.tetrahedra, none))), (λ _. (omega (arith, is.vertices, one, few.0), omega (arith, is.lines, two, few.1), omega (arith, is.triangles, three, few.2)))))
+    let three = size_of_size 3 cells in (
+      record {
+        points = omega (arith, is.points, points);
+        vertices = omega (arith, is.vertices, one, few.0);
+        lines = omega (arith, is.lines, two, few.1);
+        triangles = omega (arith, is.triangles, three, few.2);
+        tetrahedra = omega (arith, is.tetrahedra, none);
+      },
+      ((λ some. absurd (omega (arith, some, is.tetrahedra, none))), (λ _. (omega (arith, is.vertices, one, few.0), omega (arith, is.lines, two, few.1), omega (arith, is.triangles, three, few.2)))),
+    )
 
 -- counts that may be written are small, and their sections fit
 pub small_from : (sheets : List SheetData) (t : Tally) → All IsSheet sheets → IsCapped sheets t → FitCounts sheets → AreSmall t × SectionsFit t

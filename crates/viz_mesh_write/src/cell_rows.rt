@@ -136,12 +136,7 @@ fn put_cell_bytes(text: &mut Vec<u8>, first: u32, ranks: &[u32]) -> Result<(), A
 }
 
 /// The row of a cell.
-fn put_cell(
-    text: &mut Vec<u8>,
-    binary: bool,
-    first: u32,
-    ranks: &[u32],
-) -> Result<(), AllocError>
+fn put_cell(text: &mut Vec<u8>, binary: bool, first: u32, ranks: &[u32]) -> Result<(), AllocError>
     requires { IsMovable first ranks.now }
     ensures { OnOk result (text.new.items ≡ text.old.items ++ cell_row binary first ranks.now) }
 {

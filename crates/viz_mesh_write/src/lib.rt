@@ -15,3 +15,6 @@ mod sections;
 mod tally;
 
 pub use mesh::write_mesh;
+
+#[cfg(test)]
+mod tests;

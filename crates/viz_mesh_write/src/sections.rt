@@ -97,12 +97,7 @@ fn put_poly(
 }
 
 /// The types of the cells of a grid.
-fn put_types(
-    text: &mut Vec<u8>,
-    binary: bool,
-    n: u64,
-    sheets: &[Sheet],
-) -> Result<(), AllocError>
+fn put_types(text: &mut Vec<u8>, binary: bool, n: u64, sheets: &[Sheet]) -> Result<(), AllocError>
     requires few { length (points_of sheets.now) < 2 ^ 31 }
     requires count { n ≡ length (cells_of sheets.now) }
     ensures { OnOk result (text.new.items
