@@ -3,3 +3,4 @@ mod CellLemmas
 mod TallyLemmas
 mod SectionLemmas
 mod TextLemmas
+mod SurfaceLemmas

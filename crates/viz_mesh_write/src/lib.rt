@@ -8,12 +8,14 @@
 mod cell_ranks;
 mod cell_rows;
 mod heads;
+mod laws;
 mod mesh;
 mod numbers;
 mod points;
 mod sections;
 mod tally;
 
+pub use laws::triangles_are_a_surface;
 pub use mesh::write_mesh;
 
 #[cfg(test)]

@@ -1,12 +1,12 @@
 //! Meshes whose texts are reckoned by hand.
 
-use crate::write_mesh;
+use crate::{triangles_are_a_surface, write_mesh};
 use std::alloc::Global;
 use std::process::Abort;
 use std::test::Fail;
 use viz_base::Bytes;
 use viz_fraction::{Point5, point, small};
-use viz_legacy_write::{Style, WriteStop};
+use viz_legacy_write::{Style, WriteStop, surface_text};
 use viz_sheet::{Leaves, Mesh, Mixed, Places, Ranks, Sheet, are_cells, sheet_of};
 
 const WORDS: Style = Style {
@@ -352,6 +352,20 @@ fn each_block_of_bytes_ends_with_a_newline(rt: HostRuntime) -> Result<(), Fail> 
     shows(&rt, rt.alloc(), sheets, &BYTES, TWO_KINDS)
 }
 
+#[test]
+fn a_sheet_of_triangles_is_written_as_a_surface(rt: HostRuntime) -> Result<(), Fail> {
+    triangles_are_a_surface();
+    let mut points = Vec::new(rt.alloc());
+    for row in &CORNERS {
+        points.push(point_of(*row)?)?;
+    }
+    let triangles = [[0, 1, 2], [2, 1, 3]];
+    let want = surface_text(rt.alloc(), &points, &triangles)?;
+    let ranks = Ranks::Triangles(Vec::from_array(rt.alloc(), triangles)?);
+    let sheets = vec![in rt.alloc(); corners(rt.alloc(), ranks)?]?;
+    shows(&rt, rt.alloc(), sheets, &WORDS, &want)
+}
+
 // One point as a vertex.
 fn vertex(alloc: Global, numbers: [i128; 5]) -> Result<Vec<Sheet>, Fail> {
     let ranks = Ranks::Vertices(vec![in alloc; [0]]?);
@@ -389,6 +403,12 @@ fn numbers_are_rounded_down(rt: HostRuntime) -> Result<(), Fail> {
             "1",
         ),
         // The greatest and the least numbers.
+        (
+            [0, 0, -9_223_372_036_854_775_808, 0, 1],
+            0,
+            "0 0 -9223372036854775808",
+            "0",
+        ),
         (
             [
                 9_223_372_036_854_775_807,
