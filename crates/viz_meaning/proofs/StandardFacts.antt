@@ -1,5 +1,6 @@
 -- Sections of a tetrahedron, a triangle and a line by hand, from the table of cells.
-use Rattle.std.proofs.Common.{◌≡◌, ℕ, Bool, true, false, pos, negsuc, List, [], ◌∷◌, refl}
+use Rattle.std.proofs.Common.{◌≡◌, ℕ, Bool, true, false, pos, negsuc, List, [], ◌∷◌, map, nat_eq, slice_index_or, refl}
+use Rattle.std.specs.List.{list_any}
 use Rattle.viz_fraction.specs.declared.forms.Form.{Form}
 use Rattle.viz_fraction.specs.Points.{numbers, divisor_of}
 use Rattle.viz_fraction.specs.Divisors.{gcd}
@@ -26,40 +27,101 @@ greater_half = refl
 three_names : names_of (((3 ∷ 5 ∷ []) ∷ (0 ∷ 9 ∷ []) ∷ []) ∷ ((3 ∷ 4 ∷ []) ∷ (3 ∷ 5 ∷ []) ∷ []) ∷ []) ≡ (0 ∷ 9 ∷ []) ∷ (3 ∷ 4 ∷ []) ∷ (3 ∷ 5 ∷ []) ∷ []
 three_names = refl
 
--- a tetrahedron, a triangle and a line, by names that don't ascend
+-- the names of a tetrahedron, a triangle and a line, and the ends between them
 abbrev tetrahedron : List (List ℕ)
-tetrahedron = (8 ∷ []) ∷ (2 ∷ []) ∷ (5 ∷ []) ∷ (6 ∷ []) ∷ []
+tetrahedron = (0 ∷ []) ∷ (1 ∷ []) ∷ (2 ∷ []) ∷ (3 ∷ []) ∷ []
 
 abbrev triangle : List (List ℕ)
-triangle = (8 ∷ []) ∷ (2 ∷ []) ∷ (5 ∷ []) ∷ []
+triangle = (0 ∷ []) ∷ (1 ∷ []) ∷ (2 ∷ []) ∷ []
 
 abbrev line : List (List ℕ)
-line = (8 ∷ []) ∷ (2 ∷ []) ∷ []
+line = (0 ∷ []) ∷ (1 ∷ []) ∷ []
 
--- whether a name is that of one leaf
-abbrev is_leaf : List ℕ → ℕ → Bool
-is_leaf (leaf ∷ []) k = Rattle.std.specs.Prelude.nat_eq leaf k
-is_leaf n k = false
+abbrev a01 : List ℕ
+a01 = 0 ∷ 1 ∷ []
 
--- inside 0: 01 02 03
-first_inside : cells_in (λ n. is_leaf n 8) tetrahedron ≡ ((2 ∷ 8 ∷ []) ∷ (5 ∷ 8 ∷ []) ∷ (6 ∷ 8 ∷ []) ∷ []) ∷ []
+abbrev a02 : List ℕ
+a02 = 0 ∷ 2 ∷ []
+
+abbrev a03 : List ℕ
+a03 = 0 ∷ 3 ∷ []
+
+abbrev a12 : List ℕ
+a12 = 1 ∷ 2 ∷ []
+
+abbrev a13 : List ℕ
+a13 = 1 ∷ 3 ∷ []
+
+abbrev a23 : List ℕ
+a23 = 2 ∷ 3 ∷ []
+
+-- whether a name is the leaf of one of these numbers
+abbrev is_one_of : List ℕ → List ℕ → Bool
+is_one_of leaves n = list_any (λ leaf. nat_eq leaf (slice_index_or n 0 0)) leaves
+
+-- the cells in a cell, where these corners are inside
+abbrev cells_by : List (List ℕ) → List ℕ → List (List (List ℕ))
+cells_by corners leaves = cells_in (is_one_of leaves) corners
+
+-- a line: 0, 1, none and both
+of_line : map (cells_by line) ((0 ∷ []) ∷ (1 ∷ []) ∷ [] ∷ (0 ∷ 1 ∷ []) ∷ [])
+    ≡ ((a01 ∷ []) ∷ []) ∷ ((a01 ∷ []) ∷ []) ∷ [] ∷ [] ∷ []
 unfolding cells_at
-first_inside = refl
+of_line = refl
 
--- inside 1: 12 01 13
-second_inside : cells_in (λ n. is_leaf n 2) tetrahedron ≡ ((2 ∷ 5 ∷ []) ∷ (2 ∷ 8 ∷ []) ∷ (2 ∷ 6 ∷ []) ∷ []) ∷ []
+-- a triangle, one inside and two
+of_triangle : map (cells_by triangle) ((0 ∷ []) ∷ (1 ∷ []) ∷ (2 ∷ []) ∷ (1 ∷ 2 ∷ []) ∷ (0 ∷ 2 ∷ []) ∷ (0 ∷ 1 ∷ []) ∷ [])
+    ≡ ((a01 ∷ a02 ∷ []) ∷ [])
+    ∷ ((a12 ∷ a01 ∷ []) ∷ [])
+    ∷ ((a02 ∷ a12 ∷ []) ∷ [])
+    ∷ ((a02 ∷ a01 ∷ []) ∷ [])
+    ∷ ((a01 ∷ a12 ∷ []) ∷ [])
+    ∷ ((a12 ∷ a02 ∷ []) ∷ [])
+    ∷ []
 unfolding cells_at
-second_inside = refl
+of_triangle = refl
 
--- inside 1 of a triangle: 12 01
-one_of_three : cells_in (λ n. is_leaf n 2) triangle ≡ ((2 ∷ 5 ∷ []) ∷ (2 ∷ 8 ∷ []) ∷ []) ∷ []
+-- a tetrahedron, one inside
+one_of_four : map (cells_by tetrahedron) ((0 ∷ []) ∷ (1 ∷ []) ∷ (2 ∷ []) ∷ (3 ∷ []) ∷ [])
+    ≡ ((a01 ∷ a02 ∷ a03 ∷ []) ∷ [])
+    ∷ ((a12 ∷ a01 ∷ a13 ∷ []) ∷ [])
+    ∷ ((a02 ∷ a12 ∷ a23 ∷ []) ∷ [])
+    ∷ ((a13 ∷ a03 ∷ a23 ∷ []) ∷ [])
+    ∷ []
 unfolding cells_at
-one_of_three = refl
+one_of_four = refl
 
--- inside 0 of a line: 01
-one_of_two : cells_in (λ n. is_leaf n 8) line ≡ ((2 ∷ 8 ∷ []) ∷ []) ∷ []
+-- three inside
+three_of_four : map (cells_by tetrahedron) ((1 ∷ 2 ∷ 3 ∷ []) ∷ (0 ∷ 2 ∷ 3 ∷ []) ∷ (0 ∷ 1 ∷ 3 ∷ []) ∷ (0 ∷ 1 ∷ 2 ∷ []) ∷ [])
+    ≡ ((a02 ∷ a01 ∷ a03 ∷ []) ∷ [])
+    ∷ ((a01 ∷ a12 ∷ a13 ∷ []) ∷ [])
+    ∷ ((a12 ∷ a02 ∷ a23 ∷ []) ∷ [])
+    ∷ ((a03 ∷ a13 ∷ a23 ∷ []) ∷ [])
+    ∷ []
 unfolding cells_at
-one_of_two = refl
+three_of_four = refl
+
+-- two inside
+two_of_four : map (cells_by tetrahedron) ((0 ∷ 1 ∷ []) ∷ (0 ∷ 2 ∷ []) ∷ (0 ∷ 3 ∷ []) ∷ (1 ∷ 2 ∷ []) ∷ (1 ∷ 3 ∷ []) ∷ (2 ∷ 3 ∷ []) ∷ [])
+    ≡ ((a02 ∷ a03 ∷ a13 ∷ []) ∷ (a02 ∷ a13 ∷ a12 ∷ []) ∷ [])
+    ∷ ((a01 ∷ a12 ∷ a23 ∷ []) ∷ (a01 ∷ a23 ∷ a03 ∷ []) ∷ [])
+    ∷ ((a01 ∷ a02 ∷ a23 ∷ []) ∷ (a01 ∷ a23 ∷ a13 ∷ []) ∷ [])
+    ∷ ((a01 ∷ a13 ∷ a23 ∷ []) ∷ (a01 ∷ a23 ∷ a02 ∷ []) ∷ [])
+    ∷ ((a01 ∷ a03 ∷ a23 ∷ []) ∷ (a01 ∷ a23 ∷ a12 ∷ []) ∷ [])
+    ∷ ((a02 ∷ a12 ∷ a13 ∷ []) ∷ (a02 ∷ a13 ∷ a03 ∷ []) ∷ [])
+    ∷ []
+unfolding cells_at
+two_of_four = refl
+
+-- none inside, and all
+one_side : map (cells_by tetrahedron) ([] ∷ (0 ∷ 1 ∷ 2 ∷ 3 ∷ []) ∷ []) ≡ [] ∷ [] ∷ []
+unfolding cells_at
+one_side = refl
+
+-- corners whose names don't ascend: 01 02 03, each name's lesser half first
+not_in_order : cells_in (is_one_of (8 ∷ [])) ((8 ∷ []) ∷ (2 ∷ []) ∷ (5 ∷ []) ∷ (9 ∷ []) ∷ []) ≡ ((2 ∷ 8 ∷ []) ∷ (5 ∷ 8 ∷ []) ∷ (8 ∷ 9 ∷ []) ∷ []) ∷ []
+unfolding cells_at
+not_in_order = refl
 
 -- a vertex
 one_of_one : cells_in (λ n. true) ((8 ∷ []) ∷ []) ≡ []
