@@ -1,0 +1,1 @@
+//! Sections of small sheets, by hand.
