@@ -52,6 +52,9 @@ fn places_of(alloc: Global, points: &[[i128; 5]]) -> Result<Places, Fail> {
 
 // The sheet of these points, named by their numbers, and cells.
 fn sheet_by(alloc: Global, points: &[[i128; 5]], ranks: Ranks) -> Result<Sheet, Fail> {
+    if points.len() > CORNERS.len() {
+        return Err("few points")?;
+    }
     let leaves = Leaves::of_points(alloc, points.len() as u32)?;
     let places = places_of(alloc, points)?;
     if !are_cells(&leaves, &places, &ranks) {
