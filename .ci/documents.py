@@ -10,7 +10,7 @@ TOP = os.path.dirname(os.path.dirname(os.path.abspath(__file__)))
 PROVED = "docs/PROVED.md"
 PAGES = ["README.md", PROVED] + [
     "docs/%s.md" % page for page in
-    ("ARCHITECTURE", "DEFINITIONS", "FORMATS", "DECISIONS", "GLOSSARY")]
+    ("ARCHITECTURE", "DEFINITIONS", "FORMATS", "USING", "DECISIONS", "GLOSSARY")]
 SUFFIXES = (".md", ".rt", ".antt", ".txt", ".py", ".vtk", ".edit", ".sh")
 errors = []
 

@@ -361,17 +361,15 @@ fn faults_of_meshes(rt: HostRuntime) {
     }
 }
 
-// So many triangles side by side, behind so many words of a file.
-fn fan_of(alloc: Global, count: u32) -> Result<Vec<u8>, Fail> {
-    let points = count + 2;
-    let front = "# vtk DataFile Version 3.0\nt\nASCII\nDATASET POLYDATA\n";
-    let mut text = Vec::new(alloc);
-    text.extend_from_slice(format!(in alloc; "{front}POINTS {points} int\n")?.as_bytes())?;
-    for i in 0..points {
+// A polygon of 20,002 points.
+fn large_polygon(alloc: Global) -> Result<Vec<u8>, Fail> {
+    let front = b"# vtk DataFile Version 3.0\nt\nASCII\nDATASET POLYDATA\nPOINTS 20002 int\n";
+    let mut text = front.to_vec(alloc)?;
+    for i in 0..20_002_u32 {
         text.extend_from_slice(format!(in alloc; "{i} 0 1\n")?.as_bytes())?;
     }
-    text.extend_from_slice(format!(in alloc; "POLYGONS 1 {}\n{points}", points + 1)?.as_bytes())?;
-    for i in 0..points {
+    text.extend_from_slice(b"POLYGONS 1 20003\n20002")?;
+    for i in 0..20_002_u32 {
         text.extend_from_slice(format!(in alloc; " {i}")?.as_bytes())?;
     }
     Ok(text)
@@ -379,7 +377,7 @@ fn fan_of(alloc: Global, count: u32) -> Result<Vec<u8>, Fail> {
 
 #[test]
 fn a_mesh_of_a_real_size(rt: HostRuntime) -> Result<(), Fail> {
-    let text = fan_of(rt.alloc(), 20_000)?;
+    let text = large_polygon(rt.alloc())?;
     match &mesh_of(rt.alloc(), &text, &Pick::Zero, 0) {
         Ok(mesh) => {
             assert_eq!(rt; mesh.sheets().len(), 1);
