@@ -15,7 +15,8 @@ use viz_sheet::Places;
 ///
 /// `TooWide` exactly where a value is wide.
 pub fn insides(alloc: Global, form: &Form, places: &Places) -> Result<Vec<bool>, WorkStop>
-    ensures value { IfOk result (λ v. v.items ≡ map (is_inside_at form.now) (points_in places.now)) }
+    ensures value { IfOk result (λ v.
+        v.items ≡ map (is_inside_at form.now) (points_in places.now)) }
     ensures ok { OnOk result (All (IsNarrowValue form.now) (points_in places.now)) }
     ensures too_wide { result ≡ Err WorkStop.TooWide
         → All (IsNarrowValue form.now) (points_in places.now) → ⊥ }

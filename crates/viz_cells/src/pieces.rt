@@ -49,7 +49,8 @@ fn mask(inside: &[bool], cell: &[u32]) -> u8
 /// 1 where a cell has such a corner and it is inside.
 fn bit(inside: &[bool], cell: &[u32], corner: usize) -> u8
     requires below { All (λ r. r < length inside.now) cell.now }
-    ensures has { corner < length cell.now → result ≡ corner_mask inside.now (slice_index cell.now corner ∷ []) }
+    ensures has { corner < length cell.now
+        → result ≡ corner_mask inside.now (slice_index cell.now corner ∷ []) }
     ensures none { length cell.now ≤ corner → result ≡ 0 }
     ensures most { result ≤ 1 }
 {

@@ -21,6 +21,17 @@ const fn above(level: i64) -> Form {
     }
 }
 
+/// The plane where so much of x and y is 1.
+const fn plane(a: i64, b: i64) -> Form {
+    Form {
+        a,
+        b,
+        c: 0,
+        q: 0,
+        r: 1,
+    }
+}
+
 // A point, which isn't wide.
 fn narrow(five: [i128; 5]) -> Result<Point5, Fail> {
     let [x, y, z, s, w] = five;
@@ -285,14 +296,7 @@ fn a_section_is_cut_again(rt: HostRuntime) -> Result<(), Fail> {
         &[&[0, 1, 3], &[0, 3, 2]],
     );
     // x at least 1: 12 and 13 are inside.
-    let x = Form {
-        a: 1,
-        b: 0,
-        c: 0,
-        q: 0,
-        r: 1,
-    };
-    let four = tried(&rt, rt.alloc(), &x, &two)?;
+    let four = tried(&rt, rt.alloc(), &plane(1, 0), &two)?;
     shows(
         &rt,
         &four,
@@ -301,14 +305,7 @@ fn a_section_is_cut_again(rt: HostRuntime) -> Result<(), Fail> {
         &[&[1, 2], &[0, 1]],
     );
     // y at least 1: the first two points are inside, the second one just so.
-    let y = Form {
-        a: 0,
-        b: 1,
-        c: 0,
-        q: 0,
-        r: 1,
-    };
-    let eight = tried(&rt, rt.alloc(), &y, &four)?;
+    let eight = tried(&rt, rt.alloc(), &plane(0, 1), &four)?;
     shows(
         &rt,
         &eight,
