@@ -249,7 +249,8 @@ fn put_sheet_cells<R: CellRow>(
 ) -> Result<(), AllocError>
     requires { first + length sheet.now.points < 2 ^ 31 }
     ensures { OnOk result (text.new.items ≡ text.old.items
-        ++ flat_map (R.written what.now binary first) (map (ranks_of sheet.now.names) sheet.now.cells)) }
+        ++ flat_map (R.written what.now binary first)
+        (map (ranks_of sheet.now.names) sheet.now.cells)) }
 {
     put_ranks(text, binary, what, first, sheet_ranks(sheet))
 }

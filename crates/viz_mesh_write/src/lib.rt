@@ -1,8 +1,8 @@
 //! Writing legacy files: the text of a mesh.
 //!
-//! Contract: `write_mesh` gives the text of the definition, or the refusal that it names.
-//! Definitions: `specs/MeshText.antt`, `specs/Fits.antt`; the rule is that of docs/FORMATS.md,
-//! "Written meshes".
+//! Contract: `write_mesh` gives the text of the definition, or the refusal that it names; of a sheet
+//! of triangles that text is a surface's. Definitions: `specs/MeshText.antt`, `specs/Fits.antt`,
+//! `specs/Surface.antt`; the rule is that of docs/FORMATS.md, "Written meshes".
 #![tactic(auto)]
 
 mod cell_ranks;
