@@ -1,9 +1,9 @@
 //! Words, lines, numbers and blocks of a text, read once from the front, and rules of what stands.
 //!
 //! Contract: each reader gives just what a definition on the bytes gives, or the fault that it
-//! gives, and a refused call leaves the place. A rule says what stands between two places and which
-//! first fault is met; laws say that a reader decides it. Definitions: `specs/`, the rules first in
-//! `specs/Rules.antt`; they are those of docs/FORMATS.md, "Reading".
+//! gives. A rule says what stands between two places and which first fault is met; laws say that a
+//! reader decides it. Definitions: `specs/`, the rules first in `specs/Rules.antt`; they are those
+//! of docs/FORMATS.md, "Reading".
 #![tactic(auto)]
 
 mod decimal;

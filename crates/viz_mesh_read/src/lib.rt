@@ -29,3 +29,5 @@ pub use sections::{CellSection, section};
 
 #[cfg(test)]
 mod tests;
+#[cfg(test)]
+mod tests_faults;

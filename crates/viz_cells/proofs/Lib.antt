@@ -1,0 +1,10 @@
+pub mod PieceLemmas
+pub mod NumberLemmas
+pub mod CrossingLemmas
+pub mod ListLemmas
+pub mod KeyLemmas
+pub mod BitLemmas
+pub mod EdgeLemmas
+pub mod NamedLemmas
+pub mod RankedLemmas
+pub mod MadeLemmas

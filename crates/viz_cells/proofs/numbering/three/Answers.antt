@@ -1,0 +1,9 @@
+use Rattle.viz_cells.proofs.NumberLemmas.{three_numbered}
+use Rattle.viz_cells.proofs.numbering.three.Goals as goal
+
+pub returns : goal.returns
+returns c = record {
+  value =
+      three_numbered c.args.keys.now c.args.piece.now c.rank.result c.rank-2.result c.rank-3.result c.requires.size
+      c.rank.ensures.value c.rank-2.ensures.value c.rank-3.ensures.value c.rank.ensures.below c.rank-2.ensures.below c.rank-3.ensures.below;
+}

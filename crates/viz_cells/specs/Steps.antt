@@ -1,0 +1,4 @@
+pub mod Keys
+pub mod Pieces
+pub mod Numbered
+pub mod Crossings

@@ -1,0 +1,30 @@
+-- Cells by keys, and the same cells by the ranks of the keys.
+use Rattle.std.specs.Prelude.{◌≡◌, ◌↔◌, ℕ, ◌<◌, ◌≤◌, ◌^◌, List, length, map, All, Contains, slice_index_or}
+use Rattle.std.specs.List.{flat_map}
+use Rattle.std.specs.List.Sorted.{IsStrictlySortedBy}
+use Rattle.std.specs.Ordering.{nat_cmp}
+
+-- the keys of cells, each once, ascending
+pub record AreKeysOf (pieces : List (List ℕ)) (keys : List ℕ) : Type 0 where
+  pub ascending : IsStrictlySortedBy nat_cmp keys
+  pub members : (k : ℕ) → Contains keys k ↔ Contains (flat_map (λ piece. piece) pieces) k
+
+-- few keys that ascend, among them those of all cells
+pub record HasKeys (keys : List ℕ) (pieces : List (List ℕ)) : Type 0 where
+  pub ascending : IsStrictlySortedBy nat_cmp keys
+  pub few : length keys ≤ 2 ^ 32
+  pub has : All (All (Contains keys)) pieces
+
+-- the keys at ranks
+abbrev pub keys_at : List ℕ → List ℕ → List ℕ
+keys_at keys cell = map (λ r. slice_index_or keys r 0) cell
+
+-- a cell by ranks has these keys
+pub record IsNumbered (keys piece cell : List ℕ) : Type 0 where
+  pub same : keys_at keys cell ≡ piece
+  pub below : All (λ r. r < length keys) cell
+
+-- each of the cells has
+pub record AreNumbered (keys : List ℕ) (pieces cells : List (List ℕ)) : Type 0 where
+  pub same : map (keys_at keys) cells ≡ pieces
+  pub below : All (All (λ r. r < length keys)) cells

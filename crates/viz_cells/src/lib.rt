@@ -1,0 +1,24 @@
+//! The section of a sheet by a linear form: triangles, lines and vertices between crossings.
+//!
+//! Contract: `section` gives just the section of `viz_meaning`: the cells of all cells in order, by
+//! the names of their ends, the names ascending, and the crossing of each; `TooWide` comes only
+//! where a number of the section is wide, and a section only where none is. Definitions: those of
+//! `viz_meaning`; `specs/Steps/` has the words of private contracts.
+#![tactic(auto)]
+
+mod crossings;
+mod insides;
+mod joined;
+mod key;
+mod key_list;
+mod numbering;
+mod piece;
+mod pieces;
+mod sections;
+mod stop;
+
+pub use sections::section;
+pub use stop::WorkStop;
+
+#[cfg(test)]
+mod tests;

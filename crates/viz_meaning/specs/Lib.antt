@@ -1,0 +1,4 @@
+pub mod Section
+pub mod Narrow
+pub mod Names
+pub mod Laws

@@ -1,0 +1,75 @@
+-- A pass over the cells of a sheet, and over the sheets, one more at a time.
+use Rattle.std.proofs.Common.{◌≡◌, get_or, take, ℕ, pos, true, false, ◌+◌, ◌<◌, ◌^◌, List, [], ◌∷◌, ◌++◌, length, get_or, map, drop, refl, sym, ap, ap₂, ◌∙◌, append_assoc, arith}
+use Rattle.std.specs.List.{All, flat_map}
+use Rattle.std.specs.Fmt.{decimal}
+use Rattle.std.proofs.lemmas.List.{drop_more, length-map, length-append}
+use Rattle.std.proofs.lemmas.List.Folds.{flat_map-map}
+use Rattle.std.proofs.lemmas.List.Elements.{All-head, All-tail, All-weaker}
+use Rattle.viz_column.specs.declared.kind.Kind8.TheVariants.{I32}
+use Rattle.viz_column.specs.Bytes.{bytes_of}
+use Rattle.viz_legacy_write.specs.ImageText.{spaced_number}
+use Rattle.viz_sheet.specs.Sheet.{SheetData, AreAscending}
+use Rattle.viz_sheet.specs.Ranked.{IsCell, by_names, ranks_of}
+use Rattle.viz_sheet.proofs.RankLemmas.{ranks-at}
+use Rattle.viz_legacy_write.proofs.PassLemmas.{appended, lines_more}
+use Rattle.viz_mesh_write.specs.Cells.{moved, points_of}
+use Rattle.viz_mesh_write.specs.Steps.Passes.{IsMovable, index_text, index_bytes, cell_row, cell_rows}
+
+row_is : (first : ℕ) (ranks : List ℕ) → decimal (length ranks) ++ flat_map (index_text first) ranks ≡ decimal (length (moved first ranks)) ++ flat_map spaced_number (map (λ (n : ℕ). pos n) (moved first ranks))
+row_is first ranks =
+    ap₂ (λ (s t : List ℕ). s ++ t) (ap decimal (sym (length-map ranks (λ r. first + r)))) (sym (flat_map-map spaced_number (λ (n : ℕ). pos n) (moved first ranks) ∙ flat_map-map (λ (n : ℕ). spaced_number (pos n)) (λ r. first + r) ranks))
+
+-- a cell is written in words
+pub cell_words : (first : ℕ) (ranks old count all new : List ℕ) → count ≡ old ++ decimal (length ranks) → all ≡ count ++ flat_map (index_text first) ranks → new ≡ all ++ 10 ∷ [] → new ≡ old ++ cell_row false first ranks
+cell_words first ranks old count all new e f g =
+    appended old all new (decimal (length (moved first ranks)) ++ flat_map spaced_number (map (λ (n : ℕ). pos n) (moved first ranks))) (10 ∷ [])
+    (appended old count all (decimal (length ranks)) (flat_map (index_text first) ranks) e f ∙ ap (λ (t : List ℕ). old ++ t) (row_is first ranks)) g
+
+-- a cell is written in bytes
+pub cell_bytes : (first : ℕ) (ranks old count new : List ℕ) → count ≡ old ++ bytes_of I32 (pos (length ranks)) → new ≡ count ++ flat_map (index_bytes first) ranks → new ≡ old ++ cell_row true first ranks
+cell_bytes first ranks old count new e f =
+    let number : ℕ → List ℕ = λ (n : ℕ). bytes_of I32 (pos n) in
+    appended old count new (number (length ranks)) (flat_map (index_bytes first) ranks) e f
+    ∙ ap₂ (λ (s t : List ℕ). old ++ (s ++ t)) (ap number (sym (length-map ranks (λ r. first + r)))) (sym (flat_map-map (bytes_of I32) (λ (n : ℕ). pos n) (moved first ranks) ∙ flat_map-map number (λ r. first + r) ranks))
+
+-- the ranks of cells by names are the cells by ranks
+pub ranks_again : (names : List (List ℕ)) (cells : List (List ℕ)) → AreAscending names → All (IsCell (length names)) cells → map (ranks_of names) (by_names names cells) ≡ cells
+ranks_again names [] s h = refl
+ranks_again names (c ∷ cells) s h =
+    let one = (All-head (IsCell (length names)) c cells h).below in
+    ap₂ (λ (x : List ℕ) (xs : List (List ℕ)). x ∷ xs) (sym (ranks-at names c s one)) (ranks_again names cells s (All-tail (IsCell (length names)) c cells h))
+
+-- cells can be written where all their points have small indices
+pub movable : (first count : ℕ) (cells : List (List ℕ)) → first + count < 2 ^ 31 → All (IsCell count) cells → All (IsMovable first) cells
+movable first count cells few h =
+    All-weaker (IsCell count) (IsMovable first) (λ c is. record {
+      most = is.most;
+      below = All-weaker (λ r. r < count) (λ r. first + r < 2 ^ 31) (λ r lt. omega (arith, few, lt)) c is.below;
+    }) cells h
+
+-- the sheet that is next, and those behind it
+next_sheet : (sheets : List SheetData) (i : ℕ) (s : SheetData) → i < length sheets → s ≡ get_or sheets i s → drop i sheets ≡ s ∷ drop (i + 1) sheets
+next_sheet sheets i s lt is = drop_more sheets i s lt ∙ ap (λ (t : SheetData). t ∷ drop (i + 1) sheets) (sym is)
+
+-- the points of one sheet more stand in front
+pub first_more : (total first : ℕ) (sheets : List SheetData) (i : ℕ) (s : SheetData) → i < length sheets → s ≡ get_or sheets i s → first + length (points_of (drop i sheets)) ≡ total
+    → (first + length s.points) + length (points_of (drop (i + 1) sheets)) ≡ total
+first_more total first sheets i s lt is so_far =
+    let e : length (points_of (drop i sheets)) ≡ length s.points + length (points_of (drop (i + 1) sheets)) =
+    ap (λ (ss : List SheetData). length (points_of ss)) (next_sheet sheets i s lt is) ∙ length-append s.points (points_of (drop (i + 1) sheets)) in
+    omega (arith, e, so_far)
+
+-- the cells of one sheet more are written
+pub sheet_cells_more : (row : ℕ → List ℕ → List ℕ) (text new all : List ℕ) (first : ℕ) (sheets : List SheetData) (i : ℕ) (s : SheetData) → i < length sheets → s ≡ get_or sheets i s
+    → text ++ cell_rows row first (drop i sheets) ≡ all → new ≡ text ++ flat_map (row first) (map (ranks_of s.names) s.cells)
+    → new ++ cell_rows row (first + length s.points) (drop (i + 1) sheets) ≡ all
+sheet_cells_more row text new all first sheets i s lt is so_far put =
+    let here = flat_map (row first) (map (ranks_of s.names) s.cells) in
+    let rest = cell_rows row (first + length s.points) (drop (i + 1) sheets) in
+    ap (λ (t : List ℕ). t ++ rest) put ∙ append_assoc text here rest ∙ sym (ap (λ (ss : List SheetData). text ++ cell_rows row first ss) (next_sheet sheets i s lt is)) ∙ so_far
+
+-- one cell more is written
+pub cell_more : {X : Type 0} (list : X → List ℕ) (row : List ℕ → List ℕ) (old text new ranks : List ℕ) (cells : List X) (i : ℕ) (c : X) → i < length cells → c ≡ get_or cells i c → ranks ≡ list c
+    → text ≡ old ++ flat_map (λ x. row (list x)) (take i cells) → new ≡ text ++ row ranks → new ≡ old ++ flat_map (λ x. row (list x)) (take (i + 1) cells)
+cell_more {X} list row old text new ranks cells i c lt is same so_far put =
+    lines_more (λ (x : X). row (list x)) old text new cells i c lt is so_far (put ∙ ap (λ (rs : List ℕ). text ++ row rs) same)

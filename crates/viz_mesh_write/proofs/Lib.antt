@@ -1,0 +1,6 @@
+mod PointLemmas
+mod CellLemmas
+mod TallyLemmas
+mod SectionLemmas
+mod TextLemmas
+mod SurfaceLemmas

@@ -1,0 +1,46 @@
+-- What one pass over the sheets writes.
+use Rattle.std.specs.Prelude.{ℕ, ◌+◌, ◌^◌, ◌<◌, ◌==◌, ◌≤◌, ℤ, pos, Bool, List, [], ◌∷◌, ◌++◌, length, map, All, if◌then◌else◌}
+use Rattle.std.specs.List.{flat_map}
+use Rattle.std.specs.Fmt.{decimal}
+use Rattle.viz_fraction.specs.Points.{Point}
+use Rattle.viz_column.specs.declared.kind.Kind8.TheVariants.{I32, I64}
+use Rattle.viz_column.specs.Bytes.{bytes_of}
+use Rattle.viz_sheet.specs.Sheet.{SheetData}
+use Rattle.viz_sheet.specs.Ranked.{ranks_of}
+use Rattle.viz_mesh_write.specs.Cells.{moved}
+use Rattle.viz_mesh_write.specs.Rows.{row_of}
+use Rattle.viz_mesh_write.specs.MeshText.{cell_numbers, type_of}
+
+-- the written numbers of points, a row for each
+abbrev pub point_rows : (Point → List ℤ) → Bool → List Point → List ℕ
+point_rows numbers binary points = flat_map (λ p. row_of binary I64 (numbers p)) points
+
+-- a cell by ranks can be written with so many points in front
+pub record IsMovable (first : ℕ) (cell : List ℕ) : Type 0 where
+  pub most : length cell ≤ 4
+  pub below : All (λ r. first + r < 2 ^ 31) cell
+
+-- an index in words, behind a space
+abbrev pub index_text : ℕ → ℕ → List ℕ
+index_text first r = 32 ∷ decimal (first + r)
+
+-- the bytes of an index
+abbrev pub index_bytes : ℕ → ℕ → List ℕ
+index_bytes first r = bytes_of I32 (pos (first + r))
+
+-- the row of a cell by ranks, with so many points in front
+abbrev pub cell_row : Bool → ℕ → List ℕ → List ℕ
+cell_row binary first cell = row_of binary I32 (cell_numbers (moved first cell))
+
+-- the same where the cell has so many points
+abbrev pub row_of_size : ℕ → Bool → ℕ → List ℕ → List ℕ
+row_of_size size binary first cell = if length cell == size then cell_row binary first cell else []
+
+-- the row of the type of a cell
+abbrev pub type_row : Bool → ℕ → List ℕ → List ℕ
+type_row binary first cell = row_of binary I32 (type_of (length cell) ∷ [])
+
+-- the rows of the cells of sheets, with so many points in front
+abbrev pub cell_rows : (ℕ → List ℕ → List ℕ) → ℕ → List SheetData → List ℕ
+cell_rows row first [] = []
+cell_rows row first (s ∷ sheets) = flat_map (row first) (map (ranks_of s.names) s.cells) ++ cell_rows row (first + length s.points) sheets

@@ -1,0 +1,94 @@
+//! The lines in front of points, cells and scalars.
+
+ghost use Rattle.std.specs.Prelude.{◌≡◌, ◌++◌, OnOk};
+ghost use Rattle.viz_legacy_write.specs.ImageText.{form_line};
+ghost use Rattle.viz_legacy_write.specs.SurfaceText.{points_line, scalars_head};
+ghost use Rattle.viz_mesh_write.specs.MeshText.{title_lines, dataset_line, section_line, types_line};
+
+use crate::numbers::put_count;
+use std::alloc::AllocError;
+
+/// The version, and the title with the number of places.
+pub(crate) fn put_title(text: &mut Vec<u8>, digits: u8) -> Result<(), AllocError>
+    ensures { OnOk result (text.new.items ≡ text.old.items ++ title_lines digits) }
+{
+    text.extend_from_slice(b"# vtk DataFile Version 3.0\nvizrun fixed 10^-")?;
+    put_count(text, digits as u64)?;
+    text.extend_from_slice(b"\n")?;
+    Ok(())
+}
+
+/// Whether the numbers are words or bytes.
+#[tactic(auto, unfolding(viz_legacy_write::specs::ImageText::form_line))]
+pub(crate) fn put_form(text: &mut Vec<u8>, binary: bool) -> Result<(), AllocError>
+    ensures { OnOk result (text.new.items ≡ text.old.items ++ form_line binary) }
+{
+    if binary {
+        text.extend_from_slice(b"BINARY\n")?;
+    } else {
+        text.extend_from_slice(b"ASCII\n")?;
+    }
+    Ok(())
+}
+
+/// The kind of dataset.
+#[tactic(auto, unfolding(crate::specs::MeshText::dataset_line))]
+pub(crate) fn put_dataset(text: &mut Vec<u8>, is_grid: bool) -> Result<(), AllocError>
+    ensures { OnOk result (text.new.items ≡ text.old.items ++ dataset_line is_grid) }
+{
+    if is_grid {
+        text.extend_from_slice(b"DATASET UNSTRUCTURED_GRID\n")?;
+    } else {
+        text.extend_from_slice(b"DATASET POLYDATA\n")?;
+    }
+    Ok(())
+}
+
+/// The number of points, on a line.
+pub(crate) fn put_points_line(text: &mut Vec<u8>, n: u64) -> Result<(), AllocError>
+    ensures { OnOk result (text.new.items ≡ text.old.items ++ points_line n) }
+{
+    text.extend_from_slice(b"POINTS ")?;
+    put_count(text, n)?;
+    text.extend_from_slice(b" long\n")?;
+    Ok(())
+}
+
+/// The keyword of a section, the number of its cells and of all their numbers, on a line.
+#[tactic(auto, unfolding(crate::specs::MeshText::section_line))]
+pub(crate) fn put_section_line(
+    text: &mut Vec<u8>,
+    keyword: &[u8],
+    n: u64,
+    size: u64,
+) -> Result<(), AllocError>
+    ensures { OnOk result (text.new.items ≡ text.old.items ++ section_line keyword.now n size) }
+{
+    text.extend_from_slice(keyword)?;
+    text.push(b' ')?;
+    put_count(text, n)?;
+    text.push(b' ')?;
+    put_count(text, size)?;
+    text.push(b'\n')?;
+    Ok(())
+}
+
+/// The number of types, on a line.
+pub(crate) fn put_types_line(text: &mut Vec<u8>, n: u64) -> Result<(), AllocError>
+    ensures { OnOk result (text.new.items ≡ text.old.items ++ types_line n) }
+{
+    text.extend_from_slice(b"CELL_TYPES ")?;
+    put_count(text, n)?;
+    text.extend_from_slice(b"\n")?;
+    Ok(())
+}
+
+/// The lines in front of the scalars.
+pub(crate) fn put_scalars_head(text: &mut Vec<u8>, n: u64) -> Result<(), AllocError>
+    ensures { OnOk result (text.new.items ≡ text.old.items ++ scalars_head n) }
+{
+    text.extend_from_slice(b"POINT_DATA ")?;
+    put_count(text, n)?;
+    text.extend_from_slice(b"\nSCALARS scalars long 1\nLOOKUP_TABLE default\n")?;
+    Ok(())
+}
