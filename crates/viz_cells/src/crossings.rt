@@ -9,7 +9,7 @@ ghost use Rattle.viz_cells.specs.Steps.Crossings.{IsCutKey, IsEnd, IsNarrowEithe
 
 use crate::insides::is_at_least_0;
 use crate::key::{high, low};
-use crate::stop::WorkStop;
+use viz_piece::WorkStop;
 use std::alloc::Global;
 use viz_fraction::{Form, Point5, SmallPoint, TooWide, crossing, small, value};
 use viz_sheet::Places;

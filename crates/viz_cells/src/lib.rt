@@ -15,10 +15,8 @@ mod numbering;
 mod piece;
 mod pieces;
 mod sections;
-mod stop;
 
-pub use sections::section;
-pub use stop::WorkStop;
+pub use sections::{section, sections};
 
 #[cfg(test)]
 mod tests;

@@ -1,10 +1,11 @@
 //! Sections of few cells, by hand from the table of docs/FORMATS.md.
 
-use crate::{WorkStop, section};
+use crate::section;
 use std::alloc::Global;
 use std::process::Abort;
 use std::test::Fail;
 use viz_fraction::{Form, Point5, point, small};
+use viz_piece::WorkStop;
 use viz_sheet::{Leaves, Mixed, Places, Ranks, Sheet, are_cells, sheet_of};
 
 /// The points that names count from 0 on: a corner, a tetrahedron's three others, and one more.

@@ -19,3 +19,11 @@ pub record IsNarrowValue (f : Form) (p : Point) : Type 0 where
 -- a point is inside where the form is at least 0
 abbrev pub IsInside : Form → Point → Type 0
 IsInside f p = pos 0 ≤ℤ value_of f p
+
+-- the form of a contour at a level: how far the scalar lies above it
+abbrev pub contour_form : ℤ → Form
+contour_form level = record { a = pos 0; b = pos 0; c = pos 0; q = pos 1; r = level }
+
+-- the form of a plane: how far a x + b y + c z lies above r
+abbrev pub plane_form : ℤ → ℤ → ℤ → ℤ → Form
+plane_form a b c r = record { a = a; b = b; c = c; q = pos 0; r = r }

@@ -1,4 +1,5 @@
 pub mod Section
 pub mod Narrow
+pub mod Tetrahedra
 pub mod Names
 pub mod Laws

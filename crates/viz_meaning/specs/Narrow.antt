@@ -21,3 +21,7 @@ IsNarrowName f s n = IsNarrowEdge f (point_of s (lesser_end n)) (point_of s (gre
 pub record IsNarrowSection (f : Form) (s : SheetData) : Type 0 where
   pub values : All (IsNarrowValue f) s.points
   pub crossings : All (IsNarrowName f s) (names_of (section_cells f s))
+
+-- no number of any section of sheets by forms is wide
+pub record AreNarrowSections (forms : List Form) (sheets : List SheetData) : Type 0 where
+  pub each : All (λ f. All (IsNarrowSection f) sheets) forms

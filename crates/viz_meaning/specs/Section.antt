@@ -56,6 +56,6 @@ section_of f s = record {
   cells = section_cells f s;
 }
 
--- the sections by several forms, in their order
-abbrev pub sections_of : List Form → SheetData → List SheetData
-sections_of forms s = map (λ f. section_of f s) forms
+-- the sections of sheets by forms, one sheet for each: all of the first form, then all of the next
+abbrev pub sections_of : List Form → List SheetData → List SheetData
+sections_of forms sheets = flat_map (λ f. map (section_of f) sheets) forms

@@ -1,5 +1,5 @@
 -- Sheets: cells by the names of their points, where VTK has point ids (VTK User's Guide, "Simple legacy formats").
-use Rattle.std.specs.Prelude.{◌≡◌, ◌≢◌, ◌↔◌, ℕ, ◌<◌, ◌≤◌, ◌^◌, List, [], ◌∷◌, length, All, Contains, slice_index_or}
+use Rattle.std.specs.Prelude.{◌≡◌, ◌≢◌, ◌↔◌, ℕ, ◌<◌, ◌≤◌, ◌^◌, ◌==◌, if◌then◌else◌, List, [], ◌∷◌, length, All, Contains, slice_index_or}
 use Rattle.std.specs.List.{flat_map}
 use Rattle.std.specs.List.Sorted.{IsStrictlySortedBy}
 use Rattle.std.specs.Cmp.Lexicographic.{slice_cmp}
@@ -45,3 +45,11 @@ KeepPoints names points others places =
     (k : ℕ) (d : Point) → k < length names
     → (r : ℕ) × (r < length others) × (slice_index_or names k [] ≡ slice_index_or others r [])
     × (slice_index_or points k d ≡ slice_index_or places r d)
+
+-- how many names a cell may have, whose names have so many leaves: 4 of one leaf, and one fewer at each level
+abbrev pub most_names : ℕ → ℕ
+most_names leaves = if leaves == 1 then 4 else (if leaves == 2 then 3 else (if leaves == 4 then 2 else 1))
+
+-- a sheet fits: its cells are so small that sections of it, one after the other, end before names have more than 8 leaves
+pub record IsFit (s : SheetData) : Type 0 where
+  pub each : All (λ cell. All (λ n. length cell ≤ most_names (length n)) cell) s.cells

@@ -1,0 +1,3 @@
+pub mod ImageSection
+pub mod GridSection
+pub mod Edges

@@ -1,0 +1,6 @@
+//! The section of an image's tetrahedra by the edges between its points.
+//!
+//! Contract: the laws of the definitions: what these words say of a contour is what
+//! `viz_meaning` says of it. Definitions: `specs/Edges.antt`, `specs/GridSection.antt`,
+//! `specs/ImageSection.antt`.
+#![tactic(auto)]
