@@ -2,6 +2,7 @@
 use Rattle.std.specs.Prelude.{◌≡◌, ℕ, ◌^◌, ◌≤◌, ℤ, pos, ◌+ℤ◌, ◌*ℤ◌, ◌≤ℤ◌, ◌<ℤ◌, List, length, slice_index_or, unsigned_abs}
 use Rattle.viz_extent.specs.Extent.{Bounds, count_of, IsExtent, Has}
 use Rattle.viz_extent.specs.Numbering.{index_at}
+pub use Rattle.viz_extent.specs.Parts.{IsAxisPart, IsPart}
 use Rattle.viz_fraction.specs.Points.{Point, numbers, reduced}
 use Rattle.viz_column.specs.Numbers.{Numbers, AreInRange}
 
@@ -85,17 +86,6 @@ placed origin spacing i j k scalar =
 -- the point i, j, k of an image, with its number as the scalar
 abbrev pub point_at : ImageData → ℕ → ℕ → ℕ → Point
 point_at image i j k = placed image.origin image.spacing i j k (number_at image i j k)
-
--- a part of an axis lies on the axis
-pub record IsAxisPart (lower upper part_lower part_upper : ℕ) : Type 0 where
-  pub first : lower ≤ part_lower
-  pub last : part_upper ≤ upper
-
--- the part lies in the extent
-pub record IsPart (whole part : Bounds) : Type 0 where
-  pub x : IsAxisPart whole.x0 whole.x1 part.x0 part.x1
-  pub y : IsAxisPart whole.y0 whole.y1 part.y0 part.y1
-  pub z : IsAxisPart whole.z0 whole.z1 part.z0 part.z1
 
 -- the image on a part of the extent: the same place and number for each point of the part
 pub record IsRestricted (whole : ImageData) (part : Bounds) (image : ImageData) : Type 0 where
