@@ -2,7 +2,6 @@
 use Rattle.std.specs.Prelude.{◌≡◌, ℕ, ◌^◌, ◌≤◌, ℤ, pos, ◌+ℤ◌, ◌*ℤ◌, ◌≤ℤ◌, ◌<ℤ◌, List, length, slice_index_or, unsigned_abs}
 use Rattle.viz_extent.specs.Extent.{Bounds, count_of, IsExtent, Has}
 use Rattle.viz_extent.specs.Numbering.{index_at}
-pub use Rattle.viz_extent.specs.Parts.{IsAxisPart, IsPart}
 use Rattle.viz_fraction.specs.Points.{Point, numbers, reduced}
 use Rattle.viz_column.specs.Numbers.{Numbers, AreInRange}
 
