@@ -21,7 +21,7 @@ All-each_once P ns each k d less =
     subst P has.2 (each has.0 n has.1)
 
 -- what holds of two numbers either way holds of the lesser and the greater
-by_order : (P : ℕ → ℕ → Type 0) (a b : ℕ) → P a b → P b a → P (min a b) (max a b)
+pub by_order : (P : ℕ → ℕ → Type 0) (a b : ℕ) → P a b → P b a → P (min a b) (max a b)
 by_order P a b there back = cases (compare a b)
   where
     compare : (a b : ℕ) → (a ≤ b) ⊎ (b ≤ a)

@@ -29,7 +29,7 @@ map-append_of f [] ys = refl
 map-append_of f (x ∷ xs) ys = ap (λ rest. f x ∷ rest) (map-append_of f xs ys)
 
 -- the items of cells made item by item, cell by cell
-map-pieces : {X Y : Type 0} (f : X → Y) (cells : List (List X))
+pub map-pieces : {X Y : Type 0} (f : X → Y) (cells : List (List X))
     → flat_map (λ (p : List Y). p) (map (λ (cell : List X). map f cell) cells) ≡ map f (flat_map (λ (p : List X). p) cells)
 map-pieces f [] = refl
 map-pieces {X} f (cell ∷ cells) =
