@@ -1,33 +1,31 @@
--- The section of an image's tetrahedra is the contour by edges, and so is whether a number of it is wide.
-use Rattle.std.proofs.Common.{◌≡◌, ◌≢◌, ℕ, ◌+◌, ◌<◌, ◌≤◌, min, max, Bool, true, false, ℤ, pos, List, [], ◌∷◌, ◌++◌, map, length, get_or, slice_index, slice_index_or, refl, sym, ap, ap₂, subst, ◌∙◌, arith}
-use Rattle.std.specs.Prelude.{FitsSigned, int_le}
-use Rattle.std.specs.Int.{w64}
-use Rattle.std.specs.List.{All, Contains, flat_map, range_with_len}
-use Rattle.std.proofs.lemmas.List.Elements.{All-nil, All-cons, All-head, All-tail, All-map}
+-- The section of an image's tetrahedra is the contour by edges.
+use Rattle.std.proofs.Common.{◌≡◌, ℕ, ◌<◌, Bool, false, ℤ, List, [], ◌∷◌, ◌++◌, map, length, get_or, slice_index, slice_index_or, refl, sym, ap, ap₂, ◌∙◌, arith}
+use Rattle.std.specs.List.{All, flat_map}
+use Rattle.std.proofs.lemmas.List.Elements.{All-head, All-tail}
 use Rattle.std.proofs.lemmas.List.Folds.{flat_map-map}
 use Rattle.viz_extent.specs.Extent.{count_of}
 use Rattle.viz_fraction.specs.declared.forms.Form.{Form}
 use Rattle.viz_fraction.specs.Points.{Point}
-use Rattle.viz_fraction.specs.Forms.{contour_form, value_of}
+use Rattle.viz_fraction.specs.Forms.{contour_form}
 use Rattle.viz_fraction.specs.Crossings.{edge_crossing}
 use Rattle.viz_kuhn.specs.Cubes.{tetrahedra_of}
 use Rattle.viz_dataset.specs.Images.{ImageData, IsImage}
-use Rattle.viz_sheet.specs.Ranked.{leaf_names, names_at, by_names}
+use Rattle.viz_sheet.specs.Ranked.{leaf_names, names_at}
 use Rattle.viz_sheet.proofs.UsedLemmas.{seen_is}
 use Rattle.viz_meaning.specs.Names.{names_of}
 use Rattle.viz_meaning.specs.Section as meaning
 use Rattle.viz_meaning.specs.Section.{section_of, section_cells, point_of, is_inside_at, crossing_at}
 use Rattle.viz_meaning.specs.Tetrahedra.{point_of_leaf, tetrahedra_sheet}
-use Rattle.viz_grid_section.specs.Edges.{Edge, edge_of, edge_leaves, edges_of, each_once}
-use Rattle.viz_grid_section.specs.GridSection.{cells_in, grid_cells}
+use Rattle.viz_grid_section.specs.Edges.{Edge, edge_leaves}
+use Rattle.viz_grid_section.specs.GridSection.{cells_in}
 use Rattle.viz_grid_section.specs.ImageSection.{insides, contour_cells, contour_edges, edge_point, edge_sheet}
 use Rattle.viz_grid_section.proofs.CutLemmas.{All-each_once, by_order}
 use Rattle.viz_grid_section.proofs.LeafLemmas.{inside-leaf}
 use Rattle.viz_grid_section.proofs.LeafSheets.{leaf_sheet, IsLeaf, names-leaves, point-leaf_sheet}
 use Rattle.viz_grid_section.proofs.MembersLemmas.{Contains-item, Contains-flat_map, All-in_section}
 use Rattle.viz_grid_section.proofs.NamedCells.{map-after, cells-leaves}
-use Rattle.viz_grid_section.proofs.NamedSets as sets
-use Rattle.viz_grid_section.proofs.TetrahedraLemmas.{IsTetrahedron, are_tetrahedra}
+use Rattle.viz_grid_section.proofs.NamedSets.{names-edges}
+use Rattle.viz_grid_section.proofs.TetrahedraLemmas.{are_tetrahedra}
 
 -- ---- lists
 
@@ -144,7 +142,7 @@ cells-section level image full =
 
 pub names-section : (level : ℤ) (image : ImageData) → length image.values.items ≡ count_of image.extent
     → names_of (section_cells (contour_form level) (tetrahedra_sheet image)) ≡ map edge_leaves (contour_edges level image)
-names-section level image full = ap names_of (cells-section level image full) ∙ sets.names-leaves (contour_cells level image)
+names-section level image full = ap names_of (cells-section level image full) ∙ names-edges (contour_cells level image)
 
 -- the section of an image's tetrahedra is the contour by edges
 pub contour_is_section : (level : ℤ) (image : ImageData) → IsImage image → section_of (contour_form level) (tetrahedra_sheet image) ≡ edge_sheet level image

@@ -1,14 +1,14 @@
 -- A sheet of cells between leaves: its cells by names, and the point of a leaf.
-use Rattle.std.proofs.Common.{◌≡◌, ℕ, zero, ◌+◌, ◌<◌, Bool, true, false, List, [], ◌∷◌, map, length, get_or, sym, refl, ap, ap₂, subst, ◌∙◌, arith}
+use Rattle.std.proofs.Common.{◌≡◌, ℕ, ◌<◌, Bool, true, false, List, [], ◌∷◌, map, length, get_or, sym, refl, ap, ap₂, ◌∙◌, arith}
 use Rattle.std.specs.List.{All, Contains, flat_map, range_with_len}
 use Rattle.std.specs.Cmp.Lexicographic.{slice_cmp}
 use Rattle.std.specs.Ordering.{nat_cmp}
 use Rattle.std.proofs.lemmas.Cmp.{nat_eq_equiv}
-use Rattle.std.proofs.lemmas.List.Elements.{All-nil, All-cons, All-head, All-tail}
+use Rattle.std.proofs.lemmas.List.Elements.{All-head, All-tail}
 use Rattle.std.proofs.lemmas.List.FromFn.{length-map-range_with_len, get_or-map-range_with_len}
 use Rattle.std.proofs.lemmas.Map.Views.{list_any-from_Contains}
 use Rattle.viz_fraction.specs.Points.{Point}
-use Rattle.viz_sheet.specs.Sheet.{SheetData, AreAscending}
+use Rattle.viz_sheet.specs.Sheet.{SheetData}
 use Rattle.viz_sheet.specs.Ranked.{rank_of, leaf_names, names_at}
 use Rattle.viz_sheet.specs.Kept.{kept, kept_rank, is_used, used_marks, sheet_with}
 use Rattle.viz_sheet.proofs.KeptLemmas.{kept-at, kept-sorted, rank-below}

@@ -97,7 +97,7 @@ four_below : (p q r s : Bool) → four_bits p q r s < 16
 four_below p q r s = grind arith
 
 -- a list of four items is four items
-by_four : (P : List ℕ → Type 0) → ((a b c d : ℕ) → P (a ∷ b ∷ c ∷ d ∷ [])) → (leaves : List ℕ) → length leaves ≡ 4 → P leaves
+pub by_four : (P : List ℕ → Type 0) → ((a b c d : ℕ) → P (a ∷ b ∷ c ∷ d ∷ [])) → (leaves : List ℕ) → length leaves ≡ 4 → P leaves
 by_four P each [] four = absurd (omega arith)
 by_four P each (a ∷ []) four = absurd (omega arith)
 by_four P each (a ∷ b ∷ []) four = absurd (omega arith)

@@ -1,6 +1,6 @@
 -- The cells in a tetrahedron between leaves, by names and by edges.
-use Rattle.std.proofs.Common.{◌≡◌, ℕ, zero, suc, ◌+◌, ◌*◌, ◌<◌, ◌≤◌, min, max, Bool, true, false, cond, List, [], ◌∷◌, ◌++◌, map, length, get_or, slice_index, slice_index_or, Ordering, Less, Equal, Greater, is_lt, refl, sym, ap, ap₂, subst, ◌∙◌, arith, ⊎_elim}
-use Rattle.std.specs.List.{All, flat_map}
+use Rattle.std.proofs.Common.{◌≡◌, ℕ, zero, suc, ◌+◌, ◌*◌, ◌<◌, ◌≤◌, Bool, false, cond, List, [], ◌∷◌, map, length, slice_index, slice_index_or, Ordering, Less, Equal, Greater, is_lt, refl, sym, ap, ap₂, ◌∙◌, arith, ⊎_elim}
+use Rattle.std.specs.List.{All}
 use Rattle.std.specs.Ordering.{nat_cmp, ordering_then}
 use Rattle.std.proofs.Math.Nat.{min-eq_left, min-eq_right, max-eq_left, max-eq_right}
 use Rattle.std.proofs.lemmas.Bool.{cases_lt}
@@ -8,12 +8,12 @@ use Rattle.std.proofs.lemmas.List.Elements.{All-head, All-tail}
 use Rattle.viz_fraction.specs.CaseRows.{End}
 use Rattle.viz_fraction.specs.Cases.{cells_at}
 use Rattle.viz_fraction.proofs.CaseTable.{EachBelow}
-use Rattle.viz_meaning.specs.Names as names
 use Rattle.viz_meaning.specs.Names.{edge_name}
 use Rattle.viz_meaning.specs.Section as meaning
 use Rattle.viz_meaning.specs.Section.{end_name, bits_of}
-use Rattle.viz_grid_section.specs.Edges.{Edge, edge_of, edge_leaves}
+use Rattle.viz_grid_section.specs.Edges.{edge_of, edge_leaves}
 use Rattle.viz_grid_section.specs.GridSection.{mask_of, named, cells_in}
+use Rattle.viz_grid_section.proofs.MembersLemmas.{by_four, mask_case}
 
 -- ---- lists
 
@@ -33,7 +33,7 @@ less x y h = grind (arith)
 not_less : (x y : ℕ) → y ≤ x → is_lt (nat_cmp x y) ≡ false
 not_less x y h = grind (arith)
 
-then_equal : (o : Ordering) → ordering_then o Equal ≡ o
+pub then_equal : (o : Ordering) → ordering_then o Equal ≡ o
 then_equal Less = refl
 then_equal Equal = refl
 then_equal Greater = refl
@@ -93,18 +93,6 @@ mask-leaves inside flags (leaf ∷ leaves) same =
     let S : ℕ → Type 0 = λ n. inside (n ∷ []) ≡ slice_index_or flags n false in
     ap₂ (λ p rest. cond p 1 0 + 2 * rest) (All-head S leaf leaves same) (mask-leaves inside flags leaves (All-tail S leaf leaves same))
 
-four_bits_below : (p q r s : Bool) → cond p 1 0 + 2 * (cond q 1 0 + 2 * (cond r 1 0 + 2 * (cond s 1 0 + 2 * 0))) < 16
-four_bits_below p q r s = grind arith
-
--- a list of four items is four items
-by_four : (P : List ℕ → Type 0) → ((a b c d : ℕ) → P (a ∷ b ∷ c ∷ d ∷ [])) → (leaves : List ℕ) → length leaves ≡ 4 → P leaves
-by_four P each [] four = absurd (omega arith)
-by_four P each (a ∷ []) four = absurd (omega arith)
-by_four P each (a ∷ b ∷ []) four = absurd (omega arith)
-by_four P each (a ∷ b ∷ c ∷ []) four = absurd (omega arith)
-by_four P each (a ∷ b ∷ c ∷ d ∷ []) four = each a b c d
-by_four P each (a ∷ b ∷ c ∷ d ∷ e ∷ rest) four = absurd (omega arith)
-
 -- the cells in a tetrahedron by names are those by edges
 pub cells-leaves : (inside : List ℕ → Bool) (flags : List Bool) (leaves : List ℕ) → length leaves ≡ 4 → All (λ leaf. inside (leaf ∷ []) ≡ slice_index_or flags leaf false) leaves
     → meaning.cells_in inside (map (λ leaf. leaf ∷ []) leaves) ≡ map (map edge_leaves) (cells_in flags leaves)
@@ -112,7 +100,7 @@ cells-leaves inside flags leaves four =
     by_four (λ xs. All (λ leaf. inside (leaf ∷ []) ≡ slice_index_or flags leaf false) xs → meaning.cells_in inside (map (λ leaf. leaf ∷ []) xs) ≡ map (map edge_leaves) (cells_in flags xs))
     (λ a b c d same.
     let leaves = a ∷ b ∷ c ∷ d ∷ [] in
-    let below : mask_of flags leaves < 16 = four_bits_below (slice_index_or flags a false) (slice_index_or flags b false) (slice_index_or flags c false) (slice_index_or flags d false) in
+    let below : mask_of flags leaves < 16 = (mask_case flags leaves refl).below in
     ap (λ mask. map (map (end_name ((a ∷ []) ∷ (b ∷ []) ∷ (c ∷ []) ∷ (d ∷ []) ∷ []))) (cells_at 4 mask)) (mask-leaves inside flags leaves same)
     ∙ ends-four a b c d (mask_of flags leaves) below
     ∙ edges-four leaves (cells_at 4 (mask_of flags leaves)))

@@ -1,16 +1,12 @@
 -- The names of cells between leaves are the edges of the cells, by their leaves.
-use Rattle.std.proofs.Common.{◌≡◌, ℕ, Bool, true, false, cond, List, [], ◌∷◌, map, Ordering, Less, Equal, Greater, is_lt, refl, sym, ap, ap₂, ◌∙◌}
+use Rattle.std.proofs.Common.{◌≡◌, ℕ, Bool, true, false, cond, List, [], ◌∷◌, map, is_lt, refl, sym, ap, ap₂, ◌∙◌}
 use Rattle.std.specs.List.{flat_map}
 use Rattle.std.specs.Ordering.{nat_cmp, ordering_then}
 use Rattle.viz_meaning.specs.Names as meaning
 use Rattle.viz_grid_section.specs.Edges.{Edge, edge_leaves, is_before, with_edge, each_once, edges_of}
 use Rattle.viz_grid_section.proofs.EdgeOrder.{is_before-is}
 use Rattle.viz_grid_section.proofs.MembersLemmas.{map-pieces}
-
-then_equal : (o : Ordering) → ordering_then o Equal ≡ o
-then_equal Less = refl
-then_equal Equal = refl
-then_equal Greater = refl
+use Rattle.viz_grid_section.proofs.NamedCells.{then_equal}
 
 -- an edge comes before another just where its name does
 before-leaves : (m n : Edge) → meaning.is_before (edge_leaves m) (edge_leaves n) ≡ is_before m n
@@ -36,5 +32,5 @@ once-leaves [] = refl
 once-leaves (n ∷ ns) = ap (meaning.with_name (edge_leaves n)) (once-leaves ns) ∙ with-leaves n (each_once ns)
 
 -- the names of cells, by their edges
-pub names-leaves : (cells : List (List Edge)) → meaning.names_of (map (map edge_leaves) cells) ≡ map edge_leaves (edges_of cells)
-names-leaves cells = ap meaning.each_once (map-pieces edge_leaves cells) ∙ once-leaves (flat_map (λ (cell : List Edge). cell) cells)
+pub names-edges : (cells : List (List Edge)) → meaning.names_of (map (map edge_leaves) cells) ≡ map edge_leaves (edges_of cells)
+names-edges cells = ap meaning.each_once (map-pieces edge_leaves cells) ∙ once-leaves (flat_map (λ (cell : List Edge). cell) cells)

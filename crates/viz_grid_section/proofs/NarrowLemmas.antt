@@ -1,5 +1,5 @@
 -- No number of the section of an image's tetrahedra is wide just where no crossing on its edges is.
-use Rattle.std.proofs.Common.{◌≡◌, ℕ, ◌+◌, ◌<◌, Bool, true, false, ℤ, List, [], ◌∷◌, map, length, get_or, refl, sym, ap, subst, ◌∙◌, arith}
+use Rattle.std.proofs.Common.{◌≡◌, ℕ, ◌+◌, ◌<◌, Bool, true, false, ℤ, List, [], ◌∷◌, map, length, get_or, sym, subst, arith}
 use Rattle.std.specs.Prelude.{FitsSigned}
 use Rattle.std.specs.Int.{w64}
 use Rattle.std.specs.List.{All, range_with_len}
@@ -14,11 +14,10 @@ use Rattle.viz_dataset.specs.Images.{ImageData, IsImage}
 use Rattle.viz_sheet.specs.Kept.{kept, used_marks}
 use Rattle.viz_sheet.specs.Ranked.{leaf_names}
 use Rattle.viz_meaning.specs.Narrow.{IsNarrowEdge, IsNarrowName, IsNarrowSection}
-use Rattle.viz_meaning.specs.Section.{point_of, section_cells}
-use Rattle.viz_meaning.specs.Names.{names_of}
+use Rattle.viz_meaning.specs.Section.{point_of}
 use Rattle.viz_meaning.specs.Tetrahedra.{point_of_leaf, leaf_points, tetrahedra_sheet}
 use Rattle.viz_grid_section.specs.Edges.{Edge, edge_leaves}
-use Rattle.viz_grid_section.specs.ImageSection.{IsNarrowAt, AreNarrow, contour_edges}
+use Rattle.viz_grid_section.specs.ImageSection.{AreNarrow, contour_edges}
 use Rattle.viz_grid_section.proofs.LeafLemmas.{narrow_leaf}
 use Rattle.viz_grid_section.proofs.LeafSheets.{leaf_sheet, point-leaf_sheet}
 use Rattle.viz_grid_section.proofs.ContourSection.{HasLeaves, edges_have_leaves, names-section}
