@@ -7,7 +7,7 @@ use Rattle.viz_column.specs.declared.kind.Kind8.{Kind8}
 use Rattle.viz_extent.specs.Extent.{Bounds, size_x, size_y, size_z, plane_size, count_of, Has}
 use Rattle.viz_extent.specs.Numbering.{index_at}
 use Rattle.viz_extent.proofs.NumberingLemmas.{index_at-by_rows}
-use Rattle.viz_dataset.specs.Images.{IsPart}
+use Rattle.viz_extent.specs.Parts.{IsPart}
 use Rattle.viz_dataset.specs.Rows.{row_start, AreRows, AreRestricted}
 
 -- so many numbers from a place on are there

@@ -86,17 +86,6 @@ placed origin spacing i j k scalar =
 abbrev pub point_at : ImageData → ℕ → ℕ → ℕ → Point
 point_at image i j k = placed image.origin image.spacing i j k (number_at image i j k)
 
--- a part of an axis lies on the axis
-pub record IsAxisPart (lower upper part_lower part_upper : ℕ) : Type 0 where
-  pub first : lower ≤ part_lower
-  pub last : part_upper ≤ upper
-
--- the part lies in the extent
-pub record IsPart (whole part : Bounds) : Type 0 where
-  pub x : IsAxisPart whole.x0 whole.x1 part.x0 part.x1
-  pub y : IsAxisPart whole.y0 whole.y1 part.y0 part.y1
-  pub z : IsAxisPart whole.z0 whole.z1 part.z0 part.z1
-
 -- the image on a part of the extent: the same place and number for each point of the part
 pub record IsRestricted (whole : ImageData) (part : Bounds) (image : ImageData) : Type 0 where
   pub extent : image.extent ≡ part

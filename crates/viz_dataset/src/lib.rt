@@ -13,7 +13,7 @@ mod rule;
 
 pub use dataset::{Dataset, Info};
 pub use image::Image;
-pub use rule::{has_point, is_origin, is_part, is_spacing};
+pub use rule::{has_point, is_origin, is_spacing};
 
 #[cfg(test)]
 mod tests;

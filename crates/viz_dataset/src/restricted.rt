@@ -2,7 +2,7 @@
 
 ghost use Rattle.std.specs.Prelude.{◌≡◌, ◌+◌, ◌*◌, ◌<◌, ◌≤◌, length, map, take, drop, IfOk};
 ghost use Rattle.viz_extent.specs.Extent.{size_x, size_y, size_z, count_of};
-ghost use Rattle.viz_dataset.specs.Images.{IsPart};
+ghost use Rattle.viz_extent.specs.Parts.{IsPart};
 ghost use Rattle.viz_dataset.specs.Rows.{row_start, AreRows, AreRestricted};
 
 use std::alloc::{AllocError, Global};

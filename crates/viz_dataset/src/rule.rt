@@ -1,8 +1,8 @@
-//! Tests of what the calls of an image need: limits of its numbers, points and parts of its extent.
+//! Tests of what the calls of an image need: limits of its numbers, and points of its extent.
 
 ghost use Rattle.std.specs.Prelude.{◌≡◌, ◌↔◌, IsTrue};
 ghost use Rattle.viz_extent.specs.Extent.{IsOnAxis, Has};
-ghost use Rattle.viz_dataset.specs.Images.{vector_of, IsPosition, IsStep, IsOrigin, IsSpacing, IsAxisPart, IsPart};
+ghost use Rattle.viz_dataset.specs.Images.{vector_of, IsPosition, IsStep, IsOrigin, IsSpacing};
 
 use viz_extent::Extent;
 
@@ -53,20 +53,4 @@ fn is_on_axis(lower: u32, upper: u32, index: u32) -> bool
     ensures value { IsTrue result ↔ IsOnAxis lower upper index }
 {
     lower <= index && index <= upper
-}
-
-/// Whether an extent lies in another one.
-pub fn is_part(whole: &Extent, part: &Extent) -> bool
-    ensures value { IsTrue result ↔ IsPart whole.now part.now }
-{
-    let [a0, a1, b0, b1, c0, c1] = whole.bounds();
-    let [x0, x1, y0, y1, z0, z1] = part.bounds();
-    is_axis_part(a0, a1, x0, x1) && is_axis_part(b0, b1, y0, y1) && is_axis_part(c0, c1, z0, z1)
-}
-
-/// Whether a part of an axis lies on it.
-fn is_axis_part(lower: u32, upper: u32, first: u32, last: u32) -> bool
-    ensures value { IsTrue result ↔ IsAxisPart lower upper first last }
-{
-    lower <= first && last <= upper
 }

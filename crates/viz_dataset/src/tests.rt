@@ -1,6 +1,6 @@
 //! Points and parts of images, by hand.
 
-use crate::{Dataset, Image, Info, has_point, is_origin, is_part, is_spacing};
+use crate::{Dataset, Image, Info, has_point, is_origin, is_spacing};
 use std::alloc::{AllocError, Global};
 use std::process::Abort;
 use std::test::Fail;
@@ -57,7 +57,7 @@ fn point_of(image: &Image, [i, j, k]: [u32; 3]) -> Option<Point5> {
 // A part of an image, where there is one.
 fn part_of(alloc: Global, image: &Image, bounds: [u32; 6]) -> Result<Image, Fail> {
     let part = Extent::new(bounds).ok_or("a part")?;
-    if !is_part(&image.extent(), &part) {
+    if !image.extent().contains(&part) {
         return Err("a part within")?;
     }
     let small = image.restrict(alloc, &part)?;

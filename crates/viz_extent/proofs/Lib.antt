@@ -1,2 +1,3 @@
 pub mod NumberingLemmas
+pub mod PartLemmas
 pub mod StandardFacts

@@ -1,2 +1,3 @@
 pub mod Extent
 pub mod Numbering
+pub mod Parts

@@ -70,6 +70,22 @@ impl Extent {
         })
     }
 
+    /// The extent with these bounds, which make one.
+    pub(crate) fn of(bounds: [u32; 6]) -> Extent
+        requires { IsExtent (bounds_of bounds) }
+        ensures { result ≡ bounds_of bounds }
+    {
+        let [x0, x1, y0, y1, z0, z1] = bounds;
+        Extent {
+            x0,
+            x1,
+            y0,
+            y1,
+            z0,
+            z1,
+        }
+    }
+
     /// The bounds `[x0, x1, y0, y1, z0, z1]`.
     pub fn bounds(&self) -> [u32; 6]
         ensures value { result ≡ numbers_of self.now }

@@ -78,3 +78,55 @@ fn numbers_go_with_x_fastest(rt: HostRuntime) -> Result<(), Fail> {
     }
     Ok(())
 }
+
+#[test]
+fn an_extent_contains_what_lies_in_it(rt: HostRuntime) -> Result<(), Fail> {
+    for (bounds, other, want) in [
+        ([1, 4, 2, 5, 3, 6], [1, 4, 2, 5, 3, 6], true),
+        ([1, 4, 2, 5, 3, 6], [2, 3, 4, 4, 5, 6], true),
+        // One plane too many on each face.
+        ([1, 4, 2, 5, 3, 6], [0, 4, 2, 5, 3, 6], false),
+        ([1, 4, 2, 5, 3, 6], [1, 5, 2, 5, 3, 6], false),
+        ([1, 4, 2, 5, 3, 6], [1, 4, 1, 5, 3, 6], false),
+        ([1, 4, 2, 5, 3, 6], [1, 4, 2, 6, 3, 6], false),
+        ([1, 4, 2, 5, 3, 6], [1, 4, 2, 5, 2, 6], false),
+        ([1, 4, 2, 5, 3, 6], [1, 4, 2, 5, 3, 7], false),
+    ] {
+        let extent = Extent::new(bounds).ok_or("an extent")?;
+        let part = Extent::new(other).ok_or("another extent")?;
+        assert_eq!(rt; extent.contains(&part), want, "{bounds:?} {other:?}");
+    }
+    Ok(())
+}
+
+#[test]
+fn a_box_clips_an_extent(rt: HostRuntime) -> Result<(), Fail> {
+    let extent = Extent::new([1, 4, 2, 5, 3, 6]).ok_or("an extent")?;
+    for (bounds, want) in [
+        ([0, 9, 0, 9, 0, 9], Extent::new([1, 4, 2, 5, 3, 6])),
+        // Clipped at each face in turn.
+        ([2, 9, 0, 9, 0, 9], Extent::new([2, 4, 2, 5, 3, 6])),
+        ([0, 2, 0, 9, 0, 9], Extent::new([1, 2, 2, 5, 3, 6])),
+        ([0, 9, 4, 9, 0, 9], Extent::new([1, 4, 4, 5, 3, 6])),
+        ([0, 9, 0, 4, 0, 9], Extent::new([1, 4, 2, 4, 3, 6])),
+        ([0, 9, 0, 9, 6, 9], Extent::new([1, 4, 2, 5, 6, 6])),
+        ([0, 9, 0, 9, 0, 3], Extent::new([1, 4, 2, 5, 3, 3])),
+        // The largest box, and bounds past 2^31.
+        (
+            [0, u32::MAX, 0, u32::MAX, 0, u32::MAX],
+            Extent::new([1, 4, 2, 5, 3, 6]),
+        ),
+        ([2_147_483_648, u32::MAX, 0, 9, 0, 9], None),
+        // Beside each face, and a lower bound above its upper one.
+        ([0, 0, 0, 9, 0, 9], None),
+        ([5, 9, 0, 9, 0, 9], None),
+        ([0, 9, 0, 1, 0, 9], None),
+        ([0, 9, 6, 9, 0, 9], None),
+        ([0, 9, 0, 9, 0, 2], None),
+        ([0, 9, 0, 9, 7, 9], None),
+        ([3, 2, 0, 9, 0, 9], None),
+    ] {
+        assert_eq!(rt; extent.clip(bounds), want, "{bounds:?}");
+    }
+    Ok(())
+}

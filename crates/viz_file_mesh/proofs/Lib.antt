@@ -1,5 +1,6 @@
 pub mod CellLemmas
 pub mod GridCells
+pub mod FitLemmas
 pub mod MeshLemmas
 pub mod PieceLoops
 pub mod PolyCells

@@ -7,7 +7,7 @@ ghost use Rattle.viz_mesh_read.specs.Pieces.{pieces_in};
 ghost use Rattle.viz_sheet.specs.Arrays.{points_in, ranks_in};
 ghost use Rattle.viz_sheet.specs.Kept.{sheet_with};
 ghost use Rattle.viz_sheet.specs.Ranked.{IsCell, leaf_names};
-ghost use Rattle.viz_sheet.specs.Sheet.{IsSheet};
+ghost use Rattle.viz_sheet.specs.Sheet.{IsSheet, IsFit};
 ghost use Rattle.viz_file_mesh.specs.FileMesh.{ArePoints, mesh_of};
 ghost use Rattle.viz_file_mesh.specs.GridPieces.{grid_pieces_in};
 
@@ -26,6 +26,7 @@ fn mesh_with(alloc: Global, count: u32, places: Places, ranks: Ranks) -> Result<
     ensures value { IfOk result (λ m.
         m ≡ sheet_with (leaf_names count) (points_in places) (ranks_in ranks) ∷ []) }
     ensures valid { IfOk result (All IsSheet) }
+    ensures fits { IfOk result (All IsFit) }
 {
     let leaves = Leaves::of_points(alloc, count)?;
     let sheet = sheet_of(alloc, leaves, places, ranks)?;
@@ -49,6 +50,7 @@ pub fn grid_mesh(
     ensures value { IfOk result (λ m.
         m ≡ mesh_of unit grid.points picked (grid_pieces_in (section_of grid.cells))) }
     ensures valid { IfOk result (All IsSheet) }
+    ensures fits { IfOk result (All IsFit) }
 {
     let GridFile { points, cells } = grid;
     let count = points.count;
@@ -70,6 +72,7 @@ pub fn poly_mesh(
     ensures value { IfOk result (λ m.
         m ≡ mesh_of unit poly.points picked (pieces_in (sections_of poly.cells))) }
     ensures valid { IfOk result (All IsSheet) }
+    ensures fits { IfOk result (All IsFit) }
 {
     let PolyFile { points, cells } = poly;
     let count = points.count;

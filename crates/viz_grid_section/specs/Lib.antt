@@ -1,3 +1,5 @@
 pub mod ImageSection
 pub mod GridSection
 pub mod Edges
+pub mod EdgeLaws
+pub mod Steps

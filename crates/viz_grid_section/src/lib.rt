@@ -4,3 +4,7 @@
 //! `viz_meaning` says of it. Definitions: `specs/Edges.antt`, `specs/GridSection.antt`,
 //! `specs/ImageSection.antt`.
 #![tactic(auto)]
+
+mod laws;
+
+pub use laws::{contours_are_sections, edges_are_a_set};

@@ -7,7 +7,7 @@ use Rattle.viz_dataset.specs.declared.dataset.Info.TheVariants.{Image, Mesh}
 use Rattle.viz_dataset.specs.declared.dataset.Dataset.{Dataset}
 use Rattle.viz_dataset.specs.declared.dataset.Dataset.TheVariants as dataset
 use Rattle.viz_dataset.specs.Images.{Vector, vector_of, IsImage}
-use Rattle.viz_sheet.specs.Sheet.{IsSheet}
+use Rattle.viz_sheet.specs.Sheet.{IsSheet, IsFit}
 use Rattle.viz_lex.specs.declared.fault.FileFault.{FileFault}
 use Rattle.viz_lex.specs.Reading as lexer
 use Rattle.viz_legacy_read.specs.declared.front.Preamble.{Preamble}
@@ -57,10 +57,10 @@ IsInfo bytes (Image whole origin spacing) =
     (h : Header) × ReadsHeader bytes (OfImage h) × HasParts h whole (vector_of origin) (vector_of spacing)
 IsInfo bytes Mesh = IsMeshFile bytes
 
--- the dataset keeps the rule of its type
+-- the dataset keeps the rule of its type, and sections of a mesh have names
 abbrev pub IsSound : Dataset → Type 0
 IsSound (dataset.Image image) = IsImage image
-IsSound (dataset.Mesh sheets) = All IsSheet sheets
+IsSound (dataset.Mesh sheets) = All IsSheet sheets × All IsFit sheets
 
 -- reading stops at the first fault, or where memory ran out
 abbrev pub IsStop : List ℕ → Pick → ℕ → ReadStop → Type 0

@@ -8,7 +8,7 @@ ghost use Rattle.viz_mesh_read.specs.Poly.{polydata_of, sections_of};
 ghost use Rattle.viz_mesh_read.specs.PolySteps.{polydata_at};
 ghost use Rattle.viz_mesh_read.specs.Pieces.{pieces_in};
 ghost use Rattle.viz_sheet.specs.Ranked.{IsCell};
-ghost use Rattle.viz_sheet.specs.Sheet.{IsSheet};
+ghost use Rattle.viz_sheet.specs.Sheet.{IsSheet, IsFit};
 ghost use Rattle.viz_file_mesh.specs.FileMesh.{ArePoints};
 ghost use Rattle.viz_file_mesh.specs.GridPieces.{grid_pieces_in};
 ghost use Rattle.viz_legacy_read.specs.Steps.{cells_in, grid_behind_at, poly_behind_at};
@@ -53,6 +53,7 @@ pub(crate) fn grid_behind(
     ensures read { ReadsUnlessMemory (λ m. m) result lexer.new
         (grid_behind_at pick.now unit preamble.now lexer.old) }
     ensures valid { IfOk result (All IsSheet) }
+    ensures fits { IfOk result (All IsFit) }
 {
     let grid = grid_geometry(alloc, lexer, preamble)?;
     let points = grid.points.count;
@@ -100,6 +101,7 @@ pub(crate) fn poly_behind(
     ensures read { ReadsUnlessMemory (λ m. m) result lexer.new
         (poly_behind_at pick.now unit preamble.now lexer.old) }
     ensures valid { IfOk result (All IsSheet) }
+    ensures fits { IfOk result (All IsFit) }
 {
     let poly = poly_geometry(alloc, lexer, preamble)?;
     let points = poly.points.count;

@@ -5,7 +5,7 @@ ghost use Rattle.viz_legacy_read.specs.MeshFile.{is_grid};
 ghost use Rattle.viz_legacy_read.specs.Reading.{IsInfo, StopsInHeader, Reads, IsStop, IsSound};
 ghost use Rattle.viz_legacy_read.specs.Steps.{mesh_behind_at, contents_at, file_at};
 ghost use Rattle.viz_legacy_read.specs.Reads.{header_seen, info_of, IsWithin, ReadsUnlessMemory};
-ghost use Rattle.viz_sheet.specs.Sheet.{IsSheet};
+ghost use Rattle.viz_sheet.specs.Sheet.{IsSheet, IsFit};
 
 use crate::front::{DatasetWord, FileHeader, Preamble, file_header};
 use crate::image::image_behind;
@@ -62,6 +62,7 @@ fn mesh_behind(
     ensures read { ReadsUnlessMemory (λ m. m) result lexer.new
         (mesh_behind_at pick.now unit preamble.now lexer.old) }
     ensures valid { IfOk result (All IsSheet) }
+    ensures fits { IfOk result (All IsFit) }
 {
     if is_grid(preamble) {
         grid_behind(alloc, lexer, preamble, pick, unit)

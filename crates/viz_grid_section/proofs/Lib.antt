@@ -1,0 +1,13 @@
+pub mod EdgeOrder
+pub mod EdgeSets
+pub mod EdgeRanks
+pub mod TetrahedraLemmas
+pub mod MembersLemmas
+pub mod LeafLemmas
+pub mod SectionLemmas
+pub mod CutLemmas
+pub mod LeafSheets
+pub mod NamedCells
+pub mod NamedSets
+pub mod ContourSection
+pub mod NarrowLemmas
