@@ -30,5 +30,5 @@ fit_cell count cell c =
 pub leaf_sheet-fits : (count : ℕ) (points : List Point) (cells : List (List ℕ)) → All (IsCell count) cells → IsFit (sheet_with (leaf_names count) points cells)
 leaf_sheet-fits count points cells h = record {
   each = All-map (λ (cell : List (List ℕ)). All (λ n. length cell ≤ most_names (length n)) cell) (names_at (leaf_names count)) cells
-  (All-weaker (IsCell count) (λ cell. All (λ n. length (names_at (leaf_names count) cell) ≤ most_names (length n)) (names_at (leaf_names count) cell)) (fit_cell count) cells h);
+      (All-weaker (IsCell count) (λ cell. All (λ n. length (names_at (leaf_names count) cell) ≤ most_names (length n)) (names_at (leaf_names count) cell)) (fit_cell count) cells h);
 }
