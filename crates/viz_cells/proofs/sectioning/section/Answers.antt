@@ -9,7 +9,7 @@ use Rattle.viz_cells.specs.Steps.Pieces.{pieces_of}
 use Rattle.viz_cells.specs.Steps.Numbered.{AreNumbered, HasKeys}
 use Rattle.viz_cells.specs.Steps.Crossings.{IsCutKey, IsNarrowKey, key_crossing}
 use Rattle.viz_cells.proofs.MadeLemmas.{AreMade, made, has-keys, narrow-to, narrow-from, sheet-made, section-made}
-use Rattle.viz_cells.proofs.sections.section.Goals as goal
+use Rattle.viz_cells.proofs.sectioning.section.Goals as goal
 
 pub crossings-requires-clause-cut : goal.crossings-requires-clause-cut
 crossings-requires-clause-cut c =
@@ -22,7 +22,7 @@ crossings-requires-clause-cut c =
     let is : pieces ≡ pieces_of (map (is_inside_at f) s.points) cells =
     c.in_ok-pieces.ensures.value ∙ ap (λ i. pieces_of i cells) (c.deref.ensures.value ∙ c.in_ok-inside.ensures.value ∙ ap (map (is_inside_at f)) c.places.ensures.value) in
     let m : AreMade c.size-size.result f s pieces keys =
-    made c.size-size.result f s cells pieces c.deref-2.result.now keys c.ranks.ensures.valid c.ranks.ensures.value sized is c.deref-2.ensures.value c.in_ok-keys.ensures.value in
+    made c.size-size.result f s cells pieces c.deref-2.result.now keys c.ranks.ensures.valid c.ranks.ensures.value sized is c.deref-2.ensures.value c.in_ok-keys.ensures.value c.requires.fit in
     subst (λ ks. All (IsCutKey f (points_in c.places-2.result.now)) ks) (sym c.deref-3.ensures.value)
     (subst (λ (p : List Point). All (IsCutKey f p) keys) (sym c.places-2.ensures.value) m.cut)
 
@@ -37,10 +37,26 @@ returns-in_err-places-clause-too_wide c wide narrow =
     let is : pieces ≡ pieces_of (map (is_inside_at f) s.points) cells =
     c.in_ok-pieces.ensures.value ∙ ap (λ i. pieces_of i cells) (c.deref.ensures.value ∙ c.in_ok-inside.ensures.value ∙ ap (map (is_inside_at f)) c.places.ensures.value) in
     let m : AreMade c.size-size.result f s pieces keys =
-    made c.size-size.result f s cells pieces c.deref-2.result.now keys c.ranks.ensures.valid c.ranks.ensures.value sized is c.deref-2.ensures.value c.in_ok-keys.ensures.value in
+    made c.size-size.result f s cells pieces c.deref-2.result.now keys c.ranks.ensures.valid c.ranks.ensures.value sized is c.deref-2.ensures.value c.in_ok-keys.ensures.value c.requires.fit in
     c.in_err-places.ensures.too_wide (search rules)
     (subst (λ ks. All (IsNarrowKey f (points_in c.places-2.result.now)) ks) (sym c.deref-3.ensures.value)
     (subst (λ (p : List Point). All (IsNarrowKey f p) keys) (sym c.places-2.ensures.value) (narrow-to c.size-size.result f s pieces keys m narrow)))
+
+pub joined-requires-clause-most : goal.joined-requires-clause-most
+joined-requires-clause-most c =
+    let f = c.args.form.now in
+    let s = c.args.sheet.now in
+    let cells = ranks_in c.ranks.result.now in
+    let pieces = c.in_ok-pieces.pieces.items in
+    let keys = c.in_ok-keys.keys.items in
+    let sized : All (λ (n : List ℕ). length n ≡ c.size-size.result) s.names = subst (λ (l : List (List ℕ)). All (λ (n : List ℕ). length n ≡ c.size-size.result) l) c.leaves.ensures.value c.size-size.ensures.each in
+    let is : pieces ≡ pieces_of (map (is_inside_at f) s.points) cells =
+    c.in_ok-pieces.ensures.value ∙ ap (λ i. pieces_of i cells) (c.deref.ensures.value ∙ c.in_ok-inside.ensures.value ∙ ap (map (is_inside_at f)) c.places.ensures.value) in
+    let m : AreMade c.size-size.result f s pieces keys =
+    made c.size-size.result f s cells pieces c.deref-2.result.now keys c.ranks.ensures.valid c.ranks.ensures.value sized is c.deref-2.ensures.value c.in_ok-keys.ensures.value c.requires.fit in
+    λ some.
+    subst (λ (l : List (List ℕ)). All (λ (n : List ℕ). length n ≤ 4) l) (sym c.leaves-2.ensures.value)
+    (m.level (subst (λ (ks : List ℕ). 1 ≤ length ks) c.deref-4.ensures.value some))
 
 pub joined-requires-clause-keys : goal.joined-requires-clause-keys
 joined-requires-clause-keys c =
@@ -53,7 +69,7 @@ joined-requires-clause-keys c =
     let is : pieces ≡ pieces_of (map (is_inside_at f) s.points) cells =
     c.in_ok-pieces.ensures.value ∙ ap (λ i. pieces_of i cells) (c.deref.ensures.value ∙ c.in_ok-inside.ensures.value ∙ ap (map (is_inside_at f)) c.places.ensures.value) in
     let m : AreMade c.size-size.result f s pieces keys =
-    made c.size-size.result f s cells pieces c.deref-2.result.now keys c.ranks.ensures.valid c.ranks.ensures.value sized is c.deref-2.ensures.value c.in_ok-keys.ensures.value in
+    made c.size-size.result f s cells pieces c.deref-2.result.now keys c.ranks.ensures.valid c.ranks.ensures.value sized is c.deref-2.ensures.value c.in_ok-keys.ensures.value c.requires.fit in
     subst (λ ks. All (IsEdgeKey (length (names_in c.leaves-2.result.now))) ks) (sym c.deref-4.ensures.value)
     (subst (λ (l : List (List ℕ)). All (IsEdgeKey (length l)) keys) (sym c.leaves-2.ensures.value) m.edges)
 
@@ -68,7 +84,7 @@ numbered-requires c =
     let is : pieces ≡ pieces_of (map (is_inside_at f) s.points) cells =
     c.in_ok-pieces.ensures.value ∙ ap (λ i. pieces_of i cells) (c.deref.ensures.value ∙ c.in_ok-inside.ensures.value ∙ ap (map (is_inside_at f)) c.places.ensures.value) in
     let m : AreMade c.size-size.result f s pieces keys =
-    made c.size-size.result f s cells pieces c.deref-2.result.now keys c.ranks.ensures.valid c.ranks.ensures.value sized is c.deref-2.ensures.value c.in_ok-keys.ensures.value in
+    made c.size-size.result f s cells pieces c.deref-2.result.now keys c.ranks.ensures.valid c.ranks.ensures.value sized is c.deref-2.ensures.value c.in_ok-keys.ensures.value c.requires.fit in
     let few : length keys ≤ 2 ^ 32 = omega (arith, c.if-len.false, c.len.ensures) in
     record {
       keys =
@@ -87,7 +103,7 @@ new-requires c =
     let is : pieces ≡ pieces_of (map (is_inside_at f) s.points) cells =
     c.in_ok-pieces.ensures.value ∙ ap (λ i. pieces_of i cells) (c.deref.ensures.value ∙ c.in_ok-inside.ensures.value ∙ ap (map (is_inside_at f)) c.places.ensures.value) in
     let m : AreMade c.size-size.result f s pieces keys =
-    made c.size-size.result f s cells pieces c.deref-2.result.now keys c.ranks.ensures.valid c.ranks.ensures.value sized is c.deref-2.ensures.value c.in_ok-keys.ensures.value in
+    made c.size-size.result f s cells pieces c.deref-2.result.now keys c.ranks.ensures.valid c.ranks.ensures.value sized is c.deref-2.ensures.value c.in_ok-keys.ensures.value c.requires.fit in
     let few : length keys ≤ 2 ^ 32 = omega (arith, c.if-len.false, c.len.ensures) in
     let numbered : AreNumbered keys pieces (ranks_in c.in_ok-ranks.ranks) =
     subst (λ k. AreNumbered k pieces (ranks_in c.in_ok-ranks.ranks)) c.deref-5.ensures.value
@@ -111,7 +127,7 @@ returns-clause-value c =
     let is : pieces ≡ pieces_of (map (is_inside_at f) s.points) cells =
     c.in_ok-pieces.ensures.value ∙ ap (λ i. pieces_of i cells) (c.deref.ensures.value ∙ c.in_ok-inside.ensures.value ∙ ap (map (is_inside_at f)) c.places.ensures.value) in
     let m : AreMade c.size-size.result f s pieces keys =
-    made c.size-size.result f s cells pieces c.deref-2.result.now keys c.ranks.ensures.valid c.ranks.ensures.value sized is c.deref-2.ensures.value c.in_ok-keys.ensures.value in
+    made c.size-size.result f s cells pieces c.deref-2.result.now keys c.ranks.ensures.valid c.ranks.ensures.value sized is c.deref-2.ensures.value c.in_ok-keys.ensures.value c.requires.fit in
     let numbered : AreNumbered keys pieces (ranks_in c.in_ok-ranks.ranks) =
     subst (λ k. AreNumbered k pieces (ranks_in c.in_ok-ranks.ranks)) c.deref-5.ensures.value
     (subst (λ p. AreNumbered c.deref-5.result.now p (ranks_in c.in_ok-ranks.ranks)) c.deref-6.ensures.value c.in_ok-ranks.ensures.value) in
@@ -133,7 +149,7 @@ returns-clause-narrow c =
     let is : pieces ≡ pieces_of (map (is_inside_at f) s.points) cells =
     c.in_ok-pieces.ensures.value ∙ ap (λ i. pieces_of i cells) (c.deref.ensures.value ∙ c.in_ok-inside.ensures.value ∙ ap (map (is_inside_at f)) c.places.ensures.value) in
     let m : AreMade c.size-size.result f s pieces keys =
-    made c.size-size.result f s cells pieces c.deref-2.result.now keys c.ranks.ensures.valid c.ranks.ensures.value sized is c.deref-2.ensures.value c.in_ok-keys.ensures.value in
+    made c.size-size.result f s cells pieces c.deref-2.result.now keys c.ranks.ensures.valid c.ranks.ensures.value sized is c.deref-2.ensures.value c.in_ok-keys.ensures.value c.requires.fit in
     let values = subst (λ (p : List Point). All (IsNarrowValue f) p) c.places.ensures.value c.in_ok-inside.ensures.ok in
     let crossings =
     subst (λ ks. All (IsNarrowKey f s.points) ks) c.deref-3.ensures.value

@@ -10,11 +10,11 @@ pub all-flat : {X : Type 0} (P : X → Type 0) (pieces : List (List X)) → All 
 all-flat P [] h = All-nil P
 all-flat P (p ∷ ps) h = All-append P p (flat_map (λ piece. piece) ps) (All-head (All P) p ps h) (all-flat P ps (All-tail (All P) p ps h))
 
-front : {X : Type 0} (P : X → Type 0) (xs ys : List X) → All P (xs ++ ys) → All P xs
+pub front : {X : Type 0} (P : X → Type 0) (xs ys : List X) → All P (xs ++ ys) → All P xs
 front P [] ys h = All-nil P
 front P (x ∷ xs) ys h = All-cons P x xs (All-head P x (xs ++ ys) h) (front P xs ys (All-tail P x (xs ++ ys) h))
 
-back : {X : Type 0} (P : X → Type 0) (xs ys : List X) → All P (xs ++ ys) → All P ys
+pub back : {X : Type 0} (P : X → Type 0) (xs ys : List X) → All P (xs ++ ys) → All P ys
 back P [] ys h = h
 back P (x ∷ xs) ys h = back P xs ys (All-tail P x (xs ++ ys) h)
 
@@ -54,6 +54,13 @@ all-map P f (x ∷ xs) h = All-cons P (f x) (map f xs) (All-head (λ y. P (f y))
 pub all-unmap : {X Y : Type 0} (P : Y → Type 0) (f : X → Y) (xs : List X) → All P (map f xs) → All (λ x. P (f x)) xs
 all-unmap P f [] h = All-nil (λ x. P (f x))
 all-unmap P f (x ∷ xs) h = All-cons (λ y. P (f y)) x xs (All-head P (f x) (map f xs) h) (all-unmap P f xs (All-tail P (f x) (map f xs) h))
+
+-- piece by piece
+pub all-weaker_pieces : {X : Type 0} (P Q : X → Type 0) (pieces : List (List X)) → ((x : X) → P x → Q x) → All (All P) pieces → All (All Q) pieces
+all-weaker_pieces P Q pieces f h i d il j e jl = f (get_or (get_or pieces i d) j e) (h i d il j e jl)
+
+pub map-pieces : {X Y : Type 0} (P : Y → Type 0) (g : X → Y) (pieces : List (List X)) → All (All (λ x. P (g x))) pieces → All (All P) (map (map g) pieces)
+map-pieces P g pieces h = all-map (All P) (map g) pieces (λ k d l. all-map P g (get_or pieces k d) (h k d l))
 
 -- one of the items by a function
 pub contains-map : {X Y : Type 0} (f : X → Y) (xs : List X) (x : X) → Contains xs x → Contains (map f xs) (f x)
