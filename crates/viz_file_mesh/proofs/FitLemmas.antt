@@ -1,5 +1,5 @@
 -- Cells of names of one leaf fit.
-use Rattle.std.proofs.Common.{◌≡◌, ℕ, ◌<◌, ◌≤◌, [], ◌∷◌, List, length, refl, sym, subst, ◌∙◌, ap, arith}
+use Rattle.std.proofs.Common.{◌≡◌, ℕ, ◌<◌, ◌≤◌, [], ◌∷◌, List, length, sym, subst, ◌∙◌, ap, arith}
 use Rattle.std.specs.List.{All, range_with_len}
 use Rattle.std.specs.Prelude.{slice_index_or}
 use Rattle.std.proofs.lemmas.List.{length-map}
@@ -12,7 +12,7 @@ use Rattle.viz_sheet.specs.Sheet.{SheetData, IsFit, most_names}
 
 -- the name at a rank has one leaf
 leaf_at : (count r : ℕ) → r < count → slice_index_or (leaf_names count) r [] ≡ r ∷ []
-leaf_at count r h = get_or-map-range_with_len (λ leaf. leaf ∷ []) 0 count r r [] h refl
+leaf_at count r h = get_or-map-range_with_len (λ leaf. leaf ∷ []) 0 count r r [] h (omega arith)
 
 -- a name of one leaf allows cells of 4
 allowed : (k : ℕ) (n : List ℕ) → k ≤ 4 → length n ≡ 1 → k ≤ most_names (length n)
