@@ -16,10 +16,10 @@ use Rattle.viz_meaning.specs.Section.{bits_of, cells_in, end_name, is_inside_at,
 use Rattle.viz_cells.specs.Steps.Keys.{key_name}
 use Rattle.viz_cells.specs.Steps.Pieces.{corner_mask, end_key, keys_in}
 use Rattle.viz_cells.specs.Steps.Crossings.{IsCutKey, point_at}
-use Rattle.viz_cells.proofs.BitLemmas.{bits-read}
-use Rattle.viz_cells.proofs.PieceLemmas.{mask_below}
+use Rattle.viz_meaning.proofs.BitLemmas.{bits-read, mask_below}
 use Rattle.viz_cells.proofs.KeyLemmas.{edge-key, by-halves, same-edge}
-use Rattle.viz_cells.proofs.ListLemmas.{all-pieces, all-map, pieces-same, pieces-twice, apart-map, apart-at}
+use Rattle.viz_meaning.proofs.EndLemmas.{same-end, two_corners}
+use Rattle.viz_meaning.proofs.ListLemmas.{all-map, all-pieces, all-weaker_pieces, apart-at, apart-map, map-pieces, pieces-same, pieces-twice}
 
 -- whether each point is inside
 abbrev pub flags_of : Form → List Point → List Bool
@@ -109,9 +109,6 @@ end-key s inside cell e g h =
     (get_or-map at cell e.high 0 [] h.within)
     ∙ edge-key s.names (slice_index cell e.low) (slice_index cell e.high) g.ascending g.few h.differ h.low h.high
 
-all-weaker_pieces : {X : Type 0} (P Q : X → Type 0) (pieces : List (List X)) → ((x : X) → P x → Q x) → All (All P) pieces → All (All Q) pieces
-all-weaker_pieces P Q pieces f h i d il j e jl = f (get_or (get_or pieces i d) j e) (h i d il j e jl)
-
 pub cell-named : (f : Form) (s : SheetData) (cell : List ℕ) → AreGiven s → IsCell (length s.names) cell
     → cells_in (λ n. is_inside_at f (point_of s n)) (names_at s.names cell) ≡ map (map (key_name s.names)) (keys_in (flags_of f s.points) cell)
 unfolding keys_in
@@ -140,9 +137,6 @@ cut-key f s cell e g h =
     (λ r. (r, omega (arith, g.matched, h.low), λ same. differ (sym same))) in
     record { rises = both.0; below = both.1; apart = both.2 }
 
-map-pieces : {X Y : Type 0} (P : Y → Type 0) (g : X → Y) (pieces : List (List X)) → All (All (λ x. P (g x))) pieces → All (All P) (map (map g) pieces)
-map-pieces P g pieces h = all-map (All P) (map g) pieces (λ k d l. all-map P g (get_or pieces k d) (h k d l))
-
 pub cut-keys : (f : Form) (s : SheetData) (cell : List ℕ) → AreGiven s → IsCell (length s.names) cell → All (All (IsCutKey f s.points)) (keys_in (flags_of f s.points) cell)
 unfolding keys_in
 cut-keys f s cell g h =
@@ -160,9 +154,6 @@ pub record IsWholePiece (piece : List ℕ) : Type 0 where
   pub most : length piece ≤ 4
   pub apart : AreApart piece
 
-same-end : (e f : End) → e.low ≡ f.low → e.high ≡ f.high → e ≡ f
-same-end e f l h = λ i. record { low = l i; high = h i }
-
 -- ends of one key are one end
 key-apart : (inside : List Bool) (n : ℕ) (cell : List ℕ) (e f : End) → n ≤ 2 ^ 32 → IsCell n cell → IsCellEnd inside n cell e → IsCellEnd inside n cell f → e ≢ f → end_key cell e ≢ end_key cell f
 key-apart inside n cell e f few h he hf differ same =
@@ -177,15 +168,6 @@ key-apart inside n cell e f few h he hf differ same =
     omega (arith, x, y, he.order, hf.order))
     (same-edge (slice_index cell e.low) (slice_index cell e.high) (slice_index cell f.low) (slice_index cell f.high) he.differ hf.differ
     (omega (arith, few, he.low)) (omega (arith, few, he.high)) (omega (arith, few, hf.low)) (omega (arith, few, hf.high)) same)
-
--- a simplex of one corner has no section
-two_corners : (corners mask : ℕ) (k : ℕ) → IsCase corners mask → k < length (cells_at corners mask) → 2 ≤ corners
-unfolding cells_at
-two_corners zero mask k c l = absurd (omega (arith, c.least))
-two_corners (suc zero) zero k c l = absurd (omega arith)
-two_corners (suc zero) (suc zero) k c l = absurd (omega arith)
-two_corners (suc zero) (suc (suc m)) k c l = absurd (omega (arith, c.below))
-two_corners (suc (suc n)) mask k c l = omega arith
 
 pub whole-pieces : (inside : List Bool) (n : ℕ) (cell : List ℕ) → n ≤ 2 ^ 32 → IsCell n cell → All IsWholePiece (keys_in inside cell)
 unfolding keys_in

@@ -12,7 +12,7 @@ use Rattle.viz_sheet.specs.Sheet.{AreAscending}
 use Rattle.viz_sheet.proofs.PairOrder.{compare_as_ranks}
 use Rattle.viz_meaning.specs.Names.{edge_name, is_before}
 use Rattle.viz_cells.specs.Steps.Keys.{key_of, low_of, high_of, pair_of, key_name, IsEdgeKey}
-use Rattle.viz_cells.proofs.ListLemmas.{all-map}
+use Rattle.viz_meaning.proofs.ListLemmas.{all-map}
 
 halves : (a b : ℕ) → b < 2 ^ 32 → (low_of (a * 2 ^ 32 + b) ≡ a) × (high_of (a * 2 ^ 32 + b) ≡ b)
 halves a b l = (omega arith, omega arith)

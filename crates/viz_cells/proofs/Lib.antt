@@ -1,10 +1,9 @@
 pub mod PieceLemmas
 pub mod NumberLemmas
 pub mod CrossingLemmas
-pub mod ListLemmas
 pub mod KeyLemmas
-pub mod BitLemmas
 pub mod EdgeLemmas
 pub mod NamedLemmas
 pub mod RankedLemmas
+pub mod FitLemmas
 pub mod MadeLemmas

@@ -6,7 +6,7 @@ use Rattle.std.proofs.lemmas.List.Elements.{Contains-get_or}
 use Rattle.viz_fraction.specs.declared.forms.Form.{Form}
 use Rattle.viz_fraction.specs.Forms.{IsNarrowValue}
 use Rattle.viz_fraction.specs.Points.{Point}
-use Rattle.viz_sheet.specs.Sheet.{SheetData}
+use Rattle.viz_sheet.specs.Sheet.{SheetData, IsFit}
 use Rattle.viz_sheet.specs.Ranked.{AreRanks, by_names}
 use Rattle.viz_meaning.specs.Names.{names_of}
 use Rattle.viz_meaning.specs.Narrow.{IsNarrowSection}
@@ -16,7 +16,8 @@ use Rattle.viz_cells.specs.Steps.Pieces.{pieces_of}
 use Rattle.viz_cells.specs.Steps.Numbered.{AreKeysOf, AreNumbered, HasKeys}
 use Rattle.viz_cells.specs.Steps.Crossings.{IsCutKey, IsNarrowKey, key_crossing}
 use Rattle.viz_cells.proofs.EdgeLemmas.{AreGiven, IsWholePiece, flags_of}
-use Rattle.viz_cells.proofs.ListLemmas.{all-pieces}
+use Rattle.viz_cells.proofs.FitLemmas.{level}
+use Rattle.viz_meaning.proofs.ListLemmas.{all-pieces}
 use Rattle.viz_cells.proofs.NamedLemmas.{section-cells, section-cut, section-whole, all-keys, edge-keys, names-ascend, names-are, points-are, narrow-to_keys, narrow-from_keys}
 use Rattle.viz_cells.proofs.RankedLemmas.{ranked, all-named}
 
@@ -27,12 +28,13 @@ pub record AreMade (size : ℕ) (f : Form) (s : SheetData) (pieces : List (List 
   pub keyed : AreKeysOf pieces keys
   pub cut : All (IsCutKey f s.points) keys
   pub edges : All (IsEdgeKey (length s.names)) keys
+  pub level : 1 ≤ length keys → All (λ n. length n ≤ 4) s.names
   pub whole : All IsWholePiece pieces
   pub same : section_cells f s ≡ map (map (key_name s.names)) pieces
 
 pub made : (size : ℕ) (f : Form) (s : SheetData) (cells pieces seen : List (List ℕ)) (keys : List ℕ) → AreRanks s.names s.points cells → by_names s.names cells ≡ s.cells
-    → All (λ n. length n ≡ size) s.names → pieces ≡ pieces_of (flags_of f s.points) cells → seen ≡ pieces → AreKeysOf seen keys → AreMade size f s pieces keys
-made size f s cells pieces seen keys valid same sized is saw of_seen =
+    → All (λ n. length n ≡ size) s.names → pieces ≡ pieces_of (flags_of f s.points) cells → seen ≡ pieces → AreKeysOf seen keys → IsFit s → AreMade size f s pieces keys
+made size f s cells pieces seen keys valid same sized is saw of_seen fit =
     let given : AreGiven s = record { ascending = valid.rule.ascending; matched = valid.rule.matched; few = valid.rule.few } in
     let of : AreKeysOf pieces keys = subst (λ p. AreKeysOf p keys) saw of_seen in
     let cut = all-keys (IsCutKey f s.points) pieces keys of (section-cut f s cells pieces given valid.rule.each is) in
@@ -42,6 +44,7 @@ made size f s cells pieces seen keys valid same sized is saw of_seen =
       keyed = of;
       cut = cut;
       edges = edge-keys f s keys given cut;
+      level = level size f s cells pieces keys valid.rule.each same sized is of fit;
       whole = section-whole f s cells pieces given valid.rule.each is;
       same = section-cells f s cells pieces given valid.rule.each same is;
     }

@@ -21,7 +21,7 @@ use Rattle.viz_cells.specs.Steps.Numbered.{AreKeysOf}
 use Rattle.viz_cells.specs.Steps.Crossings.{IsCutKey, IsNarrowKey, key_crossing, point_at}
 use Rattle.viz_cells.proofs.EdgeLemmas.{AreGiven, IsWholePiece, flags_of, point-named, cell-named, cut-keys, whole-pieces}
 use Rattle.viz_cells.proofs.KeyLemmas.{pairs-sorted, are_pairs, names-by_pairs}
-use Rattle.viz_cells.proofs.ListLemmas.{all-flat, all-among, all-map, all-unmap, flat-map, contains-map, contains-unmap, map-same, map-twice}
+use Rattle.viz_meaning.proofs.ListLemmas.{all-flat, all-among, all-map, all-unmap, flat-map, contains-map, contains-unmap, map-same, map-twice}
 
 -- ---- all cells
 
@@ -38,7 +38,7 @@ pub section-cells : (f : Form) (s : SheetData) (cells pieces : List (List ℕ)) 
 section-cells f s cells pieces g h same is =
     ap (flat_map (cells_in (λ n. is_inside_at f (point_of s n)))) (sym same) ∙ cells-named f s cells g h ∙ ap (map (map (key_name s.names))) (sym is)
 
-all-pieces_of : (P : List ℕ → Type 0) (inside : List Bool) (cells : List (List ℕ)) → ((k : ℕ) (d : List ℕ) → k < length cells → All P (keys_in inside (get_or cells k d))) → All P (pieces_of inside cells)
+pub all-pieces_of : (P : List ℕ → Type 0) (inside : List Bool) (cells : List (List ℕ)) → ((k : ℕ) (d : List ℕ) → k < length cells → All P (keys_in inside (get_or cells k d))) → All P (pieces_of inside cells)
 unfolding pieces_of
 all-pieces_of P inside [] h = All-nil P
 all-pieces_of P inside (c ∷ cs) h =

@@ -69,14 +69,14 @@ pub all-more : {X : Type 0} (P : X → Type 0) (xs : List X) (i : ℕ) (x : X) �
     → All P (take i xs) → P x → All P (take (i + 1) xs)
 all-more P xs i x l e h p = All-more P xs i x l h (subst P e p)
 
--- where names have 8 leaves and at most 4, there are no names and so no keys
-pub no_keys : (names : List (List ℕ)) (keys : List ℕ) → All (λ n. length n ≡ 8) names → All (λ n. length n ≤ 4) names → All (IsEdgeKey (length names)) keys
+-- where names have 8 leaves, and at most 4 if there are keys, there are no keys
+pub no_keys : (names : List (List ℕ)) (keys : List ℕ) → All (λ n. length n ≡ 8) names → (1 ≤ length keys → All (λ n. length n ≤ 4) names) → All (IsEdgeKey (length names)) keys
     → [] ≡ map (key_name names) keys
-no_keys [] [] eight most h = refl
+no_keys names [] eight most h = refl
 no_keys [] (k ∷ ks) eight most h =
     let key = All-head (IsEdgeKey 0) k ks h in absurd (omega (arith, key.below))
-no_keys (n ∷ ns) keys eight most h =
-    absurd (omega (arith, All-head (λ m. length m ≡ 8) n ns eight, All-head (λ m. length m ≤ 4) n ns most))
+no_keys (n ∷ ns) (k ∷ ks) eight most h =
+    absurd (omega (arith, All-head (λ m. length m ≡ 8) n ns eight, All-head (λ m. length m ≤ 4) n ns (most (omega arith))))
 
 -- ---- cells by ranks
 

@@ -12,10 +12,6 @@ use Rattle.viz_cells.specs.Steps.Pieces.{end_key, held, held_at, keys_in, pieces
 
 -- ---- masks
 
-bit_most : (b : Bool) → cond b 1 0 ≤ 1
-bit_most true = omega arith
-bit_most false = omega arith
-
 pub mask_four : (f : ℕ → Bool) (xs : List ℕ) (a b c d : ℕ) → length xs ≤ 4
     → (0 < length xs → a ≡ mask_of f (get_or xs 0 0 ∷ [])) → (1 < length xs → b ≡ mask_of f (get_or xs 1 0 ∷ [])) → (2 < length xs → c ≡ mask_of f (get_or xs 2 0 ∷ [])) → (3 < length xs → d ≡ mask_of f (get_or xs 3 0 ∷ []))
     → (length xs ≤ 0 → a ≡ 0) → (length xs ≤ 1 → b ≡ 0) → (length xs ≤ 2 → c ≡ 0) → (length xs ≤ 3 → d ≡ 0)
@@ -31,14 +27,6 @@ mask_four f (x ∷ y ∷ z ∷ []) a b c d l ha hb hc hd na nb nc nd =
 mask_four f (x ∷ y ∷ z ∷ w ∷ []) a b c d l ha hb hc hd na nb nc nd =
     omega (arith, ha (omega arith), hb (omega arith), hc (omega arith), hd (omega arith))
 mask_four f (x ∷ y ∷ z ∷ w ∷ v ∷ vs) a b c d l ha hb hc hd na nb nc nd = absurd (omega arith)
-
-pub mask_below : (f : ℕ → Bool) (xs : List ℕ) → length xs ≤ 4 → mask_of f xs < 2 ^ length xs
-mask_below f [] l = omega arith
-mask_below f (x ∷ []) l = omega (arith, bit_most (f x))
-mask_below f (x ∷ y ∷ []) l = omega (arith, bit_most (f x), bit_most (f y))
-mask_below f (x ∷ y ∷ z ∷ []) l = omega (arith, bit_most (f x), bit_most (f y), bit_most (f z))
-mask_below f (x ∷ y ∷ z ∷ w ∷ []) l = omega (arith, bit_most (f x), bit_most (f y), bit_most (f z), bit_most (f w))
-mask_below f (x ∷ y ∷ z ∷ w ∷ v ∷ vs) l = absurd (omega arith)
 
 -- ---- cases
 

@@ -13,7 +13,7 @@ use Rattle.viz_sheet.specs.Ranked.{AreRanks, IsCell, by_names, names_at}
 use Rattle.viz_sheet.proofs.PairOrder.{compare_as_ranks}
 use Rattle.viz_cells.specs.Steps.Numbered.{AreKeysOf, AreNumbered, keys_at}
 use Rattle.viz_cells.proofs.EdgeLemmas.{IsWholePiece}
-use Rattle.viz_cells.proofs.ListLemmas.{all-flat, flat-map, contains-unmap}
+use Rattle.viz_meaning.proofs.ListLemmas.{all-flat, flat-map, contains-unmap}
 
 -- equal keys have one rank
 one_rank : (keys : List ℕ) (i j : ℕ) → IsStrictlySortedBy nat_cmp keys → i < length keys → j < length keys → get_or keys i 0 ≡ get_or keys j 0 → i ≡ j

@@ -4,9 +4,9 @@ ghost use Rattle.viz_fraction.specs.Forms.{IsNarrowValue, value_of};
 ghost use Rattle.viz_sheet.specs.Arrays.{points_in};
 ghost use Rattle.viz_meaning.specs.Section.{is_inside_at, zero_point};
 
-use viz_piece::WorkStop;
 use std::alloc::Global;
 use viz_fraction::{Form, Point5, TooWide, is_inside, value};
+use viz_piece::WorkStop;
 use viz_sheet::Places;
 
 /// Whether each point is inside: the form's value there is at least 0.

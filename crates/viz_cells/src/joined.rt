@@ -7,9 +7,9 @@ use crate::key::{high, low};
 use std::alloc::{AllocError, Global};
 use viz_sheet::Leaves;
 
-/// The name of each key, by names of at most 4 leaves.
+/// The name of each key, by names of at most 4 leaves where there are keys.
 pub fn joined(alloc: Global, leaves: &Leaves, keys: &[u64]) -> Result<Leaves, AllocError>
-    requires most { All (λ n. length n ≤ 4) (names_in leaves.now) }
+    requires most { 1 ≤ length keys.now → All (λ n. length n ≤ 4) (names_in leaves.now) }
     requires keys { All (IsEdgeKey (length (names_in leaves.now))) keys.now }
     ensures value { IfOk result (λ l. names_in l ≡ map (key_name (names_in leaves.now)) keys.now) }
 {
@@ -61,9 +61,9 @@ fn joined_fours(
     Ok(pairs)
 }
 
-/// The same where there are no names, so that there are no keys.
+/// The same by names of 8 leaves, of which there are no keys.
 fn joined_none(alloc: Global, names: &[[u32; 8]], keys: &[u64]) -> Vec<[u32; 8]>
-    requires most { All (λ n. length n ≤ 4) names.now }
+    requires most { 1 ≤ length keys.now → All (λ n. length n ≤ 4) names.now }
     requires keys { All (IsEdgeKey (length names.now)) keys.now }
     ensures { result.items ≡ map (key_name names.now) keys.now }
 {

@@ -2,8 +2,9 @@
 //!
 //! Contract: `section` gives just the section of `viz_meaning`: the cells of all cells in order, by
 //! the names of their ends, the names ascending, and the crossing of each; `TooWide` comes only
-//! where a number of the section is wide, and a section only where none is. Definitions: those of
-//! `viz_meaning`; `specs/Steps/` has the words of private contracts.
+//! where a number of the section is wide, and a section only where none is. `sections` gives that
+//! of each sheet by each form. Definitions: those of `viz_meaning`; `specs/Steps/` has the words
+//! of private contracts.
 #![tactic(auto)]
 
 mod crossings;
@@ -14,9 +15,9 @@ mod key_list;
 mod numbering;
 mod piece;
 mod pieces;
-mod sections;
+mod sectioning;
 
-pub use sections::{section, sections};
+pub use sectioning::{section, sections};
 
 #[cfg(test)]
 mod tests;

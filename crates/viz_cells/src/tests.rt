@@ -1,6 +1,10 @@
 //! Sections of few cells, by hand from the table of docs/FORMATS.md.
 
+mod fit;
+mod many;
+
 use crate::section;
+use fit::is_fit;
 use std::alloc::Global;
 use std::process::Abort;
 use std::test::Fail;
@@ -78,7 +82,7 @@ fn sheet_by(alloc: Global, points: &[[i128; 5]], ranks: Ranks) -> Result<Sheet, 
 
 // The section, whatever comes of it.
 fn tried(rt: &impl Abort, alloc: Global, form: &Form, sheet: &Sheet) -> Result<Sheet, WorkStop> {
-    assert!(rt; sheet.leaves().size() <= 4);
+    assert!(rt; is_fit(sheet));
     section(alloc, form, sheet)
 }
 
@@ -314,6 +318,9 @@ fn a_section_is_cut_again(rt: HostRuntime) -> Result<(), Fail> {
         &[[1, 1, 1, 0, 1]],
         &[&[0]],
     );
+    // A vertex has no section, so its name of 8 leaves is no hindrance.
+    let none = tried(&rt, rt.alloc(), &above(0), &eight)?;
+    shows(&rt, &none, &[], &[], &[]);
     Ok(())
 }
 

@@ -1,5 +1,5 @@
 -- Cells of names of one leaf fit.
-use Rattle.std.proofs.Common.{◌≡◌, ℕ, ◌<◌, ◌≤◌, [], ◌∷◌, List, length, refl, sym, subst, ◌∙◌, ap, arith}
+use Rattle.std.proofs.Common.{◌≡◌, ℕ, ◌<◌, ◌≤◌, [], ◌∷◌, List, length, sym, subst, ◌∙◌, ap, arith}
 use Rattle.std.specs.List.{All, range_with_len}
 use Rattle.std.specs.Prelude.{slice_index_or}
 use Rattle.std.proofs.lemmas.List.{length-map}
@@ -12,7 +12,7 @@ use Rattle.viz_sheet.specs.Sheet.{SheetData, IsFit, most_names}
 
 -- the name at a rank has one leaf
 leaf_at : (count r : ℕ) → r < count → slice_index_or (leaf_names count) r [] ≡ r ∷ []
-leaf_at count r h = get_or-map-range_with_len (λ leaf. leaf ∷ []) 0 count r r [] h refl
+leaf_at count r h = get_or-map-range_with_len (λ leaf. leaf ∷ []) 0 count r r [] h (omega arith)
 
 -- a name of one leaf allows cells of 4
 allowed : (k : ℕ) (n : List ℕ) → k ≤ 4 → length n ≡ 1 → k ≤ most_names (length n)
@@ -30,5 +30,5 @@ fit_cell count cell c =
 pub leaf_sheet-fits : (count : ℕ) (points : List Point) (cells : List (List ℕ)) → All (IsCell count) cells → IsFit (sheet_with (leaf_names count) points cells)
 leaf_sheet-fits count points cells h = record {
   each = All-map (λ (cell : List (List ℕ)). All (λ n. length cell ≤ most_names (length n)) cell) (names_at (leaf_names count)) cells
-  (All-weaker (IsCell count) (λ cell. All (λ n. length (names_at (leaf_names count) cell) ≤ most_names (length n)) (names_at (leaf_names count) cell)) (fit_cell count) cells h);
+      (All-weaker (IsCell count) (λ cell. All (λ n. length (names_at (leaf_names count) cell) ≤ most_names (length n)) (names_at (leaf_names count) cell)) (fit_cell count) cells h);
 }

@@ -17,9 +17,22 @@ use crate::polys::poly_ranks;
 use std::alloc::{AllocError, Global};
 use viz_column::Column;
 use viz_mesh_read::{GridFile, PolyFile};
-use viz_sheet::{Leaves, Mesh, Places, Ranks, sheet_of};
+use viz_sheet::{Leaves, Mesh, Places, Ranks, Sheet, sheet_of};
 
-/// The mesh of one sheet: the points that these cells have, and the cells.
+/// The sheet of the points that these cells have, and the cells.
+fn leaf_sheet(alloc: Global, count: u32, places: Places, ranks: Ranks) -> Result<Sheet, AllocError>
+    requires points { length (points_in places) ≡ count }
+    requires cells { All (IsCell count) (ranks_in ranks) }
+    ensures value { IfOk result (λ s.
+        s ≡ sheet_with (leaf_names count) (points_in places) (ranks_in ranks)) }
+    ensures fits { IfOk result IsFit }
+{
+    let leaves = Leaves::of_points(alloc, count)?;
+    let sheet = sheet_of(alloc, leaves, places, ranks)?;
+    Ok(sheet)
+}
+
+/// The mesh of this sheet alone.
 fn mesh_with(alloc: Global, count: u32, places: Places, ranks: Ranks) -> Result<Mesh, AllocError>
     requires points { length (points_in places) ≡ count }
     requires cells { All (IsCell count) (ranks_in ranks) }
@@ -28,8 +41,7 @@ fn mesh_with(alloc: Global, count: u32, places: Places, ranks: Ranks) -> Result<
     ensures valid { IfOk result (All IsSheet) }
     ensures fits { IfOk result (All IsFit) }
 {
-    let leaves = Leaves::of_points(alloc, count)?;
-    let sheet = sheet_of(alloc, leaves, places, ranks)?;
+    let sheet = leaf_sheet(alloc, count, places, ranks)?;
     sheet.known();
     let mut sheets = Vec::with_capacity(alloc, 1)?;
     sheets.push(sheet)?;

@@ -1,10 +1,7 @@
--- Texts that grow at their end, and a pass over points, one point on.
+-- Texts that grow at their end, and a pass over items, one item on.
 use Rattle.std.proofs.Common.{◌≡◌, ℕ, ◌+◌, ◌<◌, List, [], ◌∷◌, ◌++◌, length, get_or, take, sym, ap, subst, ◌∙◌, append_assoc}
 use Rattle.std.specs.List.{flat_map}
 use Rattle.std.proofs.lemmas.List.{flat_map_more, take_more}
-use Rattle.std.proofs.lemmas.List.Elements.{All-more}
-use Rattle.viz_fraction.specs.Points.{Point}
-use Rattle.viz_legacy_write.specs.Parts.{FitsPlace, FitPlaces, FitsScalar, FitScalars}
 
 -- two pieces in turn are one longer piece
 pub appended : {X : Type 0} (old mid new a b : List X) → mid ≡ old ++ a → new ≡ mid ++ b → new ≡ old ++ (a ++ b)
@@ -15,11 +12,3 @@ pub lines_more : {X : Type 0} (f : X → List ℕ) (old text new : List ℕ) (xs
 lines_more {X} f old text new xs i x lt is so_far put =
     let front : take (i + 1) xs ≡ take i xs ++ x ∷ [] = take_more xs i x lt ∙ ap (λ (y : X). take i xs ++ y ∷ []) (sym is) in
     put ∙ ap (λ (t : List ℕ). t ++ f x) so_far ∙ flat_map_more f old (take i xs) x ∙ sym (ap (λ (t : List X). old ++ flat_map f t) front)
-
--- one point more has coordinates that fit
-pub places_more : (points : List Point) (i : ℕ) (p : Point) → i < length points → p ≡ get_or points i p → FitPlaces (take i points) → FitsPlace p → FitPlaces (take (i + 1) points)
-places_more points i p lt is so_far here = record { each = All-more FitsPlace points i p lt so_far.each (subst FitsPlace is here) }
-
--- one point more has a scalar that fits
-pub scalars_more : (points : List Point) (i : ℕ) (p : Point) → i < length points → p ≡ get_or points i p → FitScalars (take i points) → FitsScalar p → FitScalars (take (i + 1) points)
-scalars_more points i p lt is so_far here = record { each = All-more FitsScalar points i p lt so_far.each (subst FitsScalar is here) }

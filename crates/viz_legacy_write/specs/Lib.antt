@@ -1,4 +1,1 @@
-pub mod Fixed
-pub mod SurfaceText
 pub mod ImageText
-pub mod Parts

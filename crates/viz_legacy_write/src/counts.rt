@@ -1,9 +1,8 @@
 //! How many points and cells may be written.
 
 ghost use Rattle.std.specs.Prelude.{◌<◌, ◌^◌, ◌↔◌, IsTrue};
-ghost use Rattle.viz_legacy_write.specs.Fixed.{FitCounts};
 
-/// The greatest number of points, and of all cells' numbers.
+/// The greatest number of points, and of the numbers of a section of cells.
 const MOST: u64 = (1 << 31) - 1;
 
 /// Whether so many points, and cells of so many numbers in all, may be written: at most 2^31 - 1 of
@@ -12,12 +11,4 @@ pub fn counts_fit(points: u64, size: u64) -> bool
     ensures { IsTrue result ↔ ((points < 2 ^ 31) × (size < 2 ^ 31)) }
 {
     points <= MOST && size <= MOST
-}
-
-/// The same of points and triangles, each written as four numbers.
-pub(crate) fn surface_fits(points: usize, triangles: usize) -> bool
-    ensures { IsTrue result ↔ FitCounts points triangles }
-{
-    let triangles = triangles as u64;
-    triangles <= MOST && counts_fit(points as u64, 4 * triangles)
 }

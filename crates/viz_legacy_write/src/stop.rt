@@ -1,4 +1,4 @@
-//! Why a surface wasn't written.
+//! Why a dataset wasn't written.
 
 ghost use Rattle.std.specs.Prelude.{◌≡◌};
 ghost use Rattle.viz_legacy_write.specs.declared.stop.WriteStop.TheVariants.{TooWide as Wide, Memory};
@@ -7,7 +7,7 @@ use std::alloc::AllocError;
 use thiserror::Error;
 use viz_fraction::TooWide;
 
-/// Why a surface wasn't written.
+/// Why a dataset wasn't written.
 #[derive(Debug, Drop, Error)]
 pub enum WriteStop {
     /// The counts fit, and a written coordinate or scalar leaves 64 bits.

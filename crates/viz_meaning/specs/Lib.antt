@@ -3,3 +3,4 @@ pub mod Narrow
 pub mod Tetrahedra
 pub mod Names
 pub mod Laws
+pub mod SectionLaws

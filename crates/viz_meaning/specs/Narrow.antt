@@ -22,6 +22,11 @@ pub record IsNarrowSection (f : Form) (s : SheetData) : Type 0 where
   pub values : All (IsNarrowValue f) s.points
   pub crossings : All (IsNarrowName f s) (names_of (section_cells f s))
 
+-- no number of the section in one cell is wide: no term and no value at a corner, and no number of the crossing between two corners of which one is inside
+pub record IsNarrowCell (f : Form) (s : SheetData) (cell : List (List ℕ)) : Type 0 where
+  pub values : All (λ n. IsNarrowValue f (point_of s n)) cell
+  pub crossings : All (λ m. All (λ n. IsNarrowEdge f (point_of s m) (point_of s n)) cell) cell
+
 -- no number of any section of sheets by forms is wide
 pub record AreNarrowSections (forms : List Form) (sheets : List SheetData) : Type 0 where
   pub each : All (λ f. All (IsNarrowSection f) sheets) forms

@@ -1,6 +1,7 @@
 //! Laws of sections. A function that calls one may rest on it.
 
 ghost use Rattle.viz_meaning.specs.Laws.{EdgeHasOneName, NamesAreDetermined, PairsHaveEnds, SectionNamesAreUsed, SectionNamesAscend, SectionNamesHavePoints};
+ghost use Rattle.viz_meaning.specs.SectionLaws.{NarrowCellByCell, SectionFits, SectionHasNextNames, SectionIsSheet};
 
 /// The names of a section are the set of its cells' names, ascending, and each has a point.
 pub fn section_names_are_a_set()
@@ -14,4 +15,17 @@ pub fn section_names_are_a_set()
 pub fn edges_have_two_ends()
     ensures one { EdgeHasOneName }
     ensures both { PairsHaveEnds }
+{}
+
+/// A section of a sheet whose names have one length is a sheet, its names have twice as many
+/// leaves, and it fits if the sheet does.
+pub fn sections_are_sheets()
+    ensures sheet { SectionIsSheet }
+    ensures names { SectionHasNextNames }
+    ensures fits { SectionFits }
+{}
+
+/// A number of a section is wide just where one is in some cell.
+pub fn sections_are_wide_in_a_cell()
+    ensures cells { NarrowCellByCell }
 {}

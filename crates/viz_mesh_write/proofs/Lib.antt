@@ -1,6 +1,5 @@
 mod PointLemmas
 mod CellLemmas
-mod TallyLemmas
+pub mod TallyLemmas
 mod SectionLemmas
 mod TextLemmas
-mod SurfaceLemmas

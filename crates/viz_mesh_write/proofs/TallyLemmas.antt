@@ -105,7 +105,8 @@ count_by_sizes [] h = refl
 count_by_sizes (c ∷ cells) h =
     count_step c cells (All-head IsSized c cells h) (count_by_sizes cells (All-tail IsSized c cells h))
 
-size_cons : (c : List ℕ) (cells : List (List ℕ)) → size_of (c ∷ cells) ≡ suc (length c) + size_of cells
+-- the numbers of one cell more
+pub size_cons : (c : List ℕ) (cells : List (List ℕ)) → size_of (c ∷ cells) ≡ suc (length c) + size_of cells
 size_cons c cells =
     length-append (cell_numbers c) (flat_map cell_numbers cells) ∙ ap (λ (k : ℕ). k + size_of cells) (length-map (length c ∷ c) (λ (n : ℕ). pos n))
 

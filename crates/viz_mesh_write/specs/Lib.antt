@@ -2,5 +2,4 @@ pub mod MeshText
 pub mod Cells
 pub mod Rows
 pub mod Fits
-pub mod Surface
 pub mod Steps

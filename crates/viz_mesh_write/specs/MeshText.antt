@@ -6,9 +6,7 @@ use Rattle.viz_fraction.specs.Points.{Point}
 use Rattle.viz_fraction.specs.Decimals.{fixed_of}
 use Rattle.viz_column.specs.declared.kind.Kind8.TheVariants.{I32, I64}
 use Rattle.viz_sheet.specs.Sheet.{SheetData}
-use Rattle.viz_legacy_write.specs.Fixed.{scalar}
 use Rattle.viz_legacy_write.specs.ImageText.{form_line}
-use Rattle.viz_legacy_write.specs.SurfaceText.{points_line, scalars_head}
 use Rattle.viz_mesh_write.specs.Cells.{points_of, cells_of, of_size, has_tetrahedra}
 use Rattle.viz_mesh_write.specs.Rows.{block_text}
 
@@ -20,6 +18,10 @@ title_lines digits = codes "# vtk DataFile Version 3.0\nvizrun fixed 10^-" ++ de
 unfoldable pub dataset_line : Bool → List ℕ
 dataset_line true = codes "DATASET UNSTRUCTURED_GRID\n"
 dataset_line false = codes "DATASET POLYDATA\n"
+
+-- how many points, each of three signed numbers of 64 bits
+unfoldable pub points_line : ℕ → List ℕ
+points_line n = codes "POINTS " ++ decimal n ++ codes " long\n"
 
 -- the coordinates of a point, rounded down at so many places and counted in the last one
 abbrev pub coordinates : ℕ → Point → List ℤ
@@ -80,7 +82,15 @@ poly_text binary (cell ∷ cells) = parts_text binary (cell ∷ cells)
 abbrev pub cells_text : Bool → List (List ℕ) → List ℕ
 cells_text binary cells = if has_tetrahedra cells then grid_text binary cells else poly_text binary cells
 
+-- the lines in front of so many scalars
+unfoldable pub scalars_head : ℕ → List ℕ
+scalars_head n = codes "POINT_DATA " ++ decimal n ++ codes "\nSCALARS scalars long 1\nLOOKUP_TABLE default\n"
+
 -- the scalar of a point, rounded down
+abbrev pub scalar : Point → ℤ
+scalar p = fixed_of p.s p.w 0
+
+-- a row of it alone
 abbrev pub scalars : Point → List ℤ
 scalars p = scalar p ∷ []
 

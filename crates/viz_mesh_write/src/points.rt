@@ -5,11 +5,10 @@ ghost use Rattle.std.specs.Int.{w64};
 ghost use Rattle.viz_column.specs.declared.kind.Kind8.TheVariants.{I64};
 ghost use Rattle.viz_fraction.specs.Points.{Point};
 ghost use Rattle.viz_fraction.specs.Decimals.{fixed_of};
-ghost use Rattle.viz_legacy_write.specs.Fixed.{scalar};
 ghost use Rattle.viz_sheet.specs.Arrays.{points_in};
 ghost use Rattle.viz_mesh_write.specs.Cells.{points_of};
 ghost use Rattle.viz_mesh_write.specs.Fits.{FitsRow, FitRows};
-ghost use Rattle.viz_mesh_write.specs.MeshText.{coordinates, scalars};
+ghost use Rattle.viz_mesh_write.specs.MeshText.{coordinates, scalar, scalars};
 ghost use Rattle.viz_mesh_write.specs.Rows.{row_of};
 ghost use Rattle.viz_mesh_write.specs.Steps.Passes.{point_rows};
 

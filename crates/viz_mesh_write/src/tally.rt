@@ -11,9 +11,10 @@ ghost use Rattle.viz_mesh_write.specs.Steps.Tallies.{capped, IsCapped, IsReady, 
 
 use crate::cell_ranks::CellRanks;
 use crate::cell_rows::sheet_ranks;
+use viz_legacy_write::counts_fit;
 use viz_sheet::{Ranks, Sheet};
 
-/// The greatest number of points, and of the numbers of a section.
+/// The greatest number of points, and of the cells of one size.
 const MOST: u64 = (1 << 31) - 1;
 
 /// How many points, and how many cells of each size.
@@ -128,9 +129,11 @@ impl Tally {
         ensures { IsTrue result ↔ SectionsFit self.now }
     {
         if self.tetrahedra > 0 {
-            return self.size() <= MOST;
+            return counts_fit(self.points, self.size());
         }
-        2 * self.vertices <= MOST && 3 * self.lines <= MOST && 4 * self.triangles <= MOST
+        counts_fit(self.points, 2 * self.vertices)
+            && counts_fit(self.points, 3 * self.lines)
+            && counts_fit(self.points, 4 * self.triangles)
     }
 
     /// Whether the counts may be written.

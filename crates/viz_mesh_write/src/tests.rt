@@ -1,12 +1,12 @@
 //! Meshes whose texts are reckoned by hand.
 
-use crate::{triangles_are_a_surface, write_mesh};
+use crate::write_mesh;
 use std::alloc::Global;
 use std::process::Abort;
 use std::test::Fail;
 use viz_base::Bytes;
 use viz_fraction::{Point5, point, small};
-use viz_legacy_write::{Style, WriteStop, surface_text};
+use viz_legacy_write::{Style, WriteStop};
 use viz_sheet::{Leaves, Mesh, Mixed, Places, Ranks, Sheet, are_cells, sheet_of};
 
 const WORDS: Style = Style {
@@ -352,18 +352,67 @@ fn each_block_of_bytes_ends_with_a_newline(rt: HostRuntime) -> Result<(), Fail> 
     shows(&rt, rt.alloc(), sheets, &BYTES, TWO_KINDS)
 }
 
+/// The contour at 5 round one corner of a cube that is 9 there and 0 elsewhere, in ninths.
+const CORNER: [[i128; 5]; 7] = [
+    [5, 5, 5, 45, 9],
+    [9, 5, 5, 45, 9],
+    [5, 9, 5, 45, 9],
+    [9, 9, 5, 45, 9],
+    [5, 5, 9, 45, 9],
+    [9, 5, 9, 45, 9],
+    [5, 9, 9, 45, 9],
+];
+
+const SURFACE: &[u8] = b"# vtk DataFile Version 3.0
+vizrun fixed 10^-3
+ASCII
+DATASET POLYDATA
+POINTS 7 long
+555 555 555
+1000 555 555
+555 1000 555
+1000 1000 555
+555 555 1000
+1000 555 1000
+555 1000 1000
+POLYGONS 6 24
+3 1 0 3
+3 5 0 1
+3 3 0 2
+3 2 0 6
+3 4 0 5
+3 6 0 4
+POINT_DATA 7
+SCALARS scalars long 1
+LOOKUP_TABLE default
+5
+5
+5
+5
+5
+5
+5
+";
+
 #[test]
-fn a_sheet_of_triangles_is_written_as_a_surface(rt: HostRuntime) -> Result<(), Fail> {
-    triangles_are_a_surface();
-    let mut points = Vec::new(rt.alloc());
-    for row in &CORNERS {
-        points.push(point_of(*row)?)?;
-    }
-    let triangles = [[0, 1, 2], [2, 1, 3]];
-    let want = surface_text(rt.alloc(), &points, &triangles)?;
+fn a_surface_is_written(rt: HostRuntime) -> Result<(), Fail> {
+    let triangles = [
+        [1, 0, 3],
+        [5, 0, 1],
+        [3, 0, 2],
+        [2, 0, 6],
+        [4, 0, 5],
+        [6, 0, 4],
+    ];
     let ranks = Ranks::Triangles(Vec::from_array(rt.alloc(), triangles)?);
-    let sheets = vec![in rt.alloc(); corners(rt.alloc(), ranks)?]?;
-    shows(&rt, rt.alloc(), sheets, &WORDS, &want)
+    let sheet = sheet_by(rt.alloc(), 7, wide(rt.alloc(), &CORNER)?, ranks)?;
+    shows(
+        &rt,
+        rt.alloc(),
+        vec![in rt.alloc(); sheet]?,
+        &WORDS,
+        SURFACE,
+    )
 }
 
 // One point as a vertex.

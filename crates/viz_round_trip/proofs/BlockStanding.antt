@@ -41,12 +41,12 @@ stands-text n rows width points old within count full e =
 no_filler : IsFiller []
 no_filler = record { each = λ k d lt. absurd (omega arith) }
 
-stands-line_end : (old : Reading) (behind : List ℕ) → rest_of old ≡ 10 ∷ behind → Stands line_end old tt behind
+pub stands-line_end : (old : Reading) (behind : List ℕ) → rest_of old ≡ 10 ∷ behind → Stands line_end old tt behind
 stands-line_end old behind e =
     let ended : IsLineEnd (rest_of old) [] behind = record { parts = e; is_filler = no_filler } in
     record { new = advanced old 1; is = ([], behind, ended, refl); rest = rest_of-block old (10 ∷ []) behind e }
 
-stands-block : (old : Reading) (n : ℕ) (bytes behind : List ℕ) → length bytes ≡ n → rest_of old ≡ bytes ++ behind → Stands (block n) old bytes behind
+pub stands-block : (old : Reading) (n : ℕ) (bytes behind : List ℕ) → length bytes ≡ n → rest_of old ≡ bytes ++ behind → Stands (block n) old bytes behind
 stands-block old n bytes behind long e = record {
   new = advanced old n;
   is = (behind, e, long, refl);

@@ -31,7 +31,7 @@ one-line text e = record {
   each = All-weaker (λ b. not (nat_eq b 10) ≡ true) (λ b. b ≢ 10) (λ b h. eqb-false b 10 (differs (nat_eq b 10) h)) text (AllPass-from_list_all (λ b. not (nat_eq b 10)) text e);
 }
 
-stands-line : (kind : FileKind) (old : Reading) (text behind : List ℕ) → list_all (λ b. not (nat_eq b 10)) text ≡ true → rest_of old ≡ text ++ 10 ∷ behind → Stands (line kind) old text behind
+pub stands-line : (kind : FileKind) (old : Reading) (text behind : List ℕ) → list_all (λ b. not (nat_eq b 10)) text ≡ true → rest_of old ≡ text ++ 10 ∷ behind → Stands (line kind) old text behind
 stands-line kind old text behind one e =
     let next : IsNextLine (rest_of old) text behind = record { parts = e; one = one-line text one } in
     record { new = advanced old (length text + 1); is = (behind, next, refl); rest = rest_of-line old text behind next }

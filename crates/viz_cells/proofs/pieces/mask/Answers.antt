@@ -1,5 +1,6 @@
 use Rattle.std.proofs.Common.{ℕ, ◌^◌, ◌<◌, length, false, slice_index_or, subst, sym}
-use Rattle.viz_cells.proofs.PieceLemmas.{mask_four, mask_below}
+use Rattle.viz_cells.proofs.PieceLemmas.{mask_four}
+use Rattle.viz_meaning.proofs.BitLemmas.{mask_below}
 use Rattle.viz_cells.proofs.pieces.mask.Goals as goal
 
 pub returns-clause-value : goal.returns-clause-value
