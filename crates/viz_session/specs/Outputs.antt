@@ -9,7 +9,6 @@ use Rattle.viz_dataset.specs.declared.dataset.Dataset.TheVariants.{Image, Mesh}
 use Rattle.viz_meaning.specs.Section.{sections_of}
 use Rattle.viz_meaning.specs.Narrow.{AreNarrowSections}
 use Rattle.viz_meaning.specs.Tetrahedra.{sheets_of}
-use Rattle.viz_legacy_write.specs.Fixed.{places}
 use Rattle.viz_legacy_write.specs.ImageText.{image_text}
 use Rattle.viz_mesh_write.specs.Cells.{points_of, cells_of}
 use Rattle.viz_mesh_write.specs.Fits.{FitCounts, FitNumbers}
@@ -24,7 +23,11 @@ use Rattle.viz_session.specs.Threshold.{thresholded}
 abbrev pub cube_count : Bounds → ℕ
 cube_count b = (b.x1 - b.x0) * (b.y1 - b.y0) * (b.z1 - b.z0)
 
--- the text of a dataset, in words; of a mesh at three places
+-- at how many decimal places the coordinates of a mesh are written
+abbrev pub places : ℕ
+places = 3
+
+-- the text of a dataset, in words
 abbrev pub text_of : Dataset → List ℕ
 text_of (Image i) = image_text false i
 text_of (Mesh sheets) = mesh_text false places sheets

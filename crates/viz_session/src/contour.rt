@@ -3,7 +3,6 @@
 ghost use Rattle.std.specs.Prelude.{◌≡◌, ◌∷◌, [], ◌<◌, ◌^◌, All, IfOk, IsErrOf, OnOk, length};
 ghost use Rattle.viz_fraction.specs.Forms.{contour_form};
 ghost use Rattle.viz_legacy_read.specs.Reading.{IsSound};
-ghost use Rattle.viz_legacy_write.specs.Fixed.{places};
 ghost use Rattle.viz_meaning.specs.Narrow.{AreNarrowSections, IsNarrowSection};
 ghost use Rattle.viz_meaning.specs.Section.{section_of, sections_of};
 ghost use Rattle.viz_meaning.specs.Tetrahedra.{tetrahedra_sheet, sheets_of};
@@ -12,7 +11,7 @@ ghost use Rattle.viz_mesh_write.specs.Fits.{FitCounts, FitNumbers};
 ghost use Rattle.viz_mesh_write.specs.MeshText.{mesh_text};
 ghost use Rattle.viz_sheet.specs.Sheet.{IsFit, IsSheet};
 ghost use Rattle.viz_session.specs.Made.{MakesOf, capped};
-ghost use Rattle.viz_session.specs.Outputs.{IsNarrowContour, contoured};
+ghost use Rattle.viz_session.specs.Outputs.{IsNarrowContour, contoured, places};
 ghost use Rattle.viz_session.specs.declared.command.Filter.TheVariants.{Contour};
 
 use crate::made::{Made, STYLE};
