@@ -47,9 +47,14 @@ IsOfImage (OfImage h) = Unit {0}
 IsOfImage (OfMesh p) = ⊥
 
 -- the header of an image isn't that of a mesh
-pub no_mesh_file : (bytes : List ℕ) → IsImageFile bytes → IsMeshFile bytes → ⊥
+no_mesh_file : (bytes : List ℕ) → IsImageFile bytes → IsMeshFile bytes → ⊥
 no_mesh_file bytes image mesh =
     subst IsOfImage (header_is.one (front bytes) image.1.0 mesh.1.0 (OfImage image.0) (OfMesh mesh.0) image.1.1 mesh.1.1).0 tt
+
+-- the header of an image isn't that of a wrong input
+pub right_header : (filter : Filter) (bytes : List ℕ) → IsImageFile bytes → HasWrongInput filter bytes → ⊥
+right_header (Threshold lo hi) bytes image wrong = no_mesh_file bytes image wrong
+right_header (Contour level) bytes image wrong = wrong
 
 -- an image stands behind the header of an image alone, and a mesh doesn't
 behind-image : (h : Heading) (mid behind : lexer.Reading) (i : ImageData) → (contents First 0 h).is mid behind (dataset.Image i) → IsOfImage h
@@ -71,8 +76,8 @@ no_image bytes i reads mesh =
 
 -- the file of a mesh has
 of_mesh : (bytes : List ℕ) (h : Heading) → (IsOfImage h → ⊥) → ReadsHeader bytes h → IsMeshFile bytes
-of_mesh bytes (OfImage h) no reads = absurd (no tt)
-of_mesh bytes (OfMesh p) no reads = (p, reads)
+of_mesh bytes (OfImage h) other reads = absurd (other tt)
+of_mesh bytes (OfMesh p) other reads = (p, reads)
 
 mesh_file : (bytes : List ℕ) (m : List SheetData) → ReadsFile bytes (dataset.Mesh m) → IsMeshFile bytes
 mesh_file bytes m reads = of_mesh bytes reads.1.0 (behind-mesh reads.1.0 reads.1.1 reads.0 m reads.1.3) (reads.1.1, reads.1.2)

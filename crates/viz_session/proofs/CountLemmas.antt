@@ -65,8 +65,3 @@ pub cells_few : (sheets : List SheetData) → All IsSheet sheets → FitCounts s
 cells_few sheets known fits =
     let few = few_by (has_tetrahedra (cells_of sheets)) (cells_of sheets) (cells_sized 0 sheets known) refl fits.sizes in
     omega (arith, few)
-
-pub points_few : (sheets : List SheetData) → FitCounts sheets → capped (length (points_of sheets)) ≡ length (points_of sheets)
-points_few sheets fits =
-    let few = fits.points in
-    omega (arith, few)

@@ -1,4 +1,5 @@
 pub mod CommandLemmas
+pub mod ContourLemmas
 pub mod CountLemmas
 pub mod StopLemmas
 pub mod ServeLemmas

@@ -54,17 +54,17 @@ cube_to corner = unit_image cube (pos 0 ∷ pos 0 ∷ pos 0 ∷ pos 0 ∷ pos 0 
 
 -- a triangle in each of the six tetrahedra, and a point on each edge to that corner
 first_contour_cells : cells_made (Contour (pos 5)) (Image (cube_to (pos 9))) ≡ 6
-unfolding rows cells_at contoured
+unfolding rows cells_at gcd divisor_of contoured
 first_contour_cells = refl
 
 first_contour_points : points_made (Contour (pos 5)) (Image (cube_to (pos 9))) ≡ 7
-unfolding rows cells_at contoured
+unfolding rows cells_at gcd divisor_of contoured
 first_contour_points = refl
 
 -- a level above all values
 empty_contour : output_text (Contour (pos 10)) (Image (cube_to (pos 9)))
     ≡ codes "# vtk DataFile Version 3.0\nvizrun fixed 10^-3\nASCII\nDATASET POLYDATA\nPOINTS 0 long\nPOLYGONS 0 0\n"
-unfolding digits rows cells_at form_line mesh_titles mesh_line points_line points_text section_line section_text parts_text mesh_text contoured
+unfolding digits rows cells_at gcd divisor_of form_line mesh_titles mesh_line points_line points_text section_line section_text parts_text mesh_text contoured
 empty_contour = refl
 
 -- a line along x from the scalar 0 to the scalar 2

@@ -1,11 +1,11 @@
 //! The contour of a dataset.
 
-ghost use Rattle.std.specs.Prelude.{◌≡◌, ◌∷◌, [], ◌<◌, ◌^◌, All, IfOk, IsErrOf, OnOk, length};
+ghost use Rattle.std.specs.Prelude.{◌≡◌, ◌∷◌, [], All, IfOk, IsErrOf, OnOk, false, length};
 ghost use Rattle.viz_fraction.specs.Forms.{contour_form};
 ghost use Rattle.viz_legacy_read.specs.Reading.{IsSound};
-ghost use Rattle.viz_meaning.specs.Narrow.{AreNarrowSections, IsNarrowSection};
-ghost use Rattle.viz_meaning.specs.Section.{section_of, sections_of};
-ghost use Rattle.viz_meaning.specs.Tetrahedra.{tetrahedra_sheet, sheets_of};
+ghost use Rattle.viz_meaning.specs.Narrow.{AreNarrowSections};
+ghost use Rattle.viz_meaning.specs.Section.{sections_of};
+ghost use Rattle.viz_meaning.specs.Tetrahedra.{tetrahedra_sheet};
 ghost use Rattle.viz_mesh_write.specs.Cells.{cells_of, points_of};
 ghost use Rattle.viz_mesh_write.specs.Fits.{FitCounts, FitNumbers};
 ghost use Rattle.viz_mesh_write.specs.MeshText.{mesh_text};
@@ -41,11 +41,11 @@ fn contour_form(level: &i64) -> Form
 /// The contour of an image, as a mesh of one sheet.
 fn image_contour(alloc: Global, image: &Image, level: &i64) -> Result<Mesh, WorkStop>
     ensures value { IfOk result (λ mesh.
-        mesh ≡ section_of (contour_form level.now) (tetrahedra_sheet image.now) ∷ []) }
+        mesh ≡ sections_of (contour_form level.now ∷ []) (tetrahedra_sheet image.now ∷ [])) }
     ensures narrow { OnOk result
-        (IsNarrowSection (contour_form level.now) (tetrahedra_sheet image.now)) }
+        (AreNarrowSections (contour_form level.now ∷ []) (tetrahedra_sheet image.now ∷ [])) }
     ensures too_wide { IsErrOf result WorkStop.TooWide
-        → ¬ IsNarrowSection (contour_form level.now) (tetrahedra_sheet image.now) }
+        → ¬ AreNarrowSections (contour_form level.now ∷ []) (tetrahedra_sheet image.now ∷ []) }
 {
     let sheet = viz_contour::contour(alloc, level, image)?;
     let mut sheets = Vec::with_capacity(alloc, 1)?;
