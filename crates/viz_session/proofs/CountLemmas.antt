@@ -1,12 +1,12 @@
 -- How many cells and points sheets have, and that they are few where their text has counts that fit.
-use Rattle.std.proofs.Common.{◌≡◌, ℕ, ◌+◌, ◌<◌, ◌^◌, Bool, true, false, List, [], ◌∷◌, ◌++◌, length, get_or, map, take, refl, sym, ap, ap₂, ◌∙◌, ltb-false, arith}
+use Rattle.std.proofs.Common.{◌≡◌, ℕ, ◌+◌, ◌<◌, ◌^◌, Bool, true, false, List, [], ◌∷◌, ◌++◌, length, get_or, take, refl, sym, ap, ap₂, ◌∙◌, ltb-false, arith}
 use Rattle.std.specs.Prelude.{if◌then◌else◌}
 use Rattle.std.specs.List.{All, flat_map}
 use Rattle.std.proofs.lemmas.List.{length-map, length-append, flat_map_more, take_more}
 use Rattle.std.proofs.lemmas.List.Elements.{All-head, All-tail}
 use Rattle.viz_sheet.specs.Sheet.{SheetData, IsSheet}
 use Rattle.viz_sheet.specs.Ranked.{ranks_of}
-use Rattle.viz_mesh_write.specs.Cells.{moved, indices_in, cells_from, cells_of, of_size, has_tetrahedra, points_of}
+use Rattle.viz_mesh_write.specs.Cells.{moved, indices_in, cells_from, cells_of, of_size, has_tetrahedra}
 use Rattle.viz_mesh_write.specs.MeshText.{size_of}
 use Rattle.viz_mesh_write.specs.Fits.{FitCounts}
 use Rattle.viz_mesh_write.specs.Steps.Tallies.{IsSized}

@@ -18,6 +18,7 @@ use Rattle.viz_session.specs.declared.outcome.Status.TheVariants as status
 use Rattle.viz_session.specs.Account.{Deed, Nothing, Asked, Answered, calls_of, EndsUnwritten, EndsIn, Serves, IsPut, IsTold, HasFailed}
 use Rattle.viz_session.specs.Causes.{IsCause}
 use Rattle.viz_session.specs.Command.{Command}
+use Rattle.viz_session.specs.Outputs.{cells_made, points_made}
 use Rattle.viz_session.specs.Promises.{IsDone, IsRefused, TellsCauses, IsFault, FirstDid, FirstAnswered, GainsLine, fault_line}
 use Rattle.viz_session.specs.Report.{line_of}
 use Rattle.viz_session.proofs.CauseLemmas.{one_cause}
@@ -28,6 +29,10 @@ line_is : {O : Type 0} (m : out.Ghosts O) (told o : Outcome) (a : Answer) (old n
 line_is m told o a old new put is ok =
     let p : IsPut m o (Ok tt) old new = subst (λ (b : Answer). IsPut m o b old new) ok (subst (λ (x : Outcome). IsPut m x a old new) is put) in
     p.text
+
+-- the same of an equal outcome
+as_told : {O : Type 0} (m : out.Ghosts O) (told o : Outcome) (old new : O) → GainsLine m (line_of told) old new → told ≡ o → GainsLine m (line_of o) old new
+as_told m told o old new lines is = subst (λ (x : Outcome). GainsLine m (line_of x) old new) is lines
 
 -- ---- what a served command did, by its outcome
 
@@ -99,7 +104,7 @@ module _ {P : Type 0} (m : port.Ghosts P) where
         let d = written_deed s.0 s.1 w.0 w.1 s.3 in
         let ends = d.3.1 in
         let lines = line_is l told.0 o told.1 before after told.4 w.2 w.3 in
-        (s.0, d.0, d.1, s.2, d.3.0, subst (λ (x : Deed). FirstDid m s.0 x old new) d.2 s.4, λ t. lines t ∙ ap (λ (x : Outcome). l.text before ++ line_of x) ends)
+        (s.0, d.0, d.1, s.2, d.3.0, subst (λ (x : Deed). FirstDid m s.0 x old new) d.2 s.4, as_told l o (outcome.Written (cells_made s.0.filter d.1) (points_made s.0.filter d.1)) before after lines ends)
 
     pub refused-Run : ended ≡ status.Refused → IsRefused m l words old new before after
     refused-Run is =

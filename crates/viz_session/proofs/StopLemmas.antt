@@ -1,5 +1,5 @@
 -- The refusals that stand for a stop of the work or of the writing, and those of a contour.
-use Rattle.std.proofs.Common.{◌≡◌, ℤ, Result, Ok, Err, refl, sym, subst, inl, inr}
+use Rattle.std.proofs.Common.{◌≡◌, Result, Ok, Err, refl, sym, subst, inl, inr}
 use Rattle.std.specs.Prelude.{IsErrAnd}
 use Rattle.viz_dataset.specs.declared.dataset.Dataset.{Dataset}
 use Rattle.viz_piece.specs.declared.stop.WorkStop.{WorkStop}

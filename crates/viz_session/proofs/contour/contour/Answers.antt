@@ -1,6 +1,6 @@
 use Rattle.std.proofs.Common.{Err, ap}
 use Rattle.viz_session.specs.declared.command.Filter.TheVariants.{Contour}
-use Rattle.viz_session.proofs.StopLemmas.{stopped_work, stopped_write}
+use Rattle.viz_session.proofs.StopLemmas.{stopped_work}
 use Rattle.viz_session.proofs.contour.contour.Goals as goal
 
 pub returns-in_err-mesh : goal.returns-in_err-mesh
