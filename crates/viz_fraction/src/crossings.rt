@@ -7,16 +7,17 @@ ghost use Rattle.viz_fraction.specs.Mixes.{mix_of, mixed_of, IsLowestWeights, Is
 
 use crate::divisors::common_divisor;
 use crate::numbers::{Numbers, magnitude};
-use crate::points::{Point5, TooWide, lowest_terms};
+use crate::points::{Point5, TooWide, lowest_terms, point_as_it_stands};
 use crate::products::{product, sum};
+use crate::short_crossings::{is_short_crossing, short_crossing};
 use crate::steps::step_divisor;
 
 /// What an outside and an inside end count for in their crossing: positive numbers or 0, without a
 /// common divisor but 1.
 #[derive(Clone, Copy)]
-struct Weights {
-    outside: i128,
-    inside: i128,
+pub(crate) struct Weights {
+    pub outside: i128,
+    pub inside: i128,
 }
 
 /// The crossing of a form on the edge from an inside end `a`, where its value is `la`, to an
@@ -33,7 +34,37 @@ pub fn crossing(la: i128, a: &Point5, lb: i128, b: &Point5) -> Result<Point5, To
     ensures value { IfOk result (λ p. p ≡ crossing_of la a.now lb b.now) }
     ensures succeeds { IsOk result ↔ IsNarrowCrossing la a.now lb b.now }
 {
-    crossing_at(&weights_of(&la, &lb), &a.numbers(), &b.numbers())
+    crossing_of_numbers(&la, &a.numbers(), &lb, &b.numbers())
+}
+
+/// The same of the ends' numbers: in 64 bits where they are short.
+fn crossing_of_numbers(la: &i128, a: &Numbers, lb: &i128, b: &Numbers) -> Result<Point5, TooWide>
+    requires outside { lb.now <ℤ pos 0 }
+    requires narrow_inside { IsNarrow la.now }
+    requires narrow_outside { IsNarrow lb.now }
+    requires valid_inside { IsPoint (point_of a.now) }
+    requires valid_outside { IsPoint (point_of b.now) }
+    ensures value { IfOk result (λ p. p ≡ crossing_of la.now (point_of a.now) lb.now (point_of b.now)) }
+    ensures succeeds { IsOk result ↔ IsNarrowCrossing la.now (point_of a.now) lb.now (point_of b.now) }
+{
+    if is_short_crossing(la, a, lb, b) {
+        return Ok(point_as_it_stands(&short_crossing(la, a, lb, b)));
+    }
+    wide_crossing(la, a, lb, b)
+}
+
+/// The same of any numbers.
+#[inline(never)]
+fn wide_crossing(la: &i128, a: &Numbers, lb: &i128, b: &Numbers) -> Result<Point5, TooWide>
+    requires outside { lb.now <ℤ pos 0 }
+    requires narrow_inside { IsNarrow la.now }
+    requires narrow_outside { IsNarrow lb.now }
+    requires valid_inside { IsPoint (point_of a.now) }
+    requires valid_outside { IsPoint (point_of b.now) }
+    ensures value { IfOk result (λ p. p ≡ crossing_of la.now (point_of a.now) lb.now (point_of b.now)) }
+    ensures succeeds { IsOk result ↔ IsNarrowCrossing la.now (point_of a.now) lb.now (point_of b.now) }
+{
+    crossing_at(&weights_of(la, lb), a, b)
 }
 
 /// The crossing of two ends with their weights.

@@ -15,6 +15,19 @@ pub(crate) fn with_magnitude(divisor: u128, magnitude: u128) -> u128
     common_divisor(divisor, magnitude)
 }
 
+/// The same of numbers of a machine word.
+pub(crate) fn with_word(divisor: u64, magnitude: u64) -> u64
+    ensures { result ≡ gcd divisor magnitude }
+{
+    if divisor == 0 {
+        return magnitude;
+    }
+    if divisor == 1 {
+        return 1;
+    }
+    word_divisor(divisor, magnitude)
+}
+
 /// The greatest number that divides both, and the other number where one is 0.
 pub(crate) fn common_divisor(a: u128, b: u128) -> u128
     ensures { result ≡ gcd a b }

@@ -1,0 +1,18 @@
+-- Crossings whose numbers fit a machine word of 64 bits on the way (docs/FORMATS.md, "Exact points").
+use Rattle.std.specs.Prelude.{ℕ, ◌+◌, ◌^◌, ◌<◌, ℤ, FitsSigned, unsigned_abs}
+use Rattle.std.specs.Int.{w32}
+use Rattle.viz_fraction.specs.Points.{Point}
+
+-- all five numbers fit signed 32 bits
+pub record IsShort (p : Point) : Type 0 where
+  pub x : FitsSigned w32 p.x
+  pub y : FitsSigned w32 p.y
+  pub z : FitsSigned w32 p.z
+  pub s : FitsSigned w32 p.s
+  pub w : FitsSigned w32 p.w
+
+-- both ends are short, and how far their values are apart fits 32 bits
+pub record IsShortCrossing (la : ℤ) (a : Point) (lb : ℤ) (b : Point) : Type 0 where
+  pub values : unsigned_abs la + unsigned_abs lb < 2 ^ 32
+  pub inside : IsShort a
+  pub outside : IsShort b
