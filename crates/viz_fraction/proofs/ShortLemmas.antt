@@ -1,20 +1,19 @@
 -- Bounds of short ends, and of what their crossings are made of.
-use Rattle.std.proofs.Common.{◌≡◌, ℕ, ◌+◌, ◌*◌, ◌/◌, ◌^◌, ◌<◌, ◌≤◌, ℤ, pos, negsuc, ap, subst, sym, arith}
+use Rattle.std.proofs.Common.{◌≡◌, ℕ, ◌+◌, ◌*◌, ◌/◌, ◌^◌, ◌<◌, ◌≤◌, ℤ, pos, negsuc, ap₂, subst, sym, arith}
 use Rattle.std.specs.Prelude.{◌+ℤ◌, ◌*ℤ◌, ◌≤ℤ◌, ◌<ℤ◌, unsigned_abs, FitsSigned}
 use Rattle.std.specs.Int.{w32, w64}
-use Rattle.std.proofs.Math.Nat.{mul-le-mul_left, div-le_self, le-mul_of_pos_right}
-use Rattle.std.proofs.lemmas.Int.{ints, unsigned_abs-mul, fits_signed_from_abs}
-use Rattle.std.proofs.lemmas.Nat.Gcd.{le_of_dvd}
-use Rattle.viz_fraction.specs.Divisors.{gcd}
-use Rattle.viz_fraction.specs.Points.{Point, IsNarrow, IsNarrowPoint, divisor_of}
+use Rattle.std.proofs.Math.Nat.{mul-le-mul_left, le-mul_of_pos_right}
+use Rattle.std.proofs.lemmas.Int.{ints, unsigned_abs-mul, fits_signed_from_abs, quot_fits}
+use Rattle.viz_fraction.specs.Points.{Point, IsNarrow, IsNarrowPoint, divisor_of, reduced}
+use Rattle.viz_fraction.specs.Numbers.{point_of}
 use Rattle.viz_fraction.specs.Small.{IsSmall}
 use Rattle.viz_fraction.specs.Short.{IsShort, IsShortCrossing}
 use Rattle.viz_fraction.specs.declared.crossings.Weights.{Weights}
 use Rattle.viz_fraction.specs.declared.numbers.Numbers.{Numbers}
-use Rattle.viz_fraction.specs.Mixes.{IsLowestWeights, mixed_of}
-use Rattle.viz_fraction.specs.Crossings.{outside_weight, inside_weight, IsNarrowCrossing}
+use Rattle.viz_fraction.specs.Mixes.{IsLowestWeights, IsNarrowSum, IsNarrowMix, IsShortMix, mixed_of}
+use Rattle.viz_fraction.specs.Crossings.{outside_weight, inside_weight}
 use Rattle.viz_fraction.proofs.IntegersLemmas.{abs-sum_le}
-use Rattle.viz_fraction.proofs.PointsLemmas.{divisor_is, weight_above_0}
+use Rattle.viz_fraction.proofs.PointsLemmas.{divisor_above_0}
 
 -- a product with a number of 32 bits
 pub abs-product_le : (m z : ℤ) → FitsSigned w32 z → unsigned_abs (m *ℤ z) ≤ unsigned_abs m * 2 ^ 31
@@ -42,13 +41,6 @@ product_fits m z less fits =
     let below : unsigned_abs (m *ℤ z) < 2 ^ 63 = omega (arith, most, less) in
     fits_signed_from_abs w64 (m *ℤ z) below
 
--- weights are no more than the values that they are made of
-pub weights_near : (m n g : ℕ) → m + n < 2 ^ 32 → m / g + n / g < 2 ^ 32
-weights_near m n g near =
-    let one = div-le_self m g in
-    let other = div-le_self n g in
-    omega (arith, one, other)
-
 -- small numbers aren't wide
 pub small_is_narrow : (p : Point) → IsSmall p → IsNarrowPoint p
 small_is_narrow p small =
@@ -63,53 +55,41 @@ small_is_narrow p small =
     narrow : (z : ℤ) → FitsSigned w64 z → IsNarrow z
     narrow z fits = omega (arith, ints)
 
-narrow_term : (k : ℕ) (z : ℤ) → k < 2 ^ 32 → FitsSigned w32 z → IsNarrow (pos k *ℤ z)
-narrow_term k z less fits =
-    let most = abs-product_le (pos k) z fits in
-    omega (arith, most, less)
-
-narrow_sum : (m n : ℕ) (a b : ℤ) → m + n < 2 ^ 32 → FitsSigned w32 a → FitsSigned w32 b → IsNarrow (pos m *ℤ b +ℤ pos n *ℤ a)
+narrow_sum : (m n a b : ℤ) → unsigned_abs m + unsigned_abs n < 2 ^ 32 → FitsSigned w32 a → FitsSigned w32 b → IsNarrowSum (m *ℤ b) (n *ℤ a)
 narrow_sum m n a b near fits_a fits_b =
-    let most = abs-mix_lt (pos m) (pos n) a b near fits_a fits_b in
-    omega (arith, most)
-
--- nothing in the crossing of short ends is wide
-pub short_is_narrow : (la : ℤ) (a : Point) (lb : ℤ) (b : Point) → IsShortCrossing la a lb b → IsNarrowCrossing la a lb b
-short_is_narrow la a lb b h =
-    let m = outside_weight la lb in
-    let n = inside_weight la lb in
-    let near : m + n < 2 ^ 32 = weights_near (unsigned_abs la) (unsigned_abs lb) (gcd (unsigned_abs la) (unsigned_abs lb)) h.values in
-    let less_m : m < 2 ^ 32 = omega (arith, near) in
-    let less_n : n < 2 ^ 32 = omega (arith, near) in
+    let one = abs-product_le m b fits_b in
+    let other = abs-product_le n a fits_a in
+    let both = abs-mix_lt m n a b near fits_a fits_b in
     record {
-      outside = record {
-        x = narrow_term m b.x less_m h.outside.x;
-        y = narrow_term m b.y less_m h.outside.y;
-        z = narrow_term m b.z less_m h.outside.z;
-        s = narrow_term m b.s less_m h.outside.s;
-        w = narrow_term m b.w less_m h.outside.w;
-      };
-      inside = record {
-        x = narrow_term n a.x less_n h.inside.x;
-        y = narrow_term n a.y less_n h.inside.y;
-        z = narrow_term n a.z less_n h.inside.z;
-        s = narrow_term n a.s less_n h.inside.s;
-        w = narrow_term n a.w less_n h.inside.w;
-      };
-      sum = record {
-        x = narrow_sum m n a.x b.x near h.inside.x h.outside.x;
-        y = narrow_sum m n a.y b.y near h.inside.y h.outside.y;
-        z = narrow_sum m n a.z b.z near h.inside.z h.outside.z;
-        s = narrow_sum m n a.s b.s near h.inside.s h.outside.s;
-        w = narrow_sum m n a.w b.w near h.inside.w h.outside.w;
-      };
+      first = omega (arith, one, near);
+      second = omega (arith, other, near);
+      sum = omega (arith, both);
     }
 
--- the divisor of small numbers fits too
-pub divisor_fits : (p : Point) → pos 0 <ℤ p.w → FitsSigned w64 p.w → divisor_of p < 2 ^ 63
-divisor_fits p positive fits =
-    let least = le_of_dvd (weight_above_0 p.w positive) (divisor_is p).common.w in
-    omega (arith, ints, least)
+-- nothing in the weighted sum of short ends is wide
+pub short_is_narrow : (k : Weights) (a b : Numbers) → IsShortMix k a b → IsNarrowMix k a b
+short_is_narrow k a b h =
+    record {
+      x = narrow_sum k.outside k.inside a.x b.x h.weights h.inside.x h.outside.x;
+      y = narrow_sum k.outside k.inside a.y b.y h.weights h.inside.y h.outside.y;
+      z = narrow_sum k.outside k.inside a.z b.z h.weights h.inside.z h.outside.z;
+      s = narrow_sum k.outside k.inside a.s b.s h.weights h.inside.s h.outside.s;
+      w = narrow_sum k.outside k.inside a.w b.w h.weights h.inside.w h.outside.w;
+    }
+
+-- lowest terms of small numbers are small
+pub reduced_small : (p : Point) → pos 0 <ℤ p.w → IsSmall p → IsSmall (reduced p)
+reduced_small p positive small =
+    let d = divisor_of p in
+    let some = divisor_above_0 p positive in
+    let above : pos 0 <ℤ pos d = omega (arith, ints) in
+    record {
+      x = quot_fits w64 p.x (pos d) small.x above;
+      y = quot_fits w64 p.y (pos d) small.y above;
+      z = quot_fits w64 p.z (pos d) small.z above;
+      s = quot_fits w64 p.s (pos d) small.s above;
+      w = quot_fits w64 p.w (pos d) small.w above;
+    }
 
 -- a weighted sum of positive numbers, whose second weight is positive
 positive_mix : (m n a b : ℤ) → pos 0 ≤ℤ m → pos 0 <ℤ n → pos 0 <ℤ a → pos 0 <ℤ b → pos 0 <ℤ (m *ℤ b +ℤ n *ℤ a)
@@ -127,3 +107,15 @@ pub mixed_positive : (k : Weights) (a b n : Numbers) → IsLowestWeights k → n
 mixed_positive k a b n lowest mixed positive_a positive_b =
     let P : Numbers → Type 0 = λ m. pos 0 <ℤ m.w in
     subst P (sym mixed) (positive_mix k.outside k.inside a.w b.w lowest.outside lowest.inside positive_a positive_b)
+
+-- the code's weights and ends are short where the crossing's are
+pub short_crossing : (k : Weights) (na nb : Numbers) (la : ℤ) (a : Point) (lb : ℤ) (b : Point)
+    → k.outside ≡ pos (outside_weight la lb) → k.inside ≡ pos (inside_weight la lb) → point_of na ≡ a → point_of nb ≡ b
+    → (IsShortMix k na nb → IsShortCrossing la a lb b) × (IsShortCrossing la a lb b → IsShortMix k na nb)
+short_crossing k na nb la a lb b outside inside is_a is_b =
+    let both : unsigned_abs k.outside + unsigned_abs k.inside ≡ outside_weight la lb + inside_weight la lb =
+    ap₂ (λ m n. unsigned_abs m + unsigned_abs n) outside inside in
+    let B : ℕ → Type 0 = λ n. n < 2 ^ 32 in (
+      λ h. record { weights = subst B both h.weights; inside = subst IsShort is_a h.inside; outside = subst IsShort is_b h.outside },
+      λ h. record { weights = subst B (sym both) h.weights; inside = subst IsShort (sym is_a) h.inside; outside = subst IsShort (sym is_b) h.outside },
+    )

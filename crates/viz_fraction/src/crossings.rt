@@ -7,9 +7,9 @@ ghost use Rattle.viz_fraction.specs.Mixes.{mix_of, mixed_of, IsLowestWeights, Is
 
 use crate::divisors::common_divisor;
 use crate::numbers::{Numbers, magnitude};
-use crate::points::{Point5, TooWide, lowest_terms, point_as_it_stands};
+use crate::points::{Point5, TooWide, lowest_terms};
 use crate::products::{product, sum};
-use crate::short_crossings::{is_short_crossing, short_crossing};
+use crate::short_crossings::{are_short, short_mixed};
 use crate::steps::step_divisor;
 
 /// What an outside and an inside end count for in their crossing: positive numbers or 0, without a
@@ -34,37 +34,7 @@ pub fn crossing(la: i128, a: &Point5, lb: i128, b: &Point5) -> Result<Point5, To
     ensures value { IfOk result (λ p. p ≡ crossing_of la a.now lb b.now) }
     ensures succeeds { IsOk result ↔ IsNarrowCrossing la a.now lb b.now }
 {
-    crossing_of_numbers(&la, &a.numbers(), &lb, &b.numbers())
-}
-
-/// The same of the ends' numbers: in 64 bits where they are short.
-fn crossing_of_numbers(la: &i128, a: &Numbers, lb: &i128, b: &Numbers) -> Result<Point5, TooWide>
-    requires outside { lb.now <ℤ pos 0 }
-    requires narrow_inside { IsNarrow la.now }
-    requires narrow_outside { IsNarrow lb.now }
-    requires valid_inside { IsPoint (point_of a.now) }
-    requires valid_outside { IsPoint (point_of b.now) }
-    ensures value { IfOk result (λ p. p ≡ crossing_of la.now (point_of a.now) lb.now (point_of b.now)) }
-    ensures succeeds { IsOk result ↔ IsNarrowCrossing la.now (point_of a.now) lb.now (point_of b.now) }
-{
-    if is_short_crossing(la, a, lb, b) {
-        return Ok(point_as_it_stands(&short_crossing(la, a, lb, b)));
-    }
-    wide_crossing(la, a, lb, b)
-}
-
-/// The same of any numbers.
-#[inline(never)]
-fn wide_crossing(la: &i128, a: &Numbers, lb: &i128, b: &Numbers) -> Result<Point5, TooWide>
-    requires outside { lb.now <ℤ pos 0 }
-    requires narrow_inside { IsNarrow la.now }
-    requires narrow_outside { IsNarrow lb.now }
-    requires valid_inside { IsPoint (point_of a.now) }
-    requires valid_outside { IsPoint (point_of b.now) }
-    ensures value { IfOk result (λ p. p ≡ crossing_of la.now (point_of a.now) lb.now (point_of b.now)) }
-    ensures succeeds { IsOk result ↔ IsNarrowCrossing la.now (point_of a.now) lb.now (point_of b.now) }
-{
-    crossing_at(&weights_of(la, lb), a, b)
+    crossing_at(&weights_of(&la, &lb), &a.numbers(), &b.numbers())
 }
 
 /// The crossing of two ends with their weights.
@@ -80,7 +50,7 @@ fn crossing_at(weights: &Weights, a: &Numbers, b: &Numbers) -> Result<Point5, To
 }
 
 /// The weights of an outside end of value `lb` and an inside end of value `la`.
-fn weights_of(la: &i128, lb: &i128) -> Weights
+pub(crate) fn weights_of(la: &i128, lb: &i128) -> Weights
     requires outside { lb.now <ℤ pos 0 }
     requires narrow_inside { IsNarrow la.now }
     requires narrow_outside { IsNarrow lb.now }
@@ -106,11 +76,26 @@ fn share(magnitude: u128, divisor: u128) -> i128
     if divisor == 1 {
         return magnitude as i128;
     }
+    if magnitude <= u64::MAX as u128 && divisor <= u64::MAX as u128 {
+        return i128::from(magnitude as u64 / divisor as u64);
+    }
     (magnitude / divisor) as i128
 }
 
 /// The outside end times its weight and the inside end times its weight, together.
 fn mixed(weights: &Weights, a: &Numbers, b: &Numbers) -> Result<Numbers, TooWide>
+    ensures value { IfOk result (λ n. n ≡ mixed_of weights.now a.now b.now) }
+    ensures succeeds { IsOk result ↔ IsNarrowMix weights.now a.now b.now }
+{
+    if are_short(weights, a, b) {
+        return Ok(short_mixed(weights, a, b));
+    }
+    long_mixed(weights, a, b)
+}
+
+/// The same of any numbers.
+#[inline(never)]
+fn long_mixed(weights: &Weights, a: &Numbers, b: &Numbers) -> Result<Numbers, TooWide>
     ensures value { IfOk result (λ n. n ≡ mixed_of weights.now a.now b.now) }
     ensures succeeds { IsOk result ↔ IsNarrowMix weights.now a.now b.now }
 {

@@ -3,6 +3,7 @@ ghost use Rattle.std.specs.Prelude.{◌≡◌, ℕ, ◌<◌, ◌%◌};
 ghost use Rattle.viz_fraction.specs.Divisors.{gcd};
 
 /// The greatest common divisor of a divisor and one magnitude more; quick where the divisor is 1.
+#[inline]
 pub(crate) fn with_magnitude(divisor: u128, magnitude: u128) -> u128
     ensures { result ≡ gcd divisor magnitude }
 {
@@ -13,19 +14,6 @@ pub(crate) fn with_magnitude(divisor: u128, magnitude: u128) -> u128
         return 1;
     }
     common_divisor(divisor, magnitude)
-}
-
-/// The same of numbers of a machine word.
-pub(crate) fn with_word(divisor: u64, magnitude: u64) -> u64
-    ensures { result ≡ gcd divisor magnitude }
-{
-    if divisor == 0 {
-        return magnitude;
-    }
-    if divisor == 1 {
-        return 1;
-    }
-    word_divisor(divisor, magnitude)
 }
 
 /// The greatest number that divides both, and the other number where one is 0.

@@ -49,7 +49,18 @@ pub(crate) fn quotient(n: &i128, divisor: &i128) -> i128
     requires { pos 0 <ℤ divisor.now }
     ensures { result ≡ int_div n.now divisor.now }
 {
+    if is_word(n) && is_word(divisor) {
+        return word_quotient(*n as i64, *divisor as i64);
+    }
     *n / *divisor
+}
+
+/// The same of numbers of 64 bits.
+fn word_quotient(n: i64, divisor: i64) -> i128
+    requires { pos 0 <ℤ divisor }
+    ensures { result ≡ int_div n divisor }
+{
+    i128::from(n / divisor)
 }
 
 /// The number fits 64 bits.

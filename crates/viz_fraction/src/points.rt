@@ -147,7 +147,7 @@ pub(crate) fn lowest_terms(start: u128, n: &Numbers) -> Point5
 {
     let divisor = divisor_of_five(start, n);
     if divisor == 1 {
-        return whole(n);
+        return point_as_it_stands(n);
     }
     divided(n, &(divisor as i128))
 }
@@ -162,22 +162,6 @@ fn divisor_of_five(start: u128, n: &Numbers) -> u128
     let with_y = with_magnitude(with_x, magnitude(&n.y));
     let with_z = with_magnitude(with_y, magnitude(&n.z));
     with_magnitude(with_z, magnitude(&n.s))
-}
-
-/// Five numbers in lowest terms as they stand.
-fn whole(n: &Numbers) -> Point5
-    requires positive { pos 0 <ℤ n.now.w }
-    requires narrow { IsNarrowPoint (point_of n.now) }
-    requires lowest { divisor_of (point_of n.now) ≡ 1 }
-    ensures { result ≡ reduced (point_of n.now) }
-{
-    Point5 {
-        x: n.x,
-        y: n.y,
-        z: n.z,
-        s: n.s,
-        w: n.w,
-    }
 }
 
 /// Five numbers divided by their greatest common divisor.
