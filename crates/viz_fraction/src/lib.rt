@@ -39,6 +39,8 @@ pub use short_crossings::small_crossing;
 pub use small_points::{SmallPoint, small};
 
 #[cfg(test)]
+mod border_tests;
+#[cfg(test)]
 mod case_tests;
 #[cfg(test)]
 mod tests;

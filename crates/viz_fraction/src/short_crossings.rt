@@ -61,16 +61,9 @@ fn short_crossing(weights: &Weights, a: &Numbers, b: &Numbers) -> Point5
 pub(crate) fn are_short(weights: &Weights, a: &Numbers, b: &Numbers) -> bool
     ensures { IsTrue result ↔ IsShortMix weights.now a.now b.now }
 {
-    are_light(weights) && is_short(a) && is_short(b)
-}
-
-/// The weights together fit 32 bits.
-fn are_light(weights: &Weights) -> bool
-    ensures { IsTrue result ↔ (unsigned_abs weights.now.outside + unsigned_abs weights.now.inside < 2 ^ 32) }
-{
     let outside = magnitude(&weights.outside);
     let inside = magnitude(&weights.inside);
-    outside < LIMIT && inside < LIMIT && outside + inside < LIMIT
+    outside < LIMIT && inside < LIMIT && outside + inside < LIMIT && is_short(a) && is_short(b)
 }
 
 /// All five numbers fit 32 bits.
