@@ -38,6 +38,7 @@ pub fn crossing(la: i128, a: &Point5, lb: i128, b: &Point5) -> Result<Point5, To
 }
 
 /// The crossing of two ends with their weights.
+#[inline(always)]
 fn crossing_at(weights: &Weights, a: &Numbers, b: &Numbers) -> Result<Point5, TooWide>
     requires inside { IsPoint (point_of a.now) }
     requires outside { IsPoint (point_of b.now) }
@@ -50,6 +51,7 @@ fn crossing_at(weights: &Weights, a: &Numbers, b: &Numbers) -> Result<Point5, To
 }
 
 /// The weights of an outside end of value `lb` and an inside end of value `la`.
+#[inline(always)]
 pub(crate) fn weights_of(la: &i128, lb: &i128) -> Weights
     requires outside { lb.now <ℤ pos 0 }
     requires narrow_inside { IsNarrow la.now }
@@ -68,6 +70,7 @@ pub(crate) fn weights_of(la: &i128, lb: &i128) -> Weights
 }
 
 /// A magnitude divided by a divisor of it.
+#[inline(always)]
 fn share(magnitude: u128, divisor: u128) -> i128
     requires some { 0 < divisor }
     requires narrow { magnitude ≤ 2 ^ 120 }
@@ -83,6 +86,7 @@ fn share(magnitude: u128, divisor: u128) -> i128
 }
 
 /// The outside end times its weight and the inside end times its weight, together.
+#[inline(always)]
 fn mixed(weights: &Weights, a: &Numbers, b: &Numbers) -> Result<Numbers, TooWide>
     ensures value { IfOk result (λ n. n ≡ mixed_of weights.now a.now b.now) }
     ensures succeeds { IsOk result ↔ IsNarrowMix weights.now a.now b.now }

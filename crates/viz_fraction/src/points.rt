@@ -139,6 +139,7 @@ fn narrow_point(n: &Numbers) -> Result<Point5, TooWide>
 }
 
 /// The point of five numbers, of whose greatest common divisor `start` is a multiple; 0 is one.
+#[inline(always)]
 pub(crate) fn lowest_terms(start: u128, n: &Numbers) -> Point5
     requires positive { pos 0 <ℤ n.now.w }
     requires narrow { IsNarrowPoint (point_of n.now) }
@@ -153,6 +154,7 @@ pub(crate) fn lowest_terms(start: u128, n: &Numbers) -> Point5
 }
 
 /// The greatest common divisor of five numbers, of which `start` is a multiple.
+#[inline(always)]
 fn divisor_of_five(start: u128, n: &Numbers) -> u128
     requires { divisor_of (point_of n.now) ∣ start }
     ensures { result ≡ divisor_of (point_of n.now) }
@@ -182,6 +184,7 @@ fn divided(n: &Numbers, divisor: &i128) -> Point5
 }
 
 /// Five numbers that are a point as they stand.
+#[inline(always)]
 pub(crate) fn point_as_it_stands(n: &Numbers) -> Point5
     requires { IsPoint (point_of n.now) }
     ensures { result ≡ point_of n.now }

@@ -20,6 +20,7 @@ const LIMIT: u128 = 1 << 32;
 /// The crossing of a form on the edge from an inside end `a`, where its value is `la`, to an
 /// outside end `b`, where its value is `lb`, where both ends are short, and their weights too;
 /// `crossing` serves elsewhere.
+#[inline(always)]
 pub fn small_crossing(la: i64, a: &SmallPoint, lb: i64, b: &SmallPoint) -> Option<SmallPoint>
     requires inside { pos 0 ≤ℤ la }
     requires outside { lb <ℤ pos 0 }
@@ -31,6 +32,7 @@ pub fn small_crossing(la: i64, a: &SmallPoint, lb: i64, b: &SmallPoint) -> Optio
 }
 
 /// The small crossing of two ends with their weights.
+#[inline(always)]
 fn small_crossing_at(weights: &Weights, a: &Numbers, b: &Numbers) -> Option<SmallPoint>
     requires inside { IsPoint (point_of a.now) }
     requires outside { IsPoint (point_of b.now) }
@@ -45,6 +47,7 @@ fn small_crossing_at(weights: &Weights, a: &Numbers, b: &Numbers) -> Option<Smal
 }
 
 /// The crossing of two short ends with their weights.
+#[inline(always)]
 fn short_crossing(weights: &Weights, a: &Numbers, b: &Numbers) -> Point5
     requires inside { IsPoint (point_of a.now) }
     requires outside { IsPoint (point_of b.now) }
@@ -58,6 +61,7 @@ fn short_crossing(weights: &Weights, a: &Numbers, b: &Numbers) -> Point5
 }
 
 /// Both ends fit 32 bits, and so do their weights together.
+#[inline(always)]
 pub(crate) fn are_short(weights: &Weights, a: &Numbers, b: &Numbers) -> bool
     ensures { IsTrue result ↔ IsShortMix weights.now a.now b.now }
 {
@@ -67,6 +71,7 @@ pub(crate) fn are_short(weights: &Weights, a: &Numbers, b: &Numbers) -> bool
 }
 
 /// All five numbers fit 32 bits.
+#[inline(always)]
 fn is_short(n: &Numbers) -> bool
     ensures { IsTrue result ↔ IsShort (point_of n.now) }
 {
@@ -74,6 +79,7 @@ fn is_short(n: &Numbers) -> bool
 }
 
 /// The number fits 32 bits, half of a word.
+#[inline(always)]
 fn is_half(n: &i128) -> bool
     ensures { IsTrue result ↔ FitsSigned w32 n.now }
 {
@@ -81,6 +87,7 @@ fn is_half(n: &i128) -> bool
 }
 
 /// The outside end times its weight and the inside end times its weight, together.
+#[inline(always)]
 pub(crate) fn short_mixed(weights: &Weights, a: &Numbers, b: &Numbers) -> Numbers
     requires { IsShortMix weights.now a.now b.now }
     ensures value { result ≡ mixed_of weights.now a.now b.now }
@@ -96,6 +103,7 @@ pub(crate) fn short_mixed(weights: &Weights, a: &Numbers, b: &Numbers) -> Number
 }
 
 /// The same of one of the five numbers.
+#[inline(always)]
 fn short_mix(weights: &Weights, a: &i128, b: &i128) -> i128
     requires near { unsigned_abs weights.now.outside + unsigned_abs weights.now.inside < 2 ^ 32 }
     requires inside { FitsSigned w32 a.now }
@@ -109,6 +117,7 @@ fn short_mix(weights: &Weights, a: &i128, b: &i128) -> i128
 }
 
 /// A product that fits 64 bits.
+#[inline(always)]
 fn short_product(m: &i128, n: &i128) -> i64
     requires first { unsigned_abs m.now < 2 ^ 32 }
     requires second { FitsSigned w32 n.now }
