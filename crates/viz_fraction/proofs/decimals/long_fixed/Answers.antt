@@ -6,7 +6,7 @@ use mir.Val.{to_z, of_z}
 use Rattle.viz_fraction.specs.Decimals.{fixed_of}
 use Rattle.viz_fraction.proofs.FieldsLemmas.{kept}
 use Rattle.viz_fraction.proofs.DecimalsLemmas.{joined-fixed, whole_fits}
-use Rattle.viz_fraction.proofs.decimals.fixed_at.Goals as goal
+use Rattle.viz_fraction.proofs.decimals.long_fixed.Goals as goal
 
 -- the whole and the places that the code has are the floor
 floor_at : (n w q : ℤ) (rest places divisor k : ℕ) → pos 0 <ℤ w → kept q ≡ q → pos rest ≡ n -ℤ kept q *ℤ w
