@@ -1,5 +1,6 @@
 pub mod CommandLemmas
-pub mod ContourLemmas
+pub mod CountLemmas
+pub mod StopLemmas
 pub mod ServeLemmas
 pub mod CauseLemmas
 pub mod MakeLemmas

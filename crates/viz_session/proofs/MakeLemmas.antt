@@ -3,35 +3,33 @@ use Rattle.std.proofs.Common.{◌≡◌, ℕ, List, Result, Ok, Err, sym, subst}
 use Rattle.std.specs.Prelude.{IsErrAnd}
 use Rattle.viz_base.specs.declared.node.Pick.TheVariants.{First}
 use Rattle.viz_dataset.specs.declared.dataset.Dataset.{Dataset}
-use Rattle.viz_dataset.specs.declared.dataset.Info.{Info}
 use Rattle.viz_legacy_read.specs.declared.stop.ReadStop.{ReadStop}
 use Rattle.viz_legacy_read.specs.declared.stop.ReadStop.TheVariants as read
-use Rattle.viz_legacy_read.specs.Reading.{Reads, IsInfo, StopsInHeader, IsImageFile, IsStop}
-use Rattle.viz_lex.specs.declared.fault.FileFault.{FileFault}
+use Rattle.viz_legacy_read.specs.Reading.{IsStop}
 use Rattle.viz_session.specs.declared.command.Filter.{Filter}
 use Rattle.viz_session.specs.declared.made.Made.{Made}
+use Rattle.viz_session.specs.declared.outcome.Cause.{Cause}
+use Rattle.viz_session.specs.declared.outcome.Cause.TheVariants.{TooLong, BadFile, WrongInput, TooWide, TooMany}
 use Rattle.viz_session.specs.declared.stop.MakeStop.{MakeStop}
-use Rattle.viz_session.specs.Made.{of_fault, of_read, Makes}
-use Rattle.viz_session.proofs.CauseLemmas.{bad_header, bad_file}
+use Rattle.viz_session.specs.declared.stop.MakeStop.TheVariants.{Refused, Memory}
+use Rattle.viz_session.specs.Causes.{HasWrongInput, IsCauseOf}
+use Rattle.viz_session.specs.Made.{of_read, IsRefusal, MakesOf, IsStopOf, IsTaken, Makes}
 
--- the same of equal bytes
-pub reads_as : (bytes seen : List ℕ) (d e : Dataset) → seen ≡ bytes → d ≡ e → Reads seen First 0 d → Reads bytes First 0 e
-reads_as bytes seen d e same is reads = subst (λ (x : Dataset). Reads bytes First 0 x) is (subst (λ (bs : List ℕ). Reads bs First 0 d) same reads)
+-- a stop of the reading is the refusal that it stands for
+pub stopped_read : (filter : Filter) (bytes : List ℕ) (stop : ReadStop) → (HasWrongInput filter bytes → ⊥) → IsStop bytes First 0 stop → IsStopOf filter bytes (of_read stop)
+stopped_read filter bytes (read.File fault) apt stops = record { stops = stops; apt = apt }
+stopped_read filter bytes read.Memory apt stops = tt
 
-pub info_as : (bytes seen : List ℕ) (i j : Info) → seen ≡ bytes → i ≡ j → IsInfo seen i → IsInfo bytes j
-info_as bytes seen i j same is found = subst (IsInfo bytes) is (subst (λ (bs : List ℕ). IsInfo bs i) same found)
+-- a dataset is refused for a cause of its bytes
+cause_of : (filter : Filter) (bytes : List ℕ) (d : Dataset) (cause : Cause) → IsTaken filter bytes d → IsRefusal filter d cause → IsCauseOf filter bytes cause
+cause_of filter bytes d TooLong is no = absurd no
+cause_of filter bytes d (BadFile fault) is no = absurd no
+cause_of filter bytes d WrongInput is no = absurd no
+cause_of filter bytes d TooWide is no = (d, is.reads, is.takes, no)
+cause_of filter bytes d TooMany is no = (d, is.reads, is.takes, no)
 
--- a fault of the header
-pub stopped_header : (filter : Filter) (bytes seen : List ℕ) (fault : FileFault) (result : Result Made MakeStop) → seen ≡ bytes → StopsInHeader seen fault
-    → IsErrAnd result (λ made. made ≡ of_fault fault) → Makes filter bytes result
-stopped_header filter bytes seen fault (Ok made) same stops is = absurd is
-stopped_header filter bytes seen fault (Err made) same stops is =
-    subst (λ (x : MakeStop). Makes filter bytes (Err x)) (sym is) (bad_header bytes fault (subst (λ (bs : List ℕ). StopsInHeader bs fault) same stops))
-
--- a stop behind the header of an image
-pub stopped_read : (filter : Filter) (bytes : List ℕ) (stop : ReadStop) (result : Result Made MakeStop) → IsImageFile bytes → IsStop bytes First 0 stop
-    → IsErrAnd result (λ made. made ≡ of_read stop) → Makes filter bytes result
-stopped_read filter bytes stop (Ok made) image stops is = absurd is
-stopped_read filter bytes (read.File fault) (Err made) image stops is =
-    subst (λ (x : MakeStop). Makes filter bytes (Err x)) (sym is) (bad_file bytes fault image stops)
-stopped_read filter bytes read.Memory (Err made) image stops is = subst (λ (x : MakeStop). Makes filter bytes (Err x)) (sym is) tt
+-- what is made of the dataset of bytes is made of these
+pub makes_of : (filter : Filter) (bytes : List ℕ) (d : Dataset) (result : Result Made MakeStop) → IsTaken filter bytes d → MakesOf filter d result → Makes filter bytes result
+makes_of filter bytes d (Ok made) is makes = (d, is.reads, makes)
+makes_of filter bytes d (Err (Refused cause)) is makes = cause_of filter bytes d cause is makes
+makes_of filter bytes d (Err Memory) is makes = tt

@@ -33,7 +33,7 @@ line_is m told o a old new put is ok =
 
 -- the deed of a written file
 written_deed : (c : Command) (deed : Deed) (cells points : ℕ) → EndsIn c deed (outcome.Written cells points)
-    → (bytes : List ℕ) × (i : _) × (deed ≡ Answered bytes i write.Written) × EndsIn c (Answered bytes i write.Written) (outcome.Written cells points)
+    → (bytes : List ℕ) × (d : _) × (deed ≡ Answered bytes d write.Written) × EndsIn c (Answered bytes d write.Written) (outcome.Written cells points)
 written_deed c Nothing cells points h = absurd (let e : outcome.Written cells points ≡ outcome.Memory = h in cc)
 written_deed c (Asked (read.Given bytes)) cells points h = absurd (elim h [
   | inl e ↦ let bad : outcome.Written cells points ≡ outcome.Memory = e in cc
@@ -41,8 +41,8 @@ written_deed c (Asked (read.Given bytes)) cells points h = absurd (elim h [
 ])
 written_deed c (Asked (read.TooLong taken)) cells points h = absurd (let e : outcome.Written cells points ≡ outcome.Refused h.0 = h.2 in cc)
 written_deed c (Asked read.Failed) cells points h = absurd (let e : outcome.Written cells points ≡ outcome.Fault call.Read = h in cc)
-written_deed c (Answered bytes i write.Written) cells points h = (bytes, i, refl, h)
-written_deed c (Answered bytes i write.Failed) cells points h = absurd (let e : outcome.Written cells points ≡ outcome.Fault call.Write = h.1 in cc)
+written_deed c (Answered bytes d write.Written) cells points h = (bytes, d, refl, h)
+written_deed c (Answered bytes d write.Failed) cells points h = absurd (let e : outcome.Written cells points ≡ outcome.Fault call.Write = h.1 in cc)
 
 -- the deed of a refusal
 refused_deed : (c : Command) (deed : Deed) (cause : Cause) → EndsIn c deed (outcome.Refused cause)
@@ -60,8 +60,8 @@ refused_deed c (Asked (read.TooLong taken)) cause h =
     let same : cause ≡ h.0 = (let e : outcome.Refused cause ≡ outcome.Refused h.0 = h.2 in cc) in
     (read.TooLong taken, refl, subst (IsCause c.filter (read.TooLong taken)) (sym same) h.1)
 refused_deed c (Asked read.Failed) cause h = absurd (let e : outcome.Refused cause ≡ outcome.Fault call.Read = h in cc)
-refused_deed c (Answered bytes i write.Written) cause h = absurd (let e : outcome.Refused cause ≡ outcome.Written _ _ = h.1 in cc)
-refused_deed c (Answered bytes i write.Failed) cause h = absurd (let e : outcome.Refused cause ≡ outcome.Fault call.Write = h.1 in cc)
+refused_deed c (Answered bytes d write.Written) cause h = absurd (let e : outcome.Refused cause ≡ outcome.Written _ _ = h.1 in cc)
+refused_deed c (Answered bytes d write.Failed) cause h = absurd (let e : outcome.Refused cause ≡ outcome.Fault call.Write = h.1 in cc)
 
 -- the deed of a failed call
 failed_deed : (c : Command) (deed : Deed) (failed : Failed) → EndsIn c deed (outcome.Fault failed) → HasFailed deed × (line_of (outcome.Fault failed) ≡ fault_line deed)
@@ -72,8 +72,8 @@ failed_deed c (Asked (read.Given bytes)) failed h = absurd (elim h [
 ])
 failed_deed c (Asked (read.TooLong taken)) failed h = absurd (let e : outcome.Fault failed ≡ outcome.Refused h.0 = h.2 in cc)
 failed_deed c (Asked read.Failed) failed h = (tt, ap line_of h)
-failed_deed c (Answered bytes i write.Written) failed h = absurd (let e : outcome.Fault failed ≡ outcome.Written _ _ = h.1 in cc)
-failed_deed c (Answered bytes i write.Failed) failed h = (tt, ap line_of h.1)
+failed_deed c (Answered bytes d write.Written) failed h = absurd (let e : outcome.Fault failed ≡ outcome.Written _ _ = h.1 in cc)
+failed_deed c (Answered bytes d write.Failed) failed h = (tt, ap line_of h.1)
 
 -- ---- what a run did
 
@@ -126,7 +126,7 @@ module _ {P : Type 0} (m : port.Ghosts P) where
 asked_deed : (c : Command) (deed : Deed) (answer : ReadAnswer) → calls_of c deed ≡ Read c.input answer ∷ [] → deed ≡ Asked answer
 asked_deed c Nothing answer e = absurd cc
 asked_deed c (Asked other) answer e = cc
-asked_deed c (Answered bytes i other) answer e = absurd cc
+asked_deed c (Answered bytes d other) answer e = absurd cc
 
 -- the outcome of a command that is refused for a cause
 refused_or_memory : (c : Command) (answer : ReadAnswer) (cause : Cause) (o : Outcome) → IsCause c.filter answer cause → EndsUnwritten c answer o

@@ -8,7 +8,7 @@ use Rattle.viz_base.specs.declared.call.Call.{Call}
 use Rattle.viz_base.specs.declared.call.Call.TheVariants.{Read, Write}
 use Rattle.viz_base.specs.declared.call.ReadAnswer.TheVariants as read
 use Rattle.viz_base.specs.declared.call.WriteAnswer.{WriteAnswer}
-use Rattle.viz_dataset.specs.Images.{ImageData}
+use Rattle.viz_dataset.specs.declared.dataset.Dataset.{Dataset}
 use Rattle.viz_session.specs.Account.{Asked, Answered, IsDoneAt, HasFailed, LeavesText}
 use Rattle.viz_session.specs.Command.{Command}
 use Rattle.viz_session.specs.Outputs.{output_text}
@@ -28,13 +28,13 @@ module _ {P : Type 0} (m : port.Ghosts P) (c : Command) (p r q : P) (bytes : Lis
     (after : m.faults r ≤ m.faults q)
     (same_after : m.limit q ≡ m.limit r) where
   -- a write that was answered
-  pub written : (i : ImageData) (answer : WriteAnswer) (text : List ℕ) → text ≡ output_text c.filter i
+  pub written : (d : Dataset) (answer : WriteAnswer) (text : List ℕ) → text ≡ output_text c.filter d
       → (IsTrue m.tells_calls → m.calls q ≡ m.calls r ++ Write c.output text answer ∷ [])
       → (IsTrue m.tells_files → LeavesText c.output text answer (m.files q))
       → (IsTrue m.tells_files → SameOthers c.output (m.files r) (m.files q))
-      → (HasFailed (Answered bytes i answer) → Rose (m.faults r) (m.faults q))
-      → IsDoneAt m c (Answered bytes i answer) p q
-  written i answer text is told left others failed = record {
+      → (HasFailed (Answered bytes d answer) → Rose (m.faults r) (m.faults q))
+      → IsDoneAt m c (Answered bytes d answer) p q
+  written d answer text is told left others failed = record {
     calls = λ t.
         told t
         ∙ ap (λ (calls : List Call). calls ++ Write c.output text answer ∷ []) (asked t)

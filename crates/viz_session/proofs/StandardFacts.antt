@@ -3,21 +3,23 @@ use Rattle.std.specs.Prelude.{◌≡◌, ℕ, ℤ, pos, negsuc, ◌*◌, ◌^◌
 use Rattle.std.specs.Fmt.{digits}
 use Rattle.viz_column.specs.declared.kind.Kind8.TheVariants.{I32}
 use Rattle.viz_dataset.specs.Images.{ImageData}
+use Rattle.viz_dataset.specs.declared.dataset.Dataset.TheVariants.{Image, Mesh}
 use Rattle.viz_extent.specs.Extent.{Bounds}
 use Rattle.viz_fraction.specs.Cases.{cells_at}
 use Rattle.viz_fraction.specs.Decimals.{fixed_of}
 use Rattle.viz_fraction.specs.Divisors.{gcd}
-use Rattle.viz_fraction.specs.Points.{divisor_of}
+use Rattle.viz_fraction.specs.Points.{divisor_of, numbers}
 use Rattle.viz_kuhn.specs.Kuhn.{rows}
 use Rattle.viz_legacy_write.specs.ImageText.{title_lines, form_line, dataset_line, dimensions_line, vector_line, origin_line, spacing_line, geometry_lines, point_data_line, array_line, table_line, header_lines, image_text}
-use Rattle.viz_legacy_write.specs.SurfaceText.{surface_head, points_line, polygons_line, scalars_head, surface_text}
+use Rattle.viz_sheet.specs.Sheet.{SheetData}
+use Rattle.viz_mesh_write.specs.MeshText.{title_lines as mesh_titles, dataset_line as mesh_line, points_line, points_text, scalars_head, section_line, section_text, parts_text, mesh_text}
 use Rattle.viz_lex.specs.Reading.{fault_at}
 use Rattle.viz_lex.specs.declared.fault.FileKind.TheVariants as kind
 use Rattle.viz_session.specs.declared.command.Filter.TheVariants.{Threshold, Contour}
 use Rattle.viz_session.specs.declared.outcome.Cause.TheVariants.{BadFile, WrongInput, TooWide}
 use Rattle.viz_session.specs.Causes.{fault_text}
 use Rattle.viz_session.specs.Command.{Command, number_of, file_name_of, filter_of, command_of}
-use Rattle.viz_session.specs.Outputs.{cube_count, image_points, image_triangles, output_text, cells_made, points_made}
+use Rattle.viz_session.specs.Outputs.{cube_count, contoured, output_text, cells_made, points_made}
 use Rattle.viz_session.specs.Report.{file_line, refused_line}
 
 -- so many units, in billionths
@@ -41,7 +43,7 @@ square = record { x0 = 0; x1 = 1; y0 = 0; y1 = 1; z0 = 0; z1 = 0 }
 abbrev cube : Bounds
 cube = record { x0 = 0; x1 = 1; y0 = 0; y1 = 1; z0 = 0; z1 = 1 }
 
-threshold_two_by_two : output_text (Threshold (pos 2) (pos 3)) (unit_image square (pos 1 ∷ pos 2 ∷ pos 3 ∷ pos 4 ∷ []))
+threshold_two_by_two : output_text (Threshold (pos 2) (pos 3)) (Image (unit_image square (pos 1 ∷ pos 2 ∷ pos 3 ∷ pos 4 ∷ [])))
     ≡ codes "# vtk DataFile Version 3.0\nvizrun image\nASCII\nDATASET STRUCTURED_POINTS\nDIMENSIONS 2 2 1\nORIGIN 0 0 0\nSPACING 1 1 1\nPOINT_DATA 4\nSCALARS scalars int 1\nLOOKUP_TABLE default\n0 2\n3 0\n"
 unfolding digits title_lines form_line dataset_line dimensions_line vector_line origin_line spacing_line geometry_lines point_data_line array_line table_line header_lines image_text
 threshold_two_by_two = refl
@@ -51,19 +53,33 @@ abbrev cube_to : ℤ → ImageData
 cube_to corner = unit_image cube (pos 0 ∷ pos 0 ∷ pos 0 ∷ pos 0 ∷ pos 0 ∷ pos 0 ∷ pos 0 ∷ corner ∷ [])
 
 -- a triangle in each of the six tetrahedra, and a point on each edge to that corner
-first_contour_cells : cells_made (Contour (pos 5)) (cube_to (pos 9)) ≡ 6
-unfolding rows cells_at image_triangles
+first_contour_cells : cells_made (Contour (pos 5)) (Image (cube_to (pos 9))) ≡ 6
+unfolding rows cells_at contoured
 first_contour_cells = refl
 
-first_contour_points : points_made (Contour (pos 5)) (cube_to (pos 9)) ≡ 7
-unfolding rows cells_at image_points
+first_contour_points : points_made (Contour (pos 5)) (Image (cube_to (pos 9))) ≡ 7
+unfolding rows cells_at contoured
 first_contour_points = refl
 
 -- a level above all values
-empty_contour : output_text (Contour (pos 10)) (cube_to (pos 9))
+empty_contour : output_text (Contour (pos 10)) (Image (cube_to (pos 9)))
     ≡ codes "# vtk DataFile Version 3.0\nvizrun fixed 10^-3\nASCII\nDATASET POLYDATA\nPOINTS 0 long\nPOLYGONS 0 0\n"
-unfolding digits rows cells_at fixed_of gcd divisor_of surface_head points_line polygons_line scalars_head surface_text image_points image_triangles
+unfolding digits rows cells_at form_line mesh_titles mesh_line points_line points_text section_line section_text parts_text mesh_text contoured
 empty_contour = refl
+
+-- a line along x from the scalar 0 to the scalar 2
+abbrev line_to : ℕ → SheetData
+line_to far = record {
+  names = (0 ∷ []) ∷ (1 ∷ []) ∷ [];
+  points = numbers (pos 0) (pos 0) (pos 0) (pos 0) (pos 1) ∷ numbers (pos far) (pos 0) (pos 0) (pos 2) (pos 1) ∷ [];
+  cells = ((0 ∷ []) ∷ (1 ∷ []) ∷ []) ∷ [];
+}
+
+-- its middle
+middle_of_a_line : output_text (Contour (pos 1)) (Mesh (line_to 3 ∷ []))
+    ≡ codes "# vtk DataFile Version 3.0\nvizrun fixed 10^-3\nASCII\nDATASET POLYDATA\nPOINTS 1 long\n1500 0 0\nVERTICES 1 2\n1 0\nPOINT_DATA 1\nSCALARS scalars long 1\nLOOKUP_TABLE default\n1\n"
+unfolding digits cells_at fixed_of gcd divisor_of form_line scalars_head mesh_titles mesh_line points_line points_text section_line section_text parts_text mesh_text contoured
+middle_of_a_line = refl
 
 single_layer : cube_count square ≡ 0
 single_layer = refl

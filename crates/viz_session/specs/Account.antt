@@ -13,30 +13,30 @@ use Rattle.viz_base.specs.declared.call.WriteAnswer.{WriteAnswer}
 use Rattle.viz_base.specs.declared.call.WriteAnswer.TheVariants as write
 use Rattle.viz_base.specs.declared.refusal.WriteRefusal.{WriteRefusal}
 use Rattle.viz_base.specs.declared.refusal.WriteRefusal.TheVariants as writing
-use Rattle.viz_dataset.specs.Images.{ImageData}
+use Rattle.viz_dataset.specs.declared.dataset.Dataset.{Dataset}
 use Rattle.viz_session.specs.declared.outcome.Cause.{Cause}
 use Rattle.viz_session.specs.declared.outcome.Failed.TheVariants as call
 use Rattle.viz_session.specs.declared.outcome.Outcome.{Outcome}
 use Rattle.viz_session.specs.declared.outcome.Outcome.TheVariants as outcome
 use Rattle.viz_session.specs.declared.outcome.Status.{Status}
-use Rattle.viz_session.specs.Causes.{ReadsImage, IsCause}
+use Rattle.viz_session.specs.Causes.{ReadsFile, IsCause}
 use Rattle.viz_session.specs.Command.{Command, command_of}
 use Rattle.viz_session.specs.Outputs.{output_text, cells_made, points_made, Accepts}
 use Rattle.viz_session.specs.Report.{line_of, status_after, HasMadeLine}
 
 -- ---- a port
 
--- what a command did at its port: no call that was answered; a read; or a read of an image's file, and a write
+-- what a command did at its port: no call that was answered; a read; or a read of a dataset's file, and a write
 pub data Deed : Type 0 where
   Nothing : Deed
   Asked : ReadAnswer → Deed
-  Answered : List ℕ → ImageData → WriteAnswer → Deed
+  Answered : List ℕ → Dataset → WriteAnswer → Deed
 
 -- the calls of a deed
 abbrev pub calls_of : Command → Deed → List Call
 calls_of c Nothing = []
 calls_of c (Asked answer) = Read c.input answer ∷ []
-calls_of c (Answered bytes i answer) = Read c.input (read.Given bytes) ∷ Write c.output (output_text c.filter i) answer ∷ []
+calls_of c (Answered bytes d answer) = Read c.input (read.Given bytes) ∷ Write c.output (output_text c.filter d) answer ∷ []
 
 -- what the answer of a read says of the file: its bytes, or that it is longer than the limit
 abbrev pub TellsFile : Files → ℕ → List ℕ → ReadAnswer → Type 0
@@ -53,13 +53,13 @@ LeavesText name text write.Failed new = KeepsPrefix name text new
 abbrev pub FilesAround : Command → Deed → ℕ → Files → Files → Type 0
 FilesAround c Nothing limit old new = SameFiles old new
 FilesAround c (Asked answer) limit old new = TellsFile old limit c.input answer × SameFiles old new
-FilesAround c (Answered bytes i answer) limit old new =
-    (old c.input ≡ Some bytes) × LeavesText c.output (output_text c.filter i) answer new × SameOthers c.output old new
+FilesAround c (Answered bytes d answer) limit old new =
+    (old c.input ≡ Some bytes) × LeavesText c.output (output_text c.filter d) answer new × SameOthers c.output old new
 
 -- a deed that ended with a failed call
 abbrev pub HasFailed : Deed → Type 0
 HasFailed (Asked read.Failed) = Unit {0}
-HasFailed (Answered bytes i write.Failed) = Unit {0}
+HasFailed (Answered bytes d write.Failed) = Unit {0}
 HasFailed deed = ⊥
 
 -- this was done at a port: its calls and its files where it tells them, and its count of faults
@@ -72,10 +72,10 @@ pub record IsDoneAt {P : Type 0} (m : port.Ghosts P) (c : Command) (deed : Deed)
 
 -- ---- outcomes
 
--- the bytes are a file of this image, which the filter accepts
-pub record IsInput (c : Command) (bytes : List ℕ) (i : ImageData) : Type 0 where
-  pub reads : ReadsImage bytes i
-  pub accepts : Accepts c.filter i
+-- the bytes are a file of this dataset, which the filter accepts
+pub record IsInput (c : Command) (bytes : List ℕ) (d : Dataset) : Type 0 where
+  pub reads : ReadsFile bytes d
+  pub accepts : Accepts c.filter d
 
 -- a command is refused for a cause
 abbrev pub Refuses : Command → ReadAnswer → Outcome → Type 0
@@ -87,16 +87,16 @@ EndsUnwritten c (read.Given bytes) o = (o ≡ outcome.Memory) ⊎ Refuses c (rea
 EndsUnwritten c (read.TooLong taken) o = Refuses c (read.TooLong taken) o
 EndsUnwritten c read.Failed o = o ≡ outcome.Fault call.Read
 
--- the outcome of a command that wrote the result of an image, by what the write answered
-abbrev pub EndsWritten : Command → ImageData → WriteAnswer → Outcome → Type 0
-EndsWritten c i write.Written o = o ≡ outcome.Written (cells_made c.filter i) (points_made c.filter i)
-EndsWritten c i write.Failed o = o ≡ outcome.Fault call.Write
+-- the outcome of a command that wrote the result of a dataset, by what the write answered
+abbrev pub EndsWritten : Command → Dataset → WriteAnswer → Outcome → Type 0
+EndsWritten c d write.Written o = o ≡ outcome.Written (cells_made c.filter d) (points_made c.filter d)
+EndsWritten c d write.Failed o = o ≡ outcome.Fault call.Write
 
 -- the outcome of a command that did this
 abbrev pub EndsIn : Command → Deed → Outcome → Type 0
 EndsIn c Nothing o = o ≡ outcome.Memory
 EndsIn c (Asked answer) o = EndsUnwritten c answer o
-EndsIn c (Answered bytes i answer) o = IsInput c bytes i × EndsWritten c i answer o
+EndsIn c (Answered bytes d answer) o = IsInput c bytes d × EndsWritten c d answer o
 
 -- a port served a command, with this outcome
 abbrev pub IsServed : {P : Type 0} → port.Ghosts P → Command → Outcome → P → P → Type 0

@@ -4,16 +4,16 @@ use Rattle.std.specs.Fmt.{decimal, signed_decimal}
 use Rattle.viz_base.specs.declared.node.Pick.TheVariants.{First}
 use Rattle.viz_base.specs.declared.call.ReadAnswer.{ReadAnswer}
 use Rattle.viz_base.specs.declared.call.ReadAnswer.TheVariants as read
-use Rattle.viz_dataset.specs.Images.{ImageData}
-use Rattle.viz_dataset.specs.declared.dataset.Dataset.TheVariants as dataset
+use Rattle.viz_dataset.specs.declared.dataset.Dataset.{Dataset}
 use Rattle.viz_legacy_read.specs.Reading.{Reads, Stops, IsMeshFile}
 use Rattle.viz_lex.specs.declared.fault.FileFault.{FileFault}
 use Rattle.viz_lex.specs.declared.fault.FileKind.{FileKind}
 use Rattle.viz_lex.specs.declared.fault.FileKind.TheVariants as kind
 use Rattle.viz_session.specs.declared.outcome.Cause.{Cause}
 use Rattle.viz_session.specs.declared.outcome.Cause.TheVariants.{TooLong, BadFile, WrongInput, TooWide, TooMany}
-use Rattle.viz_session.specs.Outputs.{IsTooWide, IsTooMany}
 use Rattle.viz_session.specs.declared.command.Filter.{Filter}
+use Rattle.viz_session.specs.declared.command.Filter.TheVariants.{Threshold, Contour}
+use Rattle.viz_session.specs.Outputs.{Takes, IsTooWide, IsTooMany}
 
 -- the word of a kind of fault
 abbrev pub kind_text : FileKind → List ℕ
@@ -56,26 +56,31 @@ cause_text WrongInput = codes "fault:op:WrongInput(1)"
 cause_text TooWide = codes "fault:op:TooWide"
 cause_text TooMany = codes "fault:op:TooMany"
 
--- the bytes are a file of this image, whose numbers are those of the first array
-abbrev pub ReadsImage : List ℕ → ImageData → Type 0
-ReadsImage bytes i = Reads bytes First 0 (dataset.Image i)
+-- the bytes are a file of this dataset, whose numbers are those of the first array
+abbrev pub ReadsFile : List ℕ → Dataset → Type 0
+ReadsFile bytes d = Reads bytes First 0 d
 
--- the bytes are a file of an image that is so
-abbrev pub HasImage : List ℕ → (ImageData → Type 0) → Type 0
-HasImage bytes P = (i : ImageData) × ReadsImage bytes i × P i
+-- the bytes are a file of a dataset that the filter takes, and that is so
+abbrev pub HasInput : Filter → List ℕ → (Dataset → Type 0) → Type 0
+HasInput filter bytes P = (d : Dataset) × ReadsFile bytes d × Takes filter d × P d
 
--- the first fault of the bytes, whose header isn't that of a mesh
-pub record IsBadFile (bytes : List ℕ) (fault : FileFault) : Type 0 where
+-- the header is that of a dataset that the filter doesn't take
+abbrev pub HasWrongInput : Filter → List ℕ → Type 0
+HasWrongInput (Threshold lo hi) bytes = IsMeshFile bytes
+HasWrongInput (Contour level) bytes = ⊥
+
+-- the first fault of the bytes, whose header isn't that of a dataset that the filter doesn't take
+pub record IsBadFile (filter : Filter) (bytes : List ℕ) (fault : FileFault) : Type 0 where
   pub stops : Stops bytes First 0 fault
-  pub no_mesh : IsMeshFile bytes → ⊥
+  pub apt : HasWrongInput filter bytes → ⊥
 
 -- when the bytes of a file are refused for a cause
 abbrev pub IsCauseOf : Filter → List ℕ → Cause → Type 0
 IsCauseOf filter bytes TooLong = ⊥
-IsCauseOf filter bytes (BadFile fault) = IsBadFile bytes fault
-IsCauseOf filter bytes WrongInput = IsMeshFile bytes
-IsCauseOf filter bytes TooWide = HasImage bytes (IsTooWide filter)
-IsCauseOf filter bytes TooMany = HasImage bytes (IsTooMany filter)
+IsCauseOf filter bytes (BadFile fault) = IsBadFile filter bytes fault
+IsCauseOf filter bytes WrongInput = HasWrongInput filter bytes
+IsCauseOf filter bytes TooWide = HasInput filter bytes (IsTooWide filter)
+IsCauseOf filter bytes TooMany = HasInput filter bytes (IsTooMany filter)
 
 -- when a cause comes, by what the read answered
 abbrev pub IsCause : Filter → ReadAnswer → Cause → Type 0

@@ -1,8 +1,9 @@
 -- What is made of a file's bytes, before it is written. Words of private contracts alone.
-use Rattle.std.specs.Prelude.{◌≡◌, ℕ, List, Result, Ok, Err}
-use Rattle.viz_contour.specs.declared.stop.WorkStop.{WorkStop}
-use Rattle.viz_contour.specs.declared.stop.WorkStop.TheVariants as work
-use Rattle.viz_dataset.specs.Images.{ImageData}
+use Rattle.std.specs.Prelude.{◌≡◌, ℕ, ◌-◌, ◌^◌, List, Result, Ok, Err, min}
+use Rattle.viz_piece.specs.declared.stop.WorkStop.{WorkStop}
+use Rattle.viz_piece.specs.declared.stop.WorkStop.TheVariants as work
+use Rattle.viz_dataset.specs.declared.dataset.Dataset.{Dataset}
+use Rattle.viz_legacy_read.specs.Reading.{IsSound}
 use Rattle.viz_legacy_read.specs.declared.stop.ReadStop.{ReadStop}
 use Rattle.viz_legacy_read.specs.declared.stop.ReadStop.TheVariants as read
 use Rattle.viz_legacy_write.specs.declared.stop.WriteStop.{WriteStop}
@@ -14,8 +15,8 @@ use Rattle.viz_session.specs.declared.outcome.Cause.{Cause}
 use Rattle.viz_session.specs.declared.outcome.Cause.TheVariants.{BadFile, TooWide, TooMany}
 use Rattle.viz_session.specs.declared.stop.MakeStop.{MakeStop}
 use Rattle.viz_session.specs.declared.stop.MakeStop.TheVariants.{Refused, Memory}
-use Rattle.viz_session.specs.Causes.{ReadsImage, IsCauseOf}
-use Rattle.viz_session.specs.Outputs.{output_text, cells_made, points_made, Accepts, IsTooWide, IsTooMany}
+use Rattle.viz_session.specs.Causes.{ReadsFile, IsCauseOf}
+use Rattle.viz_session.specs.Outputs.{output_text, cells_made, points_made, Takes, Accepts, IsTooWide, IsTooMany}
 
 -- a fault of the file as a stop of making
 abbrev pub of_fault : FileFault → MakeStop
@@ -37,27 +38,41 @@ of_write write.TooWide = Refused TooWide
 of_write write.TooMany = Refused TooMany
 of_write write.Memory = Memory
 
--- the filter accepts the image, and these are its text and its numbers
-pub record IsMadeOf (filter : Filter) (i : ImageData) (made : Made) : Type 0 where
-  pub accepts : Accepts filter i
-  pub text : made.text ≡ output_text filter i
-  pub cells : made.cells ≡ cells_made filter i
-  pub points : made.points ≡ points_made filter i
+-- the filter accepts the dataset, and these are its text and its numbers
+pub record IsMadeOf (filter : Filter) (d : Dataset) (made : Made) : Type 0 where
+  pub accepts : Accepts filter d
+  pub text : made.text ≡ output_text filter d
+  pub cells : made.cells ≡ cells_made filter d
+  pub points : made.points ≡ points_made filter d
 
--- an image is refused for this cause
-abbrev pub IsRefusal : Filter → ImageData → Cause → Type 0
-IsRefusal filter i TooWide = IsTooWide filter i
-IsRefusal filter i TooMany = IsTooMany filter i
-IsRefusal filter i cause = ⊥
+-- a dataset is refused for this cause
+abbrev pub IsRefusal : Filter → Dataset → Cause → Type 0
+IsRefusal filter d TooWide = IsTooWide filter d
+IsRefusal filter d TooMany = IsTooMany filter d
+IsRefusal filter d cause = ⊥
 
--- what is made of an image, or why it is refused, unless memory ran out
-abbrev pub MakesOf : Filter → ImageData → Result Made MakeStop → Type 0
-MakesOf filter i (Ok made) = IsMadeOf filter i made
-MakesOf filter i (Err (Refused cause)) = IsRefusal filter i cause
-MakesOf filter i (Err Memory) = Unit {0}
+-- what is made of a dataset, or why it is refused, unless memory ran out
+abbrev pub MakesOf : Filter → Dataset → Result Made MakeStop → Type 0
+MakesOf filter d (Ok made) = IsMadeOf filter d made
+MakesOf filter d (Err (Refused cause)) = IsRefusal filter d cause
+MakesOf filter d (Err Memory) = Unit {0}
 
--- what is made of the bytes' image, or why the bytes are refused, unless memory ran out
+-- the bytes are refused for this cause, unless memory ran out
+abbrev pub IsStopOf : Filter → List ℕ → MakeStop → Type 0
+IsStopOf filter bytes (Refused cause) = IsCauseOf filter bytes cause
+IsStopOf filter bytes Memory = Unit {0}
+
+-- the bytes are a file of this dataset, which the filter takes
+pub record IsTaken (filter : Filter) (bytes : List ℕ) (d : Dataset) : Type 0 where
+  pub reads : ReadsFile bytes d
+  pub takes : Takes filter d
+  pub sound : IsSound d
+
+-- what is made of the bytes' dataset, or why the bytes are refused, unless memory ran out
 abbrev pub Makes : Filter → List ℕ → Result Made MakeStop → Type 0
-Makes filter bytes (Ok made) = (i : ImageData) × ReadsImage bytes i × IsMadeOf filter i made
-Makes filter bytes (Err (Refused cause)) = IsCauseOf filter bytes cause
-Makes filter bytes (Err Memory) = Unit {0}
+Makes filter bytes (Ok made) = (d : Dataset) × ReadsFile bytes d × IsMadeOf filter d made
+Makes filter bytes (Err stop) = IsStopOf filter bytes stop
+
+-- a count, or the greatest number of 64 bits where that is less
+abbrev pub capped : ℕ → ℕ
+capped n = min n (2 ^ 64 - 1)

@@ -7,7 +7,7 @@ use Rattle.viz_base.specs.declared.out.Out as out
 use Rattle.viz_base.specs.declared.call.Call.TheVariants.{Read}
 use Rattle.viz_base.specs.declared.call.ReadAnswer.{ReadAnswer}
 use Rattle.viz_base.specs.declared.call.WriteAnswer.TheVariants.{Written}
-use Rattle.viz_dataset.specs.Images.{ImageData}
+use Rattle.viz_dataset.specs.declared.dataset.Dataset.{Dataset}
 use Rattle.viz_session.specs.declared.outcome.Cause.{Cause}
 use Rattle.viz_session.specs.declared.outcome.Status.{Status}
 use Rattle.viz_session.specs.declared.outcome.Status.TheVariants as status
@@ -73,12 +73,12 @@ pub record IsScript {P : Type 0} (words : Option Command) (ports : List P) (ende
   pub only : ended ≡ status.Script → LacksPort words ports
   pub comes : LacksPort words ports → (ended ≡ status.Script) ⊎ (ended ≡ status.Memory)
 
--- a run that answers Done read an image that the filter accepts, wrote the text of what is made of it, and told its numbers
+-- a run that answers Done read a dataset that the filter accepts, wrote the text of what is made of it, and told its numbers
 abbrev pub IsDone : {P O : Type 0} → port.Ghosts P → out.Ghosts O → Option Command → List P → List P → O → O → Type 0
 IsDone ports output words old new before after =
-    (c : Command) × (bytes : List ℕ) × (i : ImageData) × (words ≡ Some c) × IsInput c bytes i
-    × FirstDid ports c (Answered bytes i Written) old new
-    × GainsLine output (file_line (cells_made c.filter i) (points_made c.filter i)) before after
+    (c : Command) × (bytes : List ℕ) × (d : Dataset) × (words ≡ Some c) × IsInput c bytes d
+    × FirstDid ports c (Answered bytes d Written) old new
+    × GainsLine output (file_line (cells_made c.filter d) (points_made c.filter d)) before after
 
 -- a run that answers Refused read its input and did nothing else; a cause of it holds, and was told
 abbrev pub IsRefused : {P O : Type 0} → port.Ghosts P → out.Ghosts O → Option Command → List P → List P → O → O → Type 0
@@ -103,7 +103,7 @@ TellsCauses ports output words old new before after ended =
 abbrev pub fault_line : Deed → List ℕ
 fault_line Nothing = []
 fault_line (Asked answer) = read_fault_line
-fault_line (Answered bytes i answer) = write_fault_line
+fault_line (Answered bytes d answer) = write_fault_line
 
 -- a run that answers Fault: a call of the first port failed, and that was told; or the put failed
 abbrev pub IsFault : {P O : Type 0} → port.Ghosts P → out.Ghosts O → Option Command → List P → List P → O → O → Type 0

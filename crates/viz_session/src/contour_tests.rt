@@ -6,6 +6,10 @@ use crate::contour_texts::{
     MIXED_REPORT, MIXED_SURFACE, NO_REPORT, NO_SURFACE, TIE_SURFACE,
 };
 use crate::image_files::{CORNER, CORNER_BINARY, CORNER_END};
+use crate::mesh_files::{
+    FAR_LINE, FAR_LINE_CONTOUR, FAR_LINE_REPORT, GRID, GRID_CONTOUR, GRID_REPORT, LONG_STRIP,
+    LONG_STRIP_CONTOUR, LONG_STRIP_REPORT, NO_CELLS, POLYLINE, POLYLINE_CONTOUR, POLYLINE_REPORT,
+};
 use crate::runs::{joined, output_of, ran_on, replaced};
 use std::alloc::Global;
 use std::process::Abort;
@@ -74,6 +78,27 @@ fn contours_are_written(rt: HostRuntime) -> Result<(), Fail> {
         &[front[0], front[1], front[2], CORNER_END.as_bytes()],
     )?;
     shows(&rt, FIRST_LEVEL, &binary, FIRST_REPORT, FIRST_SURFACE)
+}
+
+#[test]
+fn contours_of_meshes_are_written(rt: HostRuntime) -> Result<(), Fail> {
+    for (level, mesh, report, contour) in [
+        // A triangle of a tetrahedron and a line of a triangle, in one file.
+        ("1", GRID, GRID_REPORT, GRID_CONTOUR),
+        // Lines of a strip whose second triangle is turned, and vertices of a polyline.
+        ("1", LONG_STRIP, LONG_STRIP_REPORT, LONG_STRIP_CONTOUR),
+        ("1", POLYLINE, POLYLINE_REPORT, POLYLINE_CONTOUR),
+        ("1", FAR_LINE, FAR_LINE_REPORT, FAR_LINE_CONTOUR),
+        // Each point is inside, and none is.
+        ("0", GRID, NO_REPORT, NO_SURFACE),
+        ("4", GRID, NO_REPORT, NO_SURFACE),
+        // No cells, and the contour of a contour.
+        ("0", NO_CELLS, NO_REPORT, NO_SURFACE),
+        ("3", FIRST_SURFACE, NO_REPORT, NO_SURFACE),
+    ] {
+        shows(&rt, level, mesh.as_bytes(), report, contour)?;
+    }
+    Ok(())
 }
 
 // A place is written in thousandths within signed 64 bits: up to 9223372036854775807, and from

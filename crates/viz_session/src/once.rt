@@ -1,20 +1,18 @@
 //! One file read, filtered and written.
 
-ghost use Rattle.std.specs.Prelude.{◌≡◌, ◌<◌, ◌^◌, IfOk, IfErr};
-ghost use Rattle.viz_extent.specs.Extent.{count_of};
-ghost use Rattle.viz_base.specs.declared.node.Pick.TheVariants.{First};
-ghost use Rattle.viz_dataset.specs.Images.{IsImage};
-ghost use Rattle.viz_legacy_read.specs.Reading.{IsImageFile, IsStop};
+ghost use Rattle.std.specs.Prelude.{◌≡◌, IfOk, IfErr, OnOk};
+ghost use Rattle.viz_dataset.specs.declared.dataset.Dataset.TheVariants as dataset;
+ghost use Rattle.viz_legacy_read.specs.Reading.{IsSound};
 ghost use Rattle.viz_session.specs.Account.{IsServed};
-ghost use Rattle.viz_session.specs.Causes.{ReadsImage};
+ghost use Rattle.viz_session.specs.Causes.{HasWrongInput};
 ghost use Rattle.viz_session.specs.Commands.{command_view};
-ghost use Rattle.viz_session.specs.Outputs.{cube_count};
-ghost use Rattle.viz_session.specs.Made.{Makes, MakesOf};
+ghost use Rattle.viz_session.specs.Outputs.{Takes, cube_count};
+ghost use Rattle.viz_session.specs.Made.{IsStopOf, IsTaken, Makes, MakesOf};
 ghost use Rattle.viz_session.specs.declared.command.Filter.TheVariants.{Threshold};
 
 use crate::command::{Filter, Once};
 use crate::contour::contour;
-use crate::made::Made;
+use crate::made::{Made, STYLE};
 use crate::outcome::{Cause, Failed, Outcome};
 use crate::stop::MakeStop;
 use crate::threshold::threshold;
@@ -22,26 +20,32 @@ use std::alloc::Global;
 use viz_base::{Bytes, Pick, Port, ReadRefusal, WriteRefusal};
 use viz_dataset::{Dataset, Image, Info};
 use viz_extent::Extent;
-use viz_legacy_read::{ReadStop, header, read};
-use viz_legacy_write::{Style, write_image};
+use viz_legacy_read::{header, read};
+use viz_legacy_write::write_image;
 
-/// How images are written.
-const STYLE: Style = Style {
-    binary: false,
-    digits: 3,
-};
-
-/// The image of a file with the header of one; the bytes are given up.
-fn image_of(alloc: Global, bytes: Bytes) -> Result<Image, ReadStop>
-    requires { IsImageFile bytes }
-    ensures found { IfOk result (ReadsImage bytes) }
-    ensures fault { IfErr result (IsStop bytes First 0) }
-    ensures valid { IfOk result IsImage }
+/// Refuses a file of a dataset that the filter doesn't take, by its header alone, which is read
+/// only where the filter doesn't take every dataset.
+fn admit(filter: &Filter, bytes: &[u8]) -> Result<(), MakeStop>
+    ensures ok { OnOk result (HasWrongInput filter.now bytes.now → ⊥) }
+    ensures cause { IfErr result (IsStopOf filter.now bytes.now) }
 {
-    match read(alloc, bytes.list(), &Pick::First, 0)? {
-        Dataset::Image(image) => Ok(image),
-        Dataset::Mesh(_) => unreachable!(),
+    match filter {
+        Filter::Threshold { .. } => match header(bytes)? {
+            Info::Image { .. } => Ok(()),
+            Info::Mesh => Err(MakeStop::Refused(Cause::WrongInput)),
+        },
+        Filter::Contour { .. } => Ok(()),
     }
+}
+
+/// The dataset of a file, where the filter takes it.
+fn input_of(alloc: Global, filter: &Filter, bytes: &[u8]) -> Result<Dataset, MakeStop>
+    ensures value { IfOk result (IsTaken filter.now bytes.now) }
+    ensures cause { IfErr result (IsStopOf filter.now bytes.now) }
+{
+    admit(filter, bytes)?;
+    let dataset = read(alloc, bytes, &Pick::First, 0)?;
+    Ok(dataset)
 }
 
 /// How many cubes there are between the points of an extent.
@@ -55,7 +59,7 @@ fn cube_count(extent: &Extent) -> u64
 
 /// The text and the numbers of a thresholded image. Its input is given up before the text is made.
 fn thresholded(alloc: Global, image: Image, lo: &i64, hi: &i64) -> Result<Made, MakeStop>
-    ensures { MakesOf (Threshold lo.now hi.now) image result }
+    ensures { MakesOf (Threshold lo.now hi.now) (dataset.Image image) result }
 {
     let kept = threshold(alloc, &image, lo, hi)?;
     drop(image);
@@ -68,32 +72,30 @@ fn thresholded(alloc: Global, image: Image, lo: &i64, hi: &i64) -> Result<Made, 
     })
 }
 
-/// What a filter makes of an image.
-fn made_of(alloc: Global, filter: &Filter, image: Image) -> Result<Made, MakeStop>
-    ensures { MakesOf filter.now image result }
+/// What a filter makes of a dataset that it takes.
+fn made_of(alloc: Global, filter: &Filter, dataset: Dataset) -> Result<Made, MakeStop>
+    requires takes { Takes filter.now dataset }
+    requires sound { IsSound dataset }
+    ensures { MakesOf filter.now dataset result }
 {
-    match filter {
-        Filter::Threshold { lo, hi } => thresholded(alloc, image, lo, hi),
-        Filter::Contour { level } => contour(alloc, image, level),
+    match (filter, dataset) {
+        (Filter::Threshold { lo, hi }, Dataset::Image(image)) => thresholded(alloc, image, lo, hi),
+        (Filter::Threshold { .. }, Dataset::Mesh(_)) => unreachable!(),
+        (Filter::Contour { level }, dataset) => contour(alloc, dataset, level),
     }
 }
 
-/// What a filter makes of a file's image. A mesh is refused by its header, and no more of it is
-/// read. The file's bytes are given up before the text is made.
+/// What a filter makes of a file's dataset. The file's bytes are given up before it is made.
 fn make(alloc: Global, filter: &Filter, bytes: Bytes) -> Result<Made, MakeStop>
     ensures { Makes filter.now bytes result }
 {
-    match header(bytes.list())? {
-        Info::Image { .. } => {
-            let image = image_of(alloc, bytes)?;
-            made_of(alloc, filter, image)
-        }
-        Info::Mesh => Err(MakeStop::Refused(Cause::WrongInput)),
-    }
+    let dataset = input_of(alloc, filter, bytes.list())?;
+    drop(bytes);
+    made_of(alloc, filter, dataset)
 }
 
 /// Reads the command's input, and writes its output where the input is a file and the filter
-/// accepts its image.
+/// accepts its dataset.
 pub fn serve<P: Port>(alloc: Global, command: &Once<'_>, port: &mut P) -> Outcome
     ensures { IsServed P.Port (command_view command.now) result port.old port.new }
 {

@@ -7,15 +7,15 @@ ghost use Rattle.viz_session.specs.Made.{of_fault, of_read, of_work, of_write};
 use crate::outcome::Cause;
 use std::alloc::AllocError;
 use thiserror::Error;
-use viz_contour::WorkStop;
 use viz_legacy_read::ReadStop;
 use viz_legacy_write::WriteStop;
 use viz_lex::FileFault;
+use viz_piece::WorkStop;
 
 /// Why nothing was made of a file.
 #[derive(Debug, Drop, Error)]
 pub enum MakeStop {
-    /// The file is no file of the format, or no image, or the filter refuses its image.
+    /// The file is no file of the format, or the filter doesn't take its dataset, or refuses it.
     #[error("refused")]
     Refused(Cause),
     /// Want of memory.

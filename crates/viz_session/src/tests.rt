@@ -4,7 +4,7 @@ use crate::contour_texts::FIRST_SURFACE;
 use crate::image_files::{
     CORNER, CORNER_BINARY, CORNER_END, LARGE, LARGE_WRITTEN, PAST_TYPE, SQUARE, SQUARE_WRITTEN,
 };
-use crate::mesh_files::{CUT, GRID, STRIP};
+use crate::mesh_files::{CUT, FAR_LINE, FLOAT_POINTS, GRID, NO_CELLS, STRIP};
 use crate::runs::{desk, files, joined, output_of, port, ran, ran_on, replaced, words};
 use crate::{Status, run};
 use std::process::Abort;
@@ -128,42 +128,81 @@ fn refusals_leave_the_output(rt: HostRuntime) -> Result<(), Fail> {
     leaves(&rt, &short, 205, 1, fault, "fault read\n")
 }
 
-// Both filters refuse these bytes with this line, and leave the output.
+const THRESHOLD: &str = "once a.vtk o.vtk threshold 1 2";
+
+const CONTOUR: &str = "once a.vtk o.vtk contour 0";
+
+// The filter refuses these bytes with this line, and leaves the output.
 fn refuses<R: Threads + Wait + Sync + AllocGlobal + Abort>(
     rt: &R,
+    line: &str,
     bytes: &str,
     want: &str,
 ) -> Result<(), Fail> {
-    for line in [
-        "once a.vtk o.vtk threshold 1 2",
-        "once a.vtk o.vtk contour 0",
+    let (status, told, ports) = ran_on(rt, rt.alloc(), line, bytes.as_bytes())?;
+    assert!(rt; status == Status::Refused, "{line}: {told}");
+    assert_eq!(rt; told.as_str(), want, "{line}: {bytes}");
+    assert!(rt; output_of(&ports) == Some(b"old".as_slice()), "{line}");
+    Ok(())
+}
+
+#[test]
+fn a_mesh_has_no_threshold_by_its_header_alone(rt: HostRuntime) -> Result<(), Fail> {
+    let past = replaced(rt.alloc(), GRID, "4 0 1 2 3", "4 0 1 2 4")?;
+    for bytes in [
+        // A grid, polydata without an array, a mesh without cells, and a written surface.
+        GRID,
+        STRIP,
+        NO_CELLS,
+        FIRST_SURFACE,
+        // Faults behind the header: no number of points, points of floats, an index past the points.
+        CUT,
+        FLOAT_POINTS,
+        past.as_str(),
     ] {
-        let (status, told, ports) = ran_on(rt, rt.alloc(), line, bytes.as_bytes())?;
-        assert!(rt; status == Status::Refused, "{line}: {told}");
-        assert_eq!(rt; told.as_str(), want, "{line}: {bytes}");
-        assert!(rt; output_of(&ports) == Some(b"old".as_slice()), "{line}");
+        refuses(&rt, THRESHOLD, bytes, "refused fault:op:WrongInput(1)\n")?;
     }
     Ok(())
 }
 
 #[test]
-fn a_mesh_is_refused_by_its_header_alone(rt: HostRuntime) -> Result<(), Fail> {
+fn a_broken_mesh_has_no_contour(rt: HostRuntime) -> Result<(), Fail> {
     let alloc = rt.alloc();
-    let wrong = "refused fault:op:WrongInput(1)\n";
-    // A grid, polydata without an array, and a written surface.
-    refuses(&rt, GRID, wrong)?;
-    refuses(&rt, STRIP, wrong)?;
-    refuses(&rt, FIRST_SURFACE, wrong)?;
-    // Faults behind the header: no number of points, and an index past them.
-    refuses(&rt, CUT, wrong)?;
     let past = replaced(alloc, GRID, "4 0 1 2 3", "4 0 1 2 4")?;
-    refuses(&rt, past.as_str(), wrong)?;
-    // Faults of the header come first: the form, and a dataset that isn't read.
+    let floats = replaced(alloc, GRID, "4 int", "4 float")?;
+    for (bytes, want) in [
+        // No array of points to take the values from, and no number of points.
+        (STRIP, "refused fault:src:BadFile(NoArray,121)\n"),
+        (CUT, "refused fault:src:BadFile(Truncated,68)\n"),
+        // float-points-once, and a grid of such points
+        (FLOAT_POINTS, "refused fault:src:BadFile(FloatArray,61)\n"),
+        (
+            floats.as_str(),
+            "refused fault:src:BadFile(FloatArray,70)\n",
+        ),
+        // An index past the points.
+        (past.as_str(), "refused fault:src:BadFile(Index,116)\n"),
+    ] {
+        refuses(&rt, CONTOUR, bytes, want)?;
+    }
+    // A place past signed 64 bits, in thousandths.
+    let line = "once a.vtk o.vtk contour 2";
+    refuses(&rt, line, FAR_LINE, "refused fault:op:TooWide\n")
+}
+
+// Both filters refuse a header that has a fault: the form, and a dataset that isn't read.
+#[test]
+fn a_fault_of_the_header_comes_first(rt: HostRuntime) -> Result<(), Fail> {
+    let alloc = rt.alloc();
     let form = replaced(alloc, GRID, "ASCII", "TEXT")?;
-    refuses(&rt, form.as_str(), "refused fault:src:BadFile(Form,29)\n")?;
     let other = replaced(alloc, STRIP, "POLYDATA", "STRUCTURED_GRID")?;
-    let want = "refused fault:src:BadFile(Unsupported,43)\n";
-    refuses(&rt, other.as_str(), want)
+    for line in [THRESHOLD, CONTOUR] {
+        let want = "refused fault:src:BadFile(Form,29)\n";
+        refuses(&rt, line, form.as_str(), want)?;
+        let want = "refused fault:src:BadFile(Unsupported,43)\n";
+        refuses(&rt, line, other.as_str(), want)?;
+    }
+    Ok(())
 }
 
 #[test]
