@@ -1,5 +1,5 @@
 -- The edges of a contour have one end inside.
-use Rattle.std.proofs.Common.{◌≡◌, ◌≢◌, ℕ, ◌<◌, ◌≤◌, min, max, false, ℤ, List, length, get_or, slice_index, slice_index_or, sym, subst, arith}
+use Rattle.std.proofs.Common.{◌≢◌, ℕ, ◌<◌, ◌≤◌, min, max, false, ℤ, List, get_or, slice_index, slice_index_or, sym, subst, arith}
 use Rattle.std.proofs.Common.{inl, inr}
 use Rattle.std.specs.Prelude.{◌⊎◌}
 use Rattle.std.specs.List.{All, flat_map}
@@ -11,7 +11,7 @@ use Rattle.viz_grid_section.specs.Edges.{Edge, edge_of, each_once}
 use Rattle.viz_grid_section.specs.ImageSection.{insides, contour_cells, contour_edges, IsCutEdge}
 use Rattle.viz_grid_section.proofs.EdgeSets.{of-each_once}
 use Rattle.viz_grid_section.proofs.MembersLemmas.{Contains-item, All-in_section}
-use Rattle.viz_grid_section.proofs.TetrahedraLemmas.{IsTetrahedron, are_tetrahedra}
+use Rattle.viz_grid_section.proofs.TetrahedraLemmas.{are_tetrahedra}
 
 -- what holds of edges holds of them each once
 pub All-each_once : (P : Edge → Type 0) (ns : List Edge) → All P ns → All P (each_once ns)
@@ -21,7 +21,7 @@ All-each_once P ns each k d less =
     subst P has.2 (each has.0 n has.1)
 
 -- what holds of two numbers either way holds of the lesser and the greater
-by_order : (P : ℕ → ℕ → Type 0) (a b : ℕ) → P a b → P b a → P (min a b) (max a b)
+pub by_order : (P : ℕ → ℕ → Type 0) (a b : ℕ) → P a b → P b a → P (min a b) (max a b)
 by_order P a b there back = cases (compare a b)
   where
     compare : (a b : ℕ) → (a ≤ b) ⊎ (b ≤ a)

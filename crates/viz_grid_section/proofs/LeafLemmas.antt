@@ -1,6 +1,6 @@
 -- The point of a leaf: its scalar by its weight, and the value of a contour's form there.
 use Rattle.std.proofs.Common.{◌≡◌, ℕ, zero, suc, negsuc, get_or, true≢false, ◌+◌, ◌-◌, ◌*◌, ◌/◌, ◌%◌, ◌^◌, ◌<◌, ◌≤◌, Bool, true, false, ℤ, pos, List, length, slice_index_or, refl, sym, ap, subst, ◌∙◌, arith}
-use Rattle.std.specs.Prelude.{◌+ℤ◌, ◌-ℤ◌, ◌*ℤ◌, ◌<ℤ◌, ◌≤ℤ◌, unsigned_abs, int_div, FitsSigned, int_le}
+use Rattle.std.specs.Prelude.{◌-ℤ◌, ◌*ℤ◌, ◌<ℤ◌, ◌≤ℤ◌, unsigned_abs, int_div, FitsSigned, int_le}
 use Rattle.std.specs.Int.{w64}
 use Rattle.std.specs.List.{list_all}
 use Rattle.std.proofs.Math.Nat.{div-le_self, mul-le-mul, pow-le-pow_right}
@@ -14,12 +14,12 @@ use Rattle.viz_extent.specs.Numbering.{index_at}
 use Rattle.viz_extent.proofs.NumberingLemmas.{parts-of_index, index_at-by_rows, number-of_parts}
 use Rattle.viz_fraction.specs.Points.{Point, numbers, reduced, divisor_of}
 use Rattle.viz_fraction.specs.Forms.{contour_form, value_of, IsNarrowValue}
-use Rattle.viz_fraction.proofs.IntegersLemmas.{abs-div, cancel, mul_left_comm, mul-+ℤ, mul--ℤ}
-use Rattle.viz_fraction.proofs.PointsLemmas.{reduced_same_place, reduced_positive, same_point}
+use Rattle.viz_fraction.proofs.IntegersLemmas.{abs-div, cancel, mul_left_comm, mul--ℤ}
+use Rattle.viz_fraction.proofs.PointsLemmas.{reduced_same_place, reduced_positive}
 use Rattle.viz_column.specs.declared.kind.Kind8.{Kind8}
 use Rattle.viz_column.specs.declared.kind.Kind8.TheVariants.{I8, U8, I16, U16, I32, U32, I64, U64}
 use Rattle.viz_column.specs.Kinds.{fits, fits_signed, fits_unsigned}
-use Rattle.viz_dataset.specs.Images.{ImageData, IsImage, billion, position, placed, point_at}
+use Rattle.viz_dataset.specs.Images.{ImageData, IsImage, billion, point_at}
 use Rattle.viz_grid_section.proofs.MembersLemmas.{get_or-map_of}
 use Rattle.viz_meaning.specs.Tetrahedra.{point_of_leaf}
 use Rattle.viz_grid_section.specs.ImageSection.{insides}

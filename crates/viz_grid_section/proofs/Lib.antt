@@ -6,3 +6,8 @@ pub mod MembersLemmas
 pub mod LeafLemmas
 pub mod SectionLemmas
 pub mod CutLemmas
+pub mod LeafSheets
+pub mod NamedCells
+pub mod NamedSets
+pub mod ContourSection
+pub mod NarrowLemmas

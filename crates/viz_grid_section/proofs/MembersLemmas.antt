@@ -1,4 +1,4 @@
--- The edges of a section are the cut edges of its tetrahedra.
+-- The edges of a section are cut edges of its tetrahedra.
 use Rattle.std.proofs.Common.{◌≡◌, ◌≢◌, ℕ, suc, zero, ◌+◌, ◌*◌, ◌<◌, Bool, true, false, if◌then◌else◌, List, [], ◌∷◌, ◌++◌, map, length, get_or, slice_index, slice_index_or, refl, sym, ap, subst, ◌∙◌, arith}
 use Rattle.std.specs.List.{All, Contains, flat_map}
 use Rattle.std.proofs.lemmas.List.{get_or_default}
@@ -29,7 +29,7 @@ map-append_of f [] ys = refl
 map-append_of f (x ∷ xs) ys = ap (λ rest. f x ∷ rest) (map-append_of f xs ys)
 
 -- the items of cells made item by item, cell by cell
-map-pieces : {X Y : Type 0} (f : X → Y) (cells : List (List X))
+pub map-pieces : {X Y : Type 0} (f : X → Y) (cells : List (List X))
     → flat_map (λ (p : List Y). p) (map (λ (cell : List X). map f cell) cells) ≡ map f (flat_map (λ (p : List X). p) cells)
 map-pieces f [] = refl
 map-pieces {X} f (cell ∷ cells) =
@@ -50,10 +50,6 @@ get_or-map_of f (x ∷ xs) (suc k) d e within = get_or-map_of f xs k d e (omega 
 pub length-map_of : {X Y : Type 0} (f : X → Y) (xs : List X) → length (map f xs) ≡ length xs
 length-map_of f [] = refl
 length-map_of f (x ∷ xs) = ap (λ n. suc n) (length-map_of f xs)
-
-Contains-map_of : {X Y : Type 0} (f : X → Y) (xs : List X) (x : X) → Contains xs x → Contains (map f xs) (f x)
-Contains-map_of f xs x has =
-    (has.0, rw length-map_of has.1, get_or-map_of f xs has.0 x (f x) has.1 ∙ ap f has.2)
 
 pub Contains-item : {X : Type 0} (xs : List X) (k : ℕ) (d : X) → k < length xs → Contains xs (get_or xs k d)
 Contains-item xs k d within = (k, within, get_or_default xs k (get_or xs k d) d within)
@@ -97,7 +93,7 @@ four_below : (p q r s : Bool) → four_bits p q r s < 16
 four_below p q r s = grind arith
 
 -- a list of four items is four items
-by_four : (P : List ℕ → Type 0) → ((a b c d : ℕ) → P (a ∷ b ∷ c ∷ d ∷ [])) → (leaves : List ℕ) → length leaves ≡ 4 → P leaves
+pub by_four : (P : List ℕ → Type 0) → ((a b c d : ℕ) → P (a ∷ b ∷ c ∷ d ∷ [])) → (leaves : List ℕ) → length leaves ≡ 4 → P leaves
 by_four P each [] four = absurd (omega arith)
 by_four P each (a ∷ []) four = absurd (omega arith)
 by_four P each (a ∷ b ∷ []) four = absurd (omega arith)
@@ -152,23 +148,6 @@ All-in_tetrahedron P inside leaves four each =
     let low : e.low < 4 = omega (arith, cut.order, cut.within) in
     each e.low e.high cut.order cut.within (λ same. cut.apart (mask_bit inside leaves four e.low low ∙ same ∙ sym (mask_bit inside leaves four e.high cut.within)))))
 
--- each cut edge is one in the tetrahedron
-pub Contains-in_tetrahedron : (inside : List Bool) (leaves : List ℕ) → length leaves ≡ 4 → (i j : ℕ) → i < j → j < 4
-    → slice_index_or inside (slice_index leaves i) false ≢ slice_index_or inside (slice_index leaves j) false
-    → Contains (flat_map (λ (cell : List Edge). cell) (cells_in inside leaves)) (edge_of (slice_index leaves i) (slice_index leaves j))
-Contains-in_tetrahedron inside leaves four i j order within apart =
-    let m = mask_of inside leaves in
-    let e : End = record { low = i; high = j } in
-    let low : i < 4 = omega arith in
-    let cut : IsCut 4 m e = record {
-      order = order;
-      within = within;
-      apart = λ same. apart (sym (mask_bit inside leaves four i low) ∙ same ∙ mask_bit inside leaves four j within);
-    } in
-    let has = (uses_cut_edges 4 m (mask_case inside leaves four) e).1 cut in
-    let Q : List Edge → Type 0 = λ ns. Contains ns (edge_of (slice_index leaves i) (slice_index leaves j)) in
-    subst Q (sym (edges-in_tetrahedron inside leaves)) (Contains-map_of (end_edge leaves) (ends_of (cells_at 4 m)) e has)
-
 -- ---- all tetrahedra
 
 -- the edges of a section, tetrahedron by tetrahedron
@@ -186,14 +165,3 @@ All-in_section P b inside each =
     let Q : List Edge → Type 0 = λ ns. All P ns in
     subst Q (sym (edges-of_section b inside)) (All-flat_map P (λ leaves. flat_map (λ (cell : List Edge). cell) (cells_in inside leaves)) (tetrahedra_of b)
     (λ k d less. All-in_tetrahedron P inside (get_or (tetrahedra_of b) k d) (are_tetrahedra b k d less).four (each k d less)))
-
--- each cut edge of each tetrahedron is one of the section
-pub Contains-in_section : (b : Bounds) (inside : List Bool) (k : ℕ) (d : List ℕ) → k < length (tetrahedra_of b) → (i j : ℕ) → i < j → j < 4
-    → slice_index_or inside (slice_index (get_or (tetrahedra_of b) k d) i) false ≢ slice_index_or inside (slice_index (get_or (tetrahedra_of b) k d) j) false
-    → Contains (flat_map (λ (cell : List Edge). cell) (grid_cells b inside)) (edge_of (slice_index (get_or (tetrahedra_of b) k d) i) (slice_index (get_or (tetrahedra_of b) k d) j))
-Contains-in_section b inside k d less i j order within apart =
-    let leaves = get_or (tetrahedra_of b) k d in
-    let Q : List Edge → Type 0 = λ ns. Contains ns (edge_of (slice_index leaves i) (slice_index leaves j)) in
-    subst Q (sym (edges-of_section b inside))
-    (Contains-flat_map (λ t. flat_map (λ (cell : List Edge). cell) (cells_in inside t)) (tetrahedra_of b) k d _ less
-    (Contains-in_tetrahedron inside leaves (are_tetrahedra b k d less).four i j order within apart))
