@@ -17,20 +17,13 @@ use Rattle.viz_grid_section.specs.GridSection.{grid_cells, cells_in}
 use Rattle.viz_grid_section.proofs.EdgeOrder.{edge_cmp}
 use Rattle.viz_grid_section.proofs.EdgeSets.{each_once-from_members}
 use Rattle.viz_grid_section.proofs.EdgeRanks.{rank-at}
-use Rattle.viz_grid_section.proofs.MembersLemmas.{get_or-map_of, length-map_of, All-in_section}
+use Rattle.viz_grid_section.proofs.MembersLemmas.{get_or-map_of, length-map_of, map-pieces, All-in_section}
 use Rattle.viz_grid_section.proofs.TetrahedraLemmas.{are_tetrahedra}
 use Rattle.viz_sheet.specs.Kept.{kept, kept_rank, AreMarks}
 use Rattle.viz_sheet.proofs.KeptLemmas.{kept-at, rank-below, rank-from, kept-sorted}
 use Rattle.viz_flags.specs.Edges.{edge, cells_by}
 use Rattle.viz_flags.specs.Flagged.{all_edges, flagged, FlaggedAreEdges, FlagsAreRanks}
 use Rattle.viz_flags.proofs.NumberOrder.{edges_rise}
-
--- the items of cells made by a function
-map-pieces : {X Y : Type 0} (f : X → Y) (cells : List (List X))
-    → flat_map (λ (p : List Y). p) (map (λ (cell : List X). map f cell) cells) ≡ map f (flat_map (λ (p : List X). p) cells)
-map-pieces f [] = refl
-map-pieces {X} f (cell ∷ cells) =
-    ap (λ rest. map f cell ++ rest) (map-pieces f cells) ∙ sym (map-append f cell (flat_map (λ (p : List X). p) cells))
 
 -- an extent without cubes has no tetrahedron
 empty_is : {X : Type 0} (xs : List X) → length xs ≡ 0 → xs ≡ []

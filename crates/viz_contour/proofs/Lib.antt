@@ -1,0 +1,2 @@
+mod UnitLemmas
+mod EndLemmas
