@@ -54,5 +54,6 @@ fn ranked(alloc: Global, level: &i64, image: &Image) -> Result<Ranked, AllocErro
     ensures fits { OnOk result (FitsSigned w64 level.now) }
 {
     let inside = image_insides(alloc, level, image)?;
-    ranked_section(alloc, &image.extent(), 0, &inside)
+    let ranked = ranked_section(alloc, &image.extent(), 0, &inside)?;
+    Ok(ranked)
 }
