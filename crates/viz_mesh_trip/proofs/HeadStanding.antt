@@ -1,5 +1,5 @@
 -- The two lines in front of a mesh, the form and the dataset, as they are written; and the file, where its contents stand behind them.
-use Rattle.std.proofs.Common.{◌≡◌, ℕ, zero, suc, ◌+◌, ◌≤◌, Bool, true, false, not, List, [], ◌∷◌, ◌++◌, length, drop, refl, ap, ◌∙◌, append_assoc, arith}
+use Rattle.std.proofs.Common.{◌≡◌, ℕ, zero, suc, ◌+◌, ◌≤◌, Bool, true, false, not, List, [], ◌∷◌, ◌++◌, length, drop, inl, inr, refl, ap, ◌∙◌, append_assoc, arith}
 use Rattle.std.specs.Prelude.{codes, nat_eq, Option}
 use Rattle.std.specs.List.{list_all}
 use Rattle.std.specs.Fmt.{digits, decimal}
@@ -7,6 +7,7 @@ use Rattle.viz_base.specs.declared.node.Pick.{Pick}
 use Rattle.viz_dataset.specs.declared.dataset.Dataset.TheVariants.{Mesh}
 use Rattle.viz_sheet.specs.Sheet.{SheetData}
 use Rattle.viz_column.specs.Numbers.{Numbers}
+use Rattle.viz_lex.specs.declared.fault.FileFault.{FileFault}
 use Rattle.viz_lex.specs.declared.fault.FileKind.TheVariants.{Magic, Title}
 use Rattle.viz_lex.specs.Reading.{Reading, rest_of, fault_at}
 use Rattle.viz_lex.specs.Rules.{Rule, gives, demand, follow}
@@ -19,7 +20,10 @@ use Rattle.viz_file_mesh.specs.FileMesh.{mesh_of}
 use Rattle.viz_file_mesh.specs.GridPieces.{grid_pieces}
 use Rattle.viz_legacy_read.specs.Magic.{magic, is_magic, is_later, line, two_lines}
 use Rattle.viz_legacy_read.specs.MeshFile.{cells_by_kind}
+use Rattle.viz_legacy_read.specs.Header.{header}
+use Rattle.viz_legacy_read.specs.Header.Heading.{OfMesh}
 use Rattle.viz_legacy_read.specs.File.{file}
+use Rattle.viz_legacy_read.proofs.HeaderLaws.{decides-header}
 use Rattle.viz_legacy_write.specs.ImageText.{form_line}
 use Rattle.viz_mesh_write.specs.MeshText.{title_lines, dataset_line}
 use Rattle.viz_round_trip.proofs.StandingLemmas.{Stands, stands-gives, stands-follow, stands-demand}
@@ -142,3 +146,21 @@ stands-poly_file binary digits pick unit old m behind few e later =
       rest = all.rest;
       },
     )
+
+-- a fault behind the dataset of polydata, of the same bytes
+pub stops-poly_file : (binary : Bool) (digits : ℕ) (pick : Pick) (unit : ℕ) (old : Reading) (fault : FileFault) (behind : List ℕ) → digits ≤ 9 → rest_of old ≡ title_lines digits ++ (form_line binary ++ (dataset_line false ++ behind))
+    → ((new : Reading) → new.bytes ≡ old.bytes → rest_of new ≡ 10 ∷ behind → (poly_rule binary pick unit).isnt new fault) → (file pick unit).isnt old fault
+unfolding dataset_line
+stops-poly_file binary digits pick unit old fault behind few e later =
+    let name = codes "POLYDATA" in
+    let a = stands-title digits old (form_line binary ++ (dataset_line false ++ behind)) few e in
+    let b = stands-form binary a.new (dataset_line false ++ behind) a.rest in
+    let key = stands-keyword (codes "DATASET") b.new (10 ∷ []) (codes "DATASET") (32 ∷ (name ++ 10 ∷ behind)) refl (record { parts = b.rest; blank = blank-one 10 refl; is_word = word-solid (codes "DATASET") refl; ends = refl }) in
+    let named = stands-next key.new (32 ∷ []) name (10 ∷ behind) (record { parts = key.rest; blank = blank-one 32 refl; is_word = word-solid name refl; ends = refl }) in
+    let header_is : header.is old named.new (OfMesh _) = (
+      _,
+      named.new,
+      (false, a.new, a.is, (binary, b.new, b.is, (_, named.new, (tt, key.new, key.is, ((key.new.place + 1, name), named.new, named.is, (refl {a = named.new}, refl))), (refl {a = named.new}, refl)))),
+      (refl {a = named.new}, refl),
+    ) in
+    inr (_, named.new, header_is, inl (later named.new (decides-header.along old named.new _ header_is).same named.rest))

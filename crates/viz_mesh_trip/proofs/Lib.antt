@@ -9,3 +9,4 @@ pub mod PieceLemmas
 pub mod MeshTexts
 pub mod MeshStanding
 pub mod AgainLemmas
+pub mod OnlyLemmas

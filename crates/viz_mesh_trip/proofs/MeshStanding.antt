@@ -1,5 +1,5 @@
 -- The text of a mesh is a file of it.
-use Rattle.std.proofs.Common.{◌≡◌, ◌≢◌, ℕ, suc, ℤ, pos, negsuc, ◌*◌, ◌^◌, ◌<◌, ◌≤◌, ◌&&◌, Bool, true, false, List, [], ◌∷◌, ◌++◌, length, map, refl, sym, ap, subst, ◌∙◌, append_assoc, append-nil, lt-ltb, arith}
+use Rattle.std.proofs.Common.{◌≡◌, ◌≢◌, ℕ, suc, ℤ, pos, negsuc, ◌*◌, ◌^◌, ◌<◌, ◌≤◌, ◌&&◌, Bool, true, false, List, [], ◌∷◌, ◌++◌, length, map, inl, inr, refl, sym, ap, subst, ◌∙◌, append_assoc, append-nil, lt-ltb, arith}
 use Rattle.std.specs.Prelude.{codes, Some, None, ◌||◌, FitsSigned, if◌then◌else◌}
 use Rattle.std.specs.Int.{w64}
 use Rattle.std.specs.List.{All, flat_map, list_all}
@@ -13,7 +13,8 @@ use Rattle.viz_fraction.specs.Decimals.{fixed_of}
 use Rattle.viz_column.specs.declared.kind.Kind8.TheVariants.{I64}
 use Rattle.viz_column.specs.Kinds.{fits}
 use Rattle.viz_column.specs.Numbers.{Numbers, AreInRange}
-use Rattle.viz_lex.specs.Reading.{Reading, rest_of}
+use Rattle.viz_lex.specs.declared.fault.FileKind.TheVariants.{NoArray}
+use Rattle.viz_lex.specs.Reading.{Reading, rest_of, fault_at}
 use Rattle.viz_lex.specs.Words.{IsBlank}
 use Rattle.viz_lex.specs.Rules.{gives, choose, follow}
 use Rattle.viz_attr.specs.Picks.{has_fit, picked_of}
@@ -22,13 +23,14 @@ use Rattle.viz_mesh_read.specs.Sections.{HasIndices, HaveIndices}
 use Rattle.viz_mesh_read.specs.Grid.{grid}
 use Rattle.viz_mesh_read.specs.Poly.{polydata}
 use Rattle.viz_mesh_read.specs.Pieces.{pieces_of}
+use Rattle.viz_mesh_read.proofs.PolyLaws.{decides-polydata}
 use Rattle.viz_file_mesh.specs.FileMesh.{mesh_of}
 use Rattle.viz_file_mesh.specs.GridPieces.{grid_pieces}
 use Rattle.viz_sheet.specs.Sheet.{SheetData, IsSheet}
 use Rattle.viz_sheet.specs.Ranked.{IsCell}
 use Rattle.viz_legacy_read.specs.MeshFile.{cells_by_kind}
 use Rattle.viz_legacy_read.specs.File.{file}
-use Rattle.viz_legacy_read.specs.Reading.{front, Reads}
+use Rattle.viz_legacy_read.specs.Reading.{front, Reads, Stops}
 use Rattle.viz_legacy_write.specs.ImageText.{form_line, values_text}
 use Rattle.viz_mesh_write.specs.Cells.{points_of, cells_of, of_size, has_tetrahedra}
 use Rattle.viz_mesh_write.specs.Fits.{FitCounts, FitsRow, FitNumbers}
@@ -37,13 +39,13 @@ use Rattle.viz_round_trip.proofs.StandingLemmas.{Stands, stands-gives, stands-fo
 use Rattle.viz_round_trip.proofs.WordStanding.{blank-one}
 use Rattle.viz_round_trip.proofs.ArrayStanding as array
 use Rattle.viz_round_trip.proofs.AttributeStanding.{parts_text as data_text, stands-attributes}
-use Rattle.viz_mesh_trip.specs.MeshTrip.{AreWritable, points_in_file, scalars_in_file, by_kinds, in_order, read_of, nothing}
+use Rattle.viz_mesh_trip.specs.MeshTrip.{AreWritable, points_in_file, scalars_in_file, by_kinds, in_order, read_of, empty_mesh}
 use Rattle.viz_mesh_trip.proofs.FrontLemmas.{gap-blank, gap-some}
 use Rattle.viz_mesh_trip.proofs.SectionStanding.{HasSize, type_row, types_gap, cells_gap, size_long}
 use Rattle.viz_mesh_trip.proofs.PointStanding.{numbers_of_points, points_behind}
 use Rattle.viz_mesh_trip.proofs.GridStanding.{grid_behind, grid_with, stands-grid}
 use Rattle.viz_mesh_trip.proofs.PolyStanding.{AreRead, kinds_of, with_data, kinds_behind, poly_with, stands-poly, stands-no_poly}
-use Rattle.viz_mesh_trip.proofs.HeadStanding.{StandsHere, given_by, grid_rule, poly_rule, stands-grid_file, stands-poly_file}
+use Rattle.viz_mesh_trip.proofs.HeadStanding.{StandsHere, given_by, grid_rule, poly_rule, stands-grid_file, stands-poly_file, stops-poly_file}
 use Rattle.viz_mesh_trip.proofs.IndexLemmas.{cells-are, no_points-no_cells, no_cells-no_points}
 use Rattle.viz_mesh_trip.proofs.PieceLemmas.{grid-pieces, poly-pieces, all-of_size}
 use Rattle.viz_mesh_trip.proofs.MeshTexts.{points_parts, section_parts, grid_parts, kinds_parts, scalars_parts}
@@ -258,18 +260,18 @@ stands-none binary old left blank e =
     let all : Stands (parts g) old [] left = record { new = old; is = (refl, subst IsBlank (sym e) blank); rest = e } in
     stands-follow (parts g) (λ all. choose (is_zero g.pick || has_fit g (joined all)) (gives (picked_of g (joined all))) no_array) old [] None left left all (stands-gives None all.new left all.rest)
 
-stands-empty : (binary : Bool) (digits : ℕ) (old : Reading) → digits ≤ 9 → rest_of old ≡ empty_text binary digits → StandsHere (file Zero digits) old (Mesh nothing)
+stands-empty : (binary : Bool) (digits : ℕ) (old : Reading) → digits ≤ 9 → rest_of old ≡ empty_text binary digits → StandsHere (file Zero digits) old (Mesh empty_mesh)
 stands-empty binary digits old few e =
     let section = section_text binary (codes "POLYGONS") [] in
     let behind = points_text binary digits [] ++ (section ++ []) in
     let parts = regrouped (title_lines digits) (form_line binary) (dataset_line false) (points_text binary digits []) section [] in
     let lines = ap (λ (t : List ℕ). points_text binary digits [] ++ t) (section_parts binary (codes "POLYGONS") [] []) ∙ points_parts binary digits [] _ in
-    stands-poly_file binary digits Zero digits old nothing behind few (e ∙ parts) (λ new rest.
+    stands-poly_file binary digits Zero digits old empty_mesh behind few (e ∙ parts) (λ new rest.
     let left = cells_gap binary [] ++ [] in
     let poly = stands-no_poly binary digits new (rest ∙ ap (λ (t : List ℕ). 10 ∷ t) lines) in
     let d = stands-none binary poly.new left (blank_end binary) poly.rest in
-    (left, stands-follow (polydata binary false) _ new (poly_with digits [] [] [] []) nothing left left poly
-    (stands-follow (attributes (given_by binary 0 0 Zero)) _ poly.new None nothing left left d (stands-gives nothing d.new left d.rest))))
+    (left, stands-follow (polydata binary false) _ new (poly_with digits [] [] [] []) empty_mesh left left poly
+    (stands-follow (attributes (given_by binary 0 0 Zero)) _ poly.new None empty_mesh left left d (stands-gives empty_mesh d.new left d.rest))))
 
 empty-text : (binary : Bool) (digits : ℕ) (sheets : List SheetData) → points_of sheets ≡ [] → cells_of sheets ≡ [] → mesh_text binary digits sheets ≡ empty_text binary digits
 unfolding mesh_text
@@ -277,8 +279,29 @@ empty-text binary digits sheets e f =
     ap (λ (cs : List (List ℕ)). title_lines digits ++ form_line binary ++ dataset_line (has_tetrahedra cs) ++ points_text binary digits (points_of sheets) ++ cells_text binary cs ++ scalars_text binary (points_of sheets)) f
     ∙ ap (λ (ps : List Point). title_lines digits ++ form_line binary ++ dataset_line false ++ points_text binary digits ps ++ section_text binary (codes "POLYGONS") [] ++ scalars_text binary ps) e
 
-pub reads-nothing : (binary : Bool) (digits : ℕ) (sheets : List SheetData) → AreWritable digits sheets → points_of sheets ≡ [] → Reads (mesh_text binary digits sheets) Zero digits (Mesh nothing)
+-- where an array is asked for there is none, and the fault lies at the end
+stops-empty : (binary : Bool) (digits : ℕ) (old : Reading) → digits ≤ 9 → rest_of old ≡ empty_text binary digits → (file First digits).isnt old (fault_at NoArray (length old.bytes))
+stops-empty binary digits old few e =
+    let section = section_text binary (codes "POLYGONS") [] in
+    let behind = points_text binary digits [] ++ (section ++ []) in
+    let parts = regrouped (title_lines digits) (form_line binary) (dataset_line false) (points_text binary digits []) section [] in
+    let lines = ap (λ (t : List ℕ). points_text binary digits [] ++ t) (section_parts binary (codes "POLYGONS") [] []) ∙ points_parts binary digits [] _ in
+    stops-poly_file binary digits First digits old (fault_at NoArray (length old.bytes)) behind few (e ∙ parts) (λ new same rest.
+    let poly = stands-no_poly binary digits new (rest ∙ ap (λ (t : List ℕ). 10 ∷ t) lines) in
+    let p = poly_with digits [] [] [] [] in
+    let blank = subst IsBlank (sym poly.rest) (blank_end binary) in
+    let bytes : old.bytes ≡ poly.new.bytes = sym (((decides-polydata binary false).along new poly.new p poly.is).same ∙ same) in
+    inr (p, poly.new, poly.is, inl (inr ([], poly.new, (refl, blank), ap (λ (bs : List ℕ). fault_at NoArray (length bs)) bytes))))
+
+no_cells : (sheets : List SheetData) → All IsSheet sheets → points_of sheets ≡ [] → cells_of sheets ≡ []
+no_cells sheets known none =
+    no_points-no_cells (cells_of sheets) (subst (λ (ps : List Point). All (IsCell (length ps)) (cells_of sheets)) none (cells-are sheets known))
+
+pub reads-nothing : (binary : Bool) (digits : ℕ) (sheets : List SheetData) → AreWritable digits sheets → points_of sheets ≡ [] → Reads (mesh_text binary digits sheets) Zero digits (Mesh empty_mesh)
 reads-nothing binary digits sheets are none =
-    let no_cells = no_points-no_cells (cells_of sheets) (subst (λ (ps : List Point). All (IsCell (length ps)) (cells_of sheets)) none (cells-are sheets are.known)) in
-    let all = stands-empty binary digits (front (mesh_text binary digits sheets)) are.few (empty-text binary digits sheets none no_cells) in
+    let all = stands-empty binary digits (front (mesh_text binary digits sheets)) are.few (empty-text binary digits sheets none (no_cells sheets are.known none)) in
     (all.1.new, all.1.is)
+
+pub stops-nothing : (binary : Bool) (digits : ℕ) (sheets : List SheetData) → AreWritable digits sheets → points_of sheets ≡ [] → Stops (mesh_text binary digits sheets) First digits (fault_at NoArray (length (mesh_text binary digits sheets)))
+stops-nothing binary digits sheets are none =
+    stops-empty binary digits (front (mesh_text binary digits sheets)) are.few (empty-text binary digits sheets none (no_cells sheets are.known none))

@@ -56,5 +56,5 @@ written_again digits sheets =
     } ∷ []
 
 -- a mesh without points
-abbrev pub nothing : List SheetData
-nothing = record { names = []; points = []; cells = [] } ∷ []
+abbrev pub empty_mesh : List SheetData
+empty_mesh = record { names = []; points = []; cells = [] } ∷ []

@@ -7,4 +7,7 @@
 
 mod laws;
 
-pub use laws::written_types_are_wanted;
+pub use laws::{no_other_mesh_is_read, written_meshes_are_read_again, written_types_are_wanted};
+
+#[cfg(test)]
+mod tests;
