@@ -4,3 +4,4 @@ pub mod Tetrahedra
 pub mod Names
 pub mod Laws
 pub mod SectionLaws
+pub mod TetrahedraLaws

@@ -10,4 +10,5 @@ mod laws;
 
 pub use laws::{
     edges_have_two_ends, section_names_are_a_set, sections_are_sheets, sections_are_wide_in_a_cell,
+    tetrahedra_are_a_sheet,
 };
