@@ -1,6 +1,6 @@
 -- Cells between leaves are a sheet that fits.
-use Rattle.std.proofs.Common.{◌≡◌, ℕ, ◌<◌, ◌≤◌, ◌^◌, ⊎_elim, Bool, true, false, true≢false, List, [], ◌∷◌, length, get_or, map, sym, subst, refl, ◌∙◌, arith}
-use Rattle.std.specs.List.{All, Contains, flat_map, range_with_len}
+use Rattle.std.proofs.Common.{◌≡◌, ℕ, ◌<◌, ◌≤◌, ◌^◌, ⊎_elim, Bool, false, true≢false, List, [], ◌∷◌, length, get_or, map, sym, subst, refl, ◌∙◌, arith}
+use Rattle.std.specs.List.{All, flat_map, range_with_len}
 use Rattle.std.specs.Cmp.Lexicographic.{slice_cmp}
 use Rattle.std.specs.Ordering.{nat_cmp}
 use Rattle.std.proofs.lemmas.Bool.{cases_lt, cond_both, eqb-true}

@@ -1,12 +1,11 @@
 -- The tetrahedra of an image are a sheet: each has four different leaves, which are points of the image.
-use Rattle.std.proofs.Common.{◌≡◌, ◌≢◌, ℕ, ◌+◌, ◌<◌, ◌≤◌, ⊎_elim, ◌⊎◌, Bool, true, false, List, [], ◌∷◌, length, get_or, map, refl, sym, ap, subst, ◌∙◌, arith}
-use Rattle.std.specs.List.{All, flat_map}
+use Rattle.std.proofs.Common.{◌≡◌, ◌≢◌, ℕ, ◌+◌, ◌<◌, ⊎_elim, false, [], length, get_or, map, refl, sym, ap, subst, ◌∙◌, arith}
+use Rattle.std.specs.List.{All}
 use Rattle.std.proofs.lemmas.List.{get_or_default, length-map}
 use Rattle.std.proofs.lemmas.List.Elements.{All-map}
 use Rattle.viz_extent.specs.Extent.{Bounds, count_of, Has}
-use Rattle.viz_extent.specs.Numbering.{index_at}
 use Rattle.viz_extent.proofs.NumberingLemmas.{index_at_below, parts-of_index}
-use Rattle.viz_kuhn.specs.Corners.{Corner, IsCorner, IsEdge, IsStepUp, plus}
+use Rattle.viz_kuhn.specs.Corners.{Corner, IsCorner, IsEdge, IsStepUp}
 use Rattle.viz_kuhn.specs.Kuhn.{Row, corners_of, row, rows, EdgesAreSteps, OnlyCorners}
 use Rattle.viz_kuhn.specs.Places.{Place, place, place_of}
 use Rattle.viz_kuhn.specs.Cubes.{HasCube, all_lowest, cubes_of, lowest_of, leaf_of, leaves_of, six_at, tetrahedra_of}
