@@ -47,19 +47,29 @@ fn cell_of(size: u8, ranks: [u32; 4]) -> Result<Mixed, Fail> {
     Ok(Mixed::new(size, ranks))
 }
 
-// The sheet of cells of points that are named by their numbers.
-fn sheet_by(alloc: Global, rows: &[[i128; 5]], cells: &[Cell]) -> Result<Sheet, Fail> {
+// Points in all the room.
+fn places_of(alloc: Global, rows: &[[i128; 5]]) -> Result<Places, Fail> {
     let mut points = Vec::new(alloc);
     for row in rows {
         points.push(point_of(*row)?)?;
     }
+    Ok(Places::Wide(points))
+}
+
+// Cells of any sizes.
+fn ranks_of(alloc: Global, cells: &[Cell]) -> Result<Ranks, Fail> {
     let mut list = Vec::new(alloc);
     for (size, ranks) in cells {
         list.push(cell_of(*size, *ranks)?)?;
     }
-    let leaves = Leaves::of_points(alloc, rows.len() as u32)?;
-    let places = Places::Wide(points);
-    let ranks = Ranks::Any(list);
+    Ok(Ranks::Any(list))
+}
+
+// The sheet of cells of points that are named by their numbers.
+fn sheet_by(alloc: Global, count: u32, rows: &[[i128; 5]], cells: &[Cell]) -> Result<Sheet, Fail> {
+    let places = places_of(alloc, rows)?;
+    let ranks = ranks_of(alloc, cells)?;
+    let leaves = Leaves::of_points(alloc, count)?;
     if !are_cells(&leaves, &places, &ranks) {
         return Err("cells of ascending names")?;
     }
@@ -107,6 +117,7 @@ fn shows(rt: &impl Abort, mesh: &Mesh, points: &[[i128; 5]], cells: &[&[u32]]) {
 fn again(
     rt: &impl Abort,
     alloc: Global,
+    count: u32,
     rows: &[[i128; 5]],
     cells: &[Cell],
     points: &[[i128; 5]],
@@ -114,8 +125,8 @@ fn again(
 ) -> Result<(), Fail> {
     let line = [(2, [1, 0, 9, 9])];
     for binary in [false, true] {
-        let first = sheet_by(alloc, rows, cells)?;
-        let second = sheet_by(alloc, &SECOND, &line)?;
+        let first = sheet_by(alloc, count, rows, cells)?;
+        let second = sheet_by(alloc, 2, &SECOND, &line)?;
         let text = text_of(alloc, first, second, binary)?;
         let mesh = read_of(alloc, text.list())?;
         shows(rt, &mesh, points, want);
@@ -135,7 +146,7 @@ fn polydata_is_read_by_kinds(rt: HostRuntime) -> Result<(), Fail> {
         [0, 0, 1, 8, 2],
     ];
     let want: [&[u32]; 4] = [&[1], &[0, 2], &[4, 3], &[2, 1, 0]];
-    again(&rt, rt.alloc(), &FIRST[..3], &cells, &points, &want)
+    again(&rt, rt.alloc(), 3, &FIRST[..3], &cells, &points, &want)
 }
 
 #[test]
@@ -150,7 +161,7 @@ fn a_grid_is_read_in_order(rt: HostRuntime) -> Result<(), Fail> {
         [0, 0, 1, 8, 2],
     ];
     let want: [&[u32]; 4] = [&[2, 1, 0], &[0, 1, 2, 3], &[1], &[5, 4]];
-    again(&rt, rt.alloc(), &FIRST, &cells, &points, &want)
+    again(&rt, rt.alloc(), 4, &FIRST, &cells, &points, &want)
 }
 
 #[test]
