@@ -67,10 +67,10 @@ used_from first (s ∷ sheets) i h lt =
     let both = flat_map-append (λ (cell : List ℕ). cell) here rest in
     let long = length-append s.points (points_of sheets) in
     let place : Contains (members here ++ members rest) (first + i) = ⊎_elim
-        (λ below. Contains-append_left (members here) (members rest) (first + i) (sheet_used first s i is below))
-        (λ above. let same : next + (i - length s.points) ≡ first + i = omega (arith, above) in
-        Contains-append_right (members here) (members rest) (first + i) (subst (λ (k : ℕ). Contains (members rest) k) same (used_from next sheets (i - length s.points) (All-tail IsSheet s sheets h) (omega (arith, long, lt, above)))))
-        (cases_lt i (length s.points)) in
+    (λ below. Contains-append_left (members here) (members rest) (first + i) (sheet_used first s i is below))
+    (λ above. let same : next + (i - length s.points) ≡ first + i = omega (arith, above) in
+    Contains-append_right (members here) (members rest) (first + i) (subst (λ (k : ℕ). Contains (members rest) k) same (used_from next sheets (i - length s.points) (All-tail IsSheet s sheets h) (omega (arith, long, lt, above)))))
+    (cases_lt i (length s.points)) in
     subst (λ (xs : List ℕ). Contains xs (first + i)) (sym both) place
 
 used_index : (sheets : List SheetData) (i : ℕ) → All IsSheet sheets → i < length (points_of sheets) → Contains (members (cells_of sheets)) i

@@ -101,19 +101,19 @@ stands-grid_file binary digits pick unit old m behind few e later =
     let all = found.1 in (
       found.0,
       record {
-      new = all.new;
-      is = (
-        _,
-        named.new,
-        (
+        new = all.new;
+        is = (
           _,
           named.new,
-          (false, a.new, a.is, (binary, b.new, b.is, (_, named.new, (tt, key.new, key.is, ((key.new.place + 1, name), named.new, named.is, (refl {a = named.new}, refl))), (refl {a = named.new}, refl)))),
-          (refl {a = named.new}, refl),
-        ),
-        (m, all.new, all.is, (refl {a = all.new}, refl)),
-      );
-      rest = all.rest;
+          (
+            _,
+            named.new,
+            (false, a.new, a.is, (binary, b.new, b.is, (_, named.new, (tt, key.new, key.is, ((key.new.place + 1, name), named.new, named.is, (refl {a = named.new}, refl))), (refl {a = named.new}, refl)))),
+            (refl {a = named.new}, refl),
+          ),
+          (m, all.new, all.is, (refl {a = all.new}, refl)),
+        );
+        rest = all.rest;
       },
     )
 
@@ -131,19 +131,19 @@ stands-poly_file binary digits pick unit old m behind few e later =
     let all = found.1 in (
       found.0,
       record {
-      new = all.new;
-      is = (
-        _,
-        named.new,
-        (
+        new = all.new;
+        is = (
           _,
           named.new,
-          (false, a.new, a.is, (binary, b.new, b.is, (_, named.new, (tt, key.new, key.is, ((key.new.place + 1, name), named.new, named.is, (refl {a = named.new}, refl))), (refl {a = named.new}, refl)))),
-          (refl {a = named.new}, refl),
-        ),
-        (m, all.new, all.is, (refl {a = all.new}, refl)),
-      );
-      rest = all.rest;
+          (
+            _,
+            named.new,
+            (false, a.new, a.is, (binary, b.new, b.is, (_, named.new, (tt, key.new, key.is, ((key.new.place + 1, name), named.new, named.is, (refl {a = named.new}, refl))), (refl {a = named.new}, refl)))),
+            (refl {a = named.new}, refl),
+          ),
+          (m, all.new, all.is, (refl {a = all.new}, refl)),
+        );
+        rest = all.rest;
       },
     )
 

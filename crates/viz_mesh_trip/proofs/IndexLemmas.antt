@@ -133,8 +133,8 @@ no_length (x ∷ xs) e = absurd (omega (arith, e))
 empty_sheet : (s : SheetData) → IsSheet s → s.cells ≡ [] → s.points ≡ []
 empty_sheet s is none =
     let names : s.names ≡ [] = nothing_in s.names (λ n c.
-        let in_cells = subst (λ (cells : List (List (List ℕ))). Contains (flat_map (λ cell. cell) cells) n) none ((is.used n).0 c) in
-        let below = in_cells.1 in omega (arith, below)) in
+    let in_cells = subst (λ (cells : List (List (List ℕ))). Contains (flat_map (λ cell. cell) cells) n) none ((is.used n).0 c) in
+    let below = in_cells.1 in omega (arith, below)) in
     no_length s.points (is.matched ∙ ap length names)
 
 no_cells_from : (first : ℕ) (sheets : List SheetData) → All IsSheet sheets → cells_from first sheets ≡ [] → points_of sheets ≡ []

@@ -138,7 +138,7 @@ stands-grid_all binary digits ps c cs old known short small e =
     let a = stands-scalars binary digits ps all (length all) g.new known here in
     let m = mesh_of digits p picked (grid_pieces all) in
     let read = stands-follow (grid binary false) _ old (grid_with digits ps all) m (types_gap binary all ++ later) a.0 g
-        (stands-follow (attributes (given_by binary n (length all) First)) (λ picked. gives (mesh_of digits p picked (grid_pieces all))) g.new picked m a.0 a.0 a.1 (stands-gives m a.1.new a.0 a.1.rest)) in (
+    (stands-follow (attributes (given_by binary n (length all) First)) (λ picked. gives (mesh_of digits p picked (grid_pieces all))) g.new picked m a.0 a.0 a.1 (stands-gives m a.1.new a.0 a.1.rest)) in (
       a.0,
       subst (λ (cells : List (List ℕ)). Stands (grid_rule binary First digits) old (mesh_of digits p picked cells) a.0) (grid-pieces n all known.cells) read,
     )
@@ -170,7 +170,7 @@ stands-poly_all binary digits ps cs old known some small e =
     let d = stands-scalars binary digits ps cs count poly.new known poly.rest in
     let m = mesh_of digits p picked (pieces_of (kinds_of a b c)) in
     let read = stands-follow (polydata binary false) _ old (poly_with digits ps a b c) m (10 ∷ later) d.0 poly
-        (stands-follow (attributes (given_by binary n count First)) (λ picked. gives (mesh_of digits p picked (pieces_of (kinds_of a b c)))) poly.new picked m d.0 d.0 d.1 (stands-gives m d.1.new d.0 d.1.rest)) in (
+    (stands-follow (attributes (given_by binary n count First)) (λ picked. gives (mesh_of digits p picked (pieces_of (kinds_of a b c)))) poly.new picked m d.0 d.0 d.1 (stands-gives m d.1.new d.0 d.1.rest)) in (
       d.0,
       subst (λ (cells : List (List ℕ)). Stands (poly_rule binary First digits) old (mesh_of digits p picked cells) d.0) (poly-pieces n cs known.cells) read,
     )
@@ -269,9 +269,11 @@ stands-empty binary digits old few e =
     stands-poly_file binary digits Zero digits old empty_mesh behind few (e ∙ parts) (λ new rest.
     let left = cells_gap binary [] ++ [] in
     let poly = stands-no_poly binary digits new (rest ∙ ap (λ (t : List ℕ). 10 ∷ t) lines) in
-    let d = stands-none binary poly.new left (blank_end binary) poly.rest in
-    (left, stands-follow (polydata binary false) _ new (poly_with digits [] [] [] []) empty_mesh left left poly
-    (stands-follow (attributes (given_by binary 0 0 Zero)) _ poly.new None empty_mesh left left d (stands-gives empty_mesh d.new left d.rest))))
+    let d = stands-none binary poly.new left (blank_end binary) poly.rest in (
+      left,
+      stands-follow (polydata binary false) _ new (poly_with digits [] [] [] []) empty_mesh left left poly
+          (stands-follow (attributes (given_by binary 0 0 Zero)) _ poly.new None empty_mesh left left d (stands-gives empty_mesh d.new left d.rest)),
+    ))
 
 empty-text : (binary : Bool) (digits : ℕ) (sheets : List SheetData) → points_of sheets ≡ [] → cells_of sheets ≡ [] → mesh_text binary digits sheets ≡ empty_text binary digits
 unfolding mesh_text

@@ -265,11 +265,11 @@ stands-no_poly binary digits old e =
     let first = stands-no_fields binary old (10 ∷ []) (codes "POINTS") _ (blank-one 10 refl) refl refl e in
     let all = stands-points binary digits [] first.new (10 ∷ []) tail (blank-one 10 refl) (omega arith) refl (λ r h. is_next-word (codes "METADATA") r gap (codes "POLYGONS") _ (key-next r gap (codes "POLYGONS") _ blank refl h)) first.rest in
     let kinds : Stands (sections binary false 0 4 none_seen (for_each [])) all.new none left =
-        stands-one binary 0 (is_due none_seen) (λ key cells. sections binary false 0 3 (seen_with none_seen (kind_named key.1)) (with_kind none (kind_named key.1) cells)) none none (codes "POLYGONS") [] all.new gap [] left blank refl refl (omega arith) (omega arith) (All-nil (HasIndices 0))
-        (λ r h. rw (h.vertices, h.lines, h.polygons) refl) all.rest (λ place new rest.
-        let h = subst IsBlank (sym rest) (blank_left binary) in
-        let seen = seen_with none_seen (kind_named (codes "POLYGONS")) in
-        stands-end binary 0 (is_due seen) (λ key cells. sections binary false 0 2 (seen_with seen (kind_named key.1)) (with_kind none (kind_named key.1) cells)) none new left (is_next-blank (codes "FIELD") new h) (blank_next new h) rest) in
+    stands-one binary 0 (is_due none_seen) (λ key cells. sections binary false 0 3 (seen_with none_seen (kind_named key.1)) (with_kind none (kind_named key.1) cells)) none none (codes "POLYGONS") [] all.new gap [] left blank refl refl (omega arith) (omega arith) (All-nil (HasIndices 0))
+    (λ r h. rw (h.vertices, h.lines, h.polygons) refl) all.rest (λ place new rest.
+    let h = subst IsBlank (sym rest) (blank_left binary) in
+    let seen = seen_with none_seen (kind_named (codes "POLYGONS")) in
+    stands-end binary 0 (is_due seen) (λ key cells. sections binary false 0 2 (seen_with seen (kind_named key.1)) (with_kind none (kind_named key.1) cells)) none new left (is_next-blank (codes "FIELD") new h) (blank_next new h) rest) in
     stands-follow (fields binary) _ old tt p (10 ∷ (codes "POINTS" ++ points_behind binary digits [] tail)) left first
     (stands-follow (points binary) _ first.new (points_in_file digits []) p (gap ++ tail) left all
     (stands-follow (sections binary false 0 4 none_seen (for_each [])) _ all.new none p left left kinds (stands-gives p kinds.new left kinds.rest)))

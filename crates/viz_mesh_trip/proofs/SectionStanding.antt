@@ -220,8 +220,8 @@ stands-types binary cs old tail few sized e =
     let numbers = block_text binary I32 (map type_row cs) ++ tail in
     let first = stands-count old 32 (length cs) (10 ∷ numbers) refl few refl e in
     let counted : Stands (same_count (length cs)) old tt (10 ∷ numbers) =
-        stands-follow number (λ n. demand (is_number (length cs) n.1) (fault_at Count n.0) (gives tt)) old (first.0, pos (length cs)) tt (10 ∷ numbers) (10 ∷ numbers) first.1
-        (stands-demand _ _ _ first.1.new tt (10 ∷ numbers) (eq-eqb (length cs) (length cs) refl) (stands-gives tt first.1.new (10 ∷ numbers) first.1.rest)) in
+    stands-follow number (λ n. demand (is_number (length cs) n.1) (fault_at Count n.0) (gives tt)) old (first.0, pos (length cs)) tt (10 ∷ numbers) (10 ∷ numbers) first.1
+    (stands-demand _ _ _ first.1.new tt (10 ∷ numbers) (eq-eqb (length cs) (length cs) refl) (stands-gives tt first.1.new (10 ∷ numbers) first.1.rest)) in
     let started = stands-start binary counted.new numbers counted.rest in
     let front = block-front binary (λ (cell : List ℕ). type_of (length cell)) (λ (cell : List ℕ). []) cs tail in
     record {

@@ -47,7 +47,7 @@ pub fn no_other_mesh_is_read()
     ensures no_array { (binary : Bool) (digits : ℕ) (sheets : List SheetData)
         → AreWritable digits sheets → points_of sheets ≡ []
         → Stops (mesh_text binary digits sheets) First digits
-            (fault_at NoArray (length (mesh_text binary digits sheets))) }
+        (fault_at NoArray (length (mesh_text binary digits sheets))) }
 {}
 
 /// The type that is written of a cell of 1 to 4 points is the one that the reader wants of it.
