@@ -1,11 +1,11 @@
 -- The three edges of a triangle of a contour are different.
-use Rattle.std.proofs.Common.{◌≡◌, ◌≢◌, ℕ, zero, suc, ◌+◌, ◌-◌, ◌<◌, ◌≤◌, ◌⊎◌, inl, inr, ⊎_elim, min, max, List, [], ◌∷◌, Bool, map, length, get_or, slice_index, refl, sym, ap, subst, ◌∙◌, arith}
+use Rattle.std.proofs.Common.{◌≡◌, ◌≢◌, ℕ, suc, ◌+◌, ◌-◌, ◌<◌, ◌≤◌, ◌⊎◌, inl, inr, ⊎_elim, min, max, List, [], ◌∷◌, Bool, map, length, get_or, slice_index, refl, sym, ap, subst, ◌∙◌, arith}
 use Rattle.std.specs.Prelude.{AllPairs}
-use Rattle.std.specs.List.{All, flat_map}
+use Rattle.std.specs.List.{All}
 use Rattle.std.proofs.lemmas.Bool.{cases_lt}
 use Rattle.std.proofs.lemmas.List.{get_or_default}
 use Rattle.std.proofs.lemmas.List.Elements.{All-map}
-use Rattle.viz_extent.specs.Extent.{Bounds, Has, count_of}
+use Rattle.viz_extent.specs.Extent.{Bounds, Has}
 use Rattle.viz_extent.proofs.NumberingLemmas.{parts-of_index}
 use Rattle.viz_fraction.specs.CaseRows.{End}
 use Rattle.viz_fraction.specs.Cases.{cells_at}
@@ -16,7 +16,7 @@ use Rattle.viz_kuhn.specs.Kuhn.{Row, rows}
 use Rattle.viz_kuhn.specs.Places.{Place, place, place_of}
 use Rattle.viz_kuhn.specs.Cubes.{HasCube, all_lowest, cubes_of, lowest_of, leaf_of, leaves_of, six_at, tetrahedra_of}
 use Rattle.viz_kuhn.proofs.CubeLemmas.{length-all_lowest, numbers_each}
-use Rattle.viz_kuhn.proofs.RowLemmas.{below_six, pairs_of_four, all_four}
+use Rattle.viz_kuhn.proofs.RowLemmas.{below_six, pairs_of_four}
 use Rattle.viz_sheet.specs.Sheet.{AreApart}
 use Rattle.viz_grid_section.specs.Edges.{Edge, edge_of}
 use Rattle.viz_grid_section.specs.GridSection.{mask_of, named, cells_in, grid_cells}
@@ -111,10 +111,10 @@ row_different b at corners has four each =
     let none = corner 0 0 0 in
     record {
       pairs = λ i j order below same.
-      let both = each i j none order (omega (arith, four)) in
-      let at_i = get_or-map_of leaf corners i none 0 (omega (arith, four)) in
-      let at_j = get_or-map_of leaf corners j none 0 (omega (arith, four)) in
-      both.differ (same_steps b at (get_or corners i none) (get_or corners j none) has both.first both.second (sym at_i ∙ same ∙ at_j));
+          let both = each i j none order (omega (arith, four)) in
+          let at_i = get_or-map_of leaf corners i none 0 (omega (arith, four)) in
+          let at_j = get_or-map_of leaf corners j none 0 (omega (arith, four)) in
+          both.differ (same_steps b at (get_or corners i none) (get_or corners j none) has both.first both.second (sym at_i ∙ same ∙ at_j));
     }
 
 pub are_different : (b : Bounds) → All AreDifferent (tetrahedra_of b)
@@ -198,7 +198,7 @@ in_tetrahedron inside leaves four differ =
     record {
       three = length-map_of (end_edge leaves) cell ∙ whole.size;
       apart = apart-map (end_edge leaves) cell (λ i j e order below.
-      edge_apart leaves m (get_or cell i e) (get_or cell j e) differ (each i e (omega (arith, order, below))) (each j e below) (whole.different i j e order below));
+          edge_apart leaves m (get_or cell i e) (get_or cell j e) differ (each i e (omega (arith, order, below))) (each j e below) (whole.different i j e order below));
     })
 
 -- all triangles of a section are

@@ -1,5 +1,5 @@
 -- Names of edges, and the points and crossings of them.
-use Rattle.std.proofs.Common.{◌≡◌, ℤ, ℕ, List, map, length, get_or, ◌<◌, sym, ap, subst, ◌∙◌}
+use Rattle.std.proofs.Common.{◌≡◌, ℤ, ℕ, List, map, ◌<◌, sym, ap, subst, ◌∙◌}
 use Rattle.std.specs.List.{All}
 use Rattle.std.proofs.lemmas.List.Elements.{All-map}
 use Rattle.std.proofs.lemmas.Simd.{map-map}
@@ -26,8 +26,8 @@ module _ (level : ℤ) (image : ImageData) (names : List (List ℕ)) (edges : Li
       let made : AreNarrowNames level image (map edge_leaves edges) = subst (AreNarrowNames level image) are narrow in
       record {
         each = λ k d less.
-        subst (λ n. IsNarrowAt level image (edge_named n)) (get_or-map_of edge_leaves edges k d (edge_leaves d) less)
-        (made.each k (edge_leaves d) (subst (λ n. k < n) (sym (length-map_of edge_leaves edges)) less));
+            subst (λ n. IsNarrowAt level image (edge_named n)) (get_or-map_of edge_leaves edges k d (edge_leaves d) less)
+            (made.each k (edge_leaves d) (subst (λ n. k < n) (sym (length-map_of edge_leaves edges)) less));
       }
 
   pub points_of_edges : (points : List Point) → points ≡ map (named_point level image) names → points ≡ map (edge_point level image) edges

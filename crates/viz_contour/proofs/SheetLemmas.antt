@@ -1,12 +1,12 @@
 -- Cells by the ranks of their edges are those of a sheet.
-use Rattle.std.proofs.Common.{◌≡◌, ◌≢◌, ℕ, zero, suc, ◌^◌, ◌<◌, ◌≤◌, List, [], ◌∷◌, map, length, get_or, refl, sym, ap, ap₂, subst, ◌∙◌, arith}
+use Rattle.std.proofs.Common.{◌≡◌, ◌≢◌, ℕ, ◌^◌, ◌<◌, ◌≤◌, List, [], ◌∷◌, map, length, get_or, refl, sym, ap, ap₂, subst, ◌∙◌, arith}
 use Rattle.std.specs.List.{All, Contains, flat_map}
 use Rattle.std.specs.List.Sorted.{IsStrictlySortedBy}
 use Rattle.std.proofs.lemmas.List.{get_or_default}
 use Rattle.std.proofs.lemmas.List.Elements.{All-nil, All-cons, All-map, All-head, All-tail, Contains-append_left, Contains-append_right}
 use Rattle.viz_fraction.specs.Points.{Point}
 use Rattle.viz_sheet.specs.Sheet.{AreApart, AreAscending}
-use Rattle.viz_sheet.specs.Ranked.{AreCells, AreRanks, AreUsed, IsCell, by_names, names_at}
+use Rattle.viz_sheet.specs.Ranked.{AreRanks, AreUsed, IsCell, by_names, names_at}
 use Rattle.viz_meaning.proofs.NameSets.{sorted-each_once}
 use Rattle.viz_grid_section.specs.Edges.{Edge, edge_leaves, edges_of, rank_of}
 use Rattle.viz_grid_section.proofs.EdgeOrder.{edge_cmp}
@@ -71,10 +71,10 @@ module _ (cells : List (List Edge)) where
   ranks_apart : (cell : List Edge) → All (Contains es) cell → AreApart cell → AreApart (map rank cell)
   ranks_apart [] each apart = tt
   ranks_apart (e ∷ rest) each apart = (
-      All-map (λ r. rank e ≢ r) rank rest (λ k d less same.
-      apart.0 k d less (same_rank e (get_or rest k d) (All-head (Contains es) e rest each) (All-tail (Contains es) e rest each k d less) same)),
-      ranks_apart rest (All-tail (Contains es) e rest each) apart.1,
-    )
+    All-map (λ r. rank e ≢ r) rank rest (λ k d less same.
+        apart.0 k d less (same_rank e (get_or rest k d) (All-head (Contains es) e rest each) (All-tail (Contains es) e rest each k d less) same)),
+    ranks_apart rest (All-tail (Contains es) e rest each) apart.1,
+  )
 
   cell_is : (cell : List Edge) → All (Contains es) cell → IsTriangle cell → IsCell (length names) (map rank cell)
   cell_is cell each triangle =

@@ -22,8 +22,8 @@ pub(crate) struct End {
     above: i128,
 }
 
-/// The crossing on the edge of a name: both its leaves. Names that ascend have the same lower end in turn, so that
-/// it is kept from one to the next.
+/// The crossing on the edge of a name, which is both its leaves. Names that ascend have the same
+/// lower end in turn, so that it is kept from one to the next.
 pub(crate) fn point_of_name(
     level: &i64,
     image: &Image,

@@ -36,11 +36,7 @@ pub fn contour(alloc: Global, level: &i64, image: &Image) -> Result<Sheet, WorkS
     let _extent = image.extent();
     let Ranked { names, triangles } = ranked(alloc, level, image)?;
     let places = places(alloc, level, image, &names)?;
-    Ok(Sheet::new(
-        Leaves::Two(names),
-        places,
-        Ranks::Triangles(triangles),
-    ))
+    Ok(Sheet::new(Leaves::Two(names), places, Ranks::Triangles(triangles)))
 }
 
 /// The triangles of the contour by ranks, and their names.
@@ -49,7 +45,7 @@ fn ranked(alloc: Global, level: &i64, image: &Image) -> Result<Ranked, AllocErro
         r.names.items ≡ map edge_leaves (contour_edges level.now image.now)) }
     ensures ranks { IfOk result (λ r. r.triangles.items
         ≡ map (map (rank_of (contour_edges level.now image.now)))
-            (contour_cells level.now image.now)) }
+        (contour_cells level.now image.now)) }
     ensures few { IfOk result (λ r. length r.names.items < 2 ^ 32) }
     ensures fits { OnOk result (FitsSigned w64 level.now) }
 {

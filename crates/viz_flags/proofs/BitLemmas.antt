@@ -1,17 +1,14 @@
 -- Bytes of flags: one more that is set, and those before a byte.
-use Rattle.std.proofs.Common.{◌≡◌, ◌≢◌, ℕ, zero, suc, ◌+◌, ◌-◌, ◌*◌, ◌/◌, ◌%◌, ◌^◌, ◌<◌, ◌≤◌, ◌==◌, nat_eq, Bool, true, false, if◌then◌else◌, List, [], ◌∷◌, ◌++◌, length, get_or, set, map, take, refl, sym, ap, subst, ◌∙◌, arith, eqb-true, append-nil, append_assoc, bit_or, w8, replicate}
+use Rattle.std.proofs.Common.{◌≡◌, ◌≢◌, ℕ, zero, suc, ◌+◌, ◌-◌, ◌*◌, ◌/◌, ◌%◌, ◌^◌, ◌<◌, ◌==◌, nat_eq, Bool, true, false, if◌then◌else◌, List, [], ◌∷◌, ◌++◌, length, get_or, set, map, refl, sym, ap, subst, ◌∙◌, arith, eqb-true, bit_or, w8, replicate}
 use Rattle.std.specs.Int.{bit_at}
-use Rattle.std.specs.List.{All, flat_map, range_with_len}
-use Rattle.std.proofs.lemmas.List.Elements.{All-get_or}
+use Rattle.std.specs.List.{range_with_len}
 use Rattle.std.proofs.lemmas.Bool.Decides.{nat_tests}
 use Rattle.std.proofs.lemmas.Nat.Bits.{bit_at_set_same, bit_at_set_other}
-use Rattle.std.proofs.lemmas.List.{set-append_left, set-append_right, take_more, map-append, length-take-le, take_all}
-use Rattle.std.proofs.lemmas.List.FromFn.{length-map-range_with_len}
-use Rattle.std.proofs.lemmas.Grind.{flat_map-append}
+use Rattle.std.proofs.lemmas.List.{set-append_left, set-append_right, map-append}
 use Rattle.viz_sheet.specs.Kept.{kept_rank}
 use Rattle.viz_flags.specs.Flags.{flags_of, flags}
 use Rattle.viz_sheet.specs.Steps.Marking.{IsMarkedBy}
-use Rattle.viz_flags.proofs.ByteLemmas.{rank-in_byte, flags-length}
+use Rattle.viz_flags.proofs.ByteLemmas.{rank-in_byte}
 use Rattle.viz_sheet.proofs.MarkingLemmas.{rank_marked, none_marked}
 use Rattle.viz_flags.proofs.RowLemmas.{each_below}
 
@@ -91,9 +88,10 @@ starts_more masks i list list' count added l is_list is_count pushed is_added =
     let range : range_with_len 0 (i + 1) ≡ range_with_len 0 i ++ i ∷ [] = range-append 0 i 1 ∙ ap (λ a. range_with_len 0 i ++ a ∷ []) {x = 0 + i} {y = i} (omega arith) in
     let more : map f (range_with_len 0 (i + 1)) ≡ map f (range_with_len 0 i) ++ f i ∷ [] = ap (map f) range ∙ map-append f (range_with_len 0 i) (i ∷ []) in
     let sum : kept_rank (flags masks) (8 * i + 8) ≡ kept_rank (flags masks) (8 * i) + kept_rank (flags_of (get_or masks i 0)) 8 = rank-in_byte masks i 8 l (omega arith) in
-    let index : 8 * (i + 1) ≡ 8 * i + 8 = omega arith in
-    (pushed ∙ ap (λ t. t ++ count ∷ []) is_list ∙ ap (λ n. map f (range_with_len 0 i) ++ n ∷ []) is_count ∙ sym more,
-    ap (λ n. n + added) is_count ∙ ap (λ n. kept_rank (flags masks) (8 * i) + n) is_added ∙ sym sum ∙ ap (kept_rank (flags masks)) (sym index))
+    let index : 8 * (i + 1) ≡ 8 * i + 8 = omega arith in (
+      pushed ∙ ap (λ t. t ++ count ∷ []) is_list ∙ ap (λ n. map f (range_with_len 0 i) ++ n ∷ []) is_count ∙ sym more,
+      ap (λ n. n + added) is_count ∙ ap (λ n. kept_rank (flags masks) (8 * i) + n) is_added ∙ sym sum ∙ ap (kept_rank (flags masks)) (sym index),
+    )
 
 pub none_set : (n : ℕ) → flags (replicate n 0) ≡ replicate (8 * n) false
 none_set zero = refl

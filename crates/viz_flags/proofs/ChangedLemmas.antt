@@ -1,13 +1,7 @@
 -- A list that is changed item by item.
-use Rattle.std.proofs.Common.{◌≡◌, ◌≢◌, ℕ, zero, suc, ◌+◌, ◌-◌, ◌*◌, ◌/◌, ◌%◌, ◌^◌, ◌<◌, ◌≤◌, ◌==◌, nat_eq, Bool, true, false, if◌then◌else◌, List, [], ◌∷◌, ◌++◌, length, get_or, set, map, take, refl, sym, ap, subst, ◌∙◌, arith, eqb-true, append-nil, append_assoc, bit_or, w8, replicate}
-use Rattle.std.specs.Int.{bit_at}
-use Rattle.std.specs.List.{All, flat_map, range_with_len}
+use Rattle.std.proofs.Common.{◌≡◌, ℕ, zero, suc, ◌<◌, ◌≤◌, List, [], ◌∷◌, length, get_or, set, map, refl, sym, ap, subst, arith}
+use Rattle.std.specs.List.{All}
 use Rattle.std.proofs.lemmas.List.Elements.{All-get_or}
-use Rattle.std.proofs.lemmas.Bool.Decides.{nat_tests}
-use Rattle.std.proofs.lemmas.Nat.Bits.{bit_at_set_same, bit_at_set_other}
-use Rattle.std.proofs.lemmas.List.{set-append_left, set-append_right, take_more, map-append, length-take-le, take_all}
-use Rattle.std.proofs.lemmas.List.FromFn.{length-map-range_with_len}
-use Rattle.std.proofs.lemmas.Grind.{flat_map-append}
 
 pub changed : (f : List ℕ → List ℕ) (old : List (List ℕ)) (i : ℕ) → List (List ℕ)
 changed f [] i = []
@@ -46,4 +40,3 @@ unfolding changed
 changed_all f [] i h = refl
 changed_all f (x ∷ xs) zero h = absurd (omega arith)
 changed_all f (x ∷ xs) (suc i) h = ap (λ l. f x ∷ l) (changed_all f xs i (omega arith))
-

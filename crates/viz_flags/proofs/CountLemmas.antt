@@ -1,6 +1,5 @@
 -- The cells of a cube: none where its points are all inside or all outside, and those of its six tetrahedra in turn.
-use Rattle.std.proofs.Common.{◌≡◌, ℕ, zero, suc, ◌+◌, ◌<◌, ◌≤◌, List, [], ◌∷◌, ◌++◌, Bool, true, false, ◌≢◌, not, ◌&&◌, nat_lt, nat_eq, append-nil, refl, sym, ap, ◌∙◌, append_assoc, arith, slice_index, slice_index_or}
-use Rattle.std.specs.Prelude.{map}
+use Rattle.std.proofs.Common.{◌≡◌, ℕ, zero, suc, ◌+◌, ◌<◌, ◌≤◌, List, [], ◌∷◌, ◌++◌, Bool, false, not, nat_eq, append-nil, refl, sym, ◌∙◌, append_assoc, arith, slice_index}
 use Rattle.std.specs.List.{flat_map}
 use Rattle.viz_fraction.specs.Cases.{cells_at}
 use Rattle.std.proofs.lemmas.Bool.Decides.{nat_tests}

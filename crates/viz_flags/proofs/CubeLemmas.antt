@@ -1,5 +1,5 @@
 -- The cells of a cube by the numbers of edges are its cells by names.
-use Rattle.std.proofs.Common.{◌≡◌, ℕ, zero, suc, ◌+◌, ◌*◌, ◌/◌, ◌%◌, ◌<◌, ◌≤◌, min, max, List, [], ◌∷◌, ◌++◌, Bool, map, refl, sym, ap, ◌∙◌, append_assoc, append-nil, arith, slice_index, slice_index_or}
+use Rattle.std.proofs.Common.{◌≡◌, ℕ, ◌+◌, ◌*◌, ◌/◌, ◌%◌, ◌<◌, ◌≤◌, min, max, List, [], ◌∷◌, ◌++◌, Bool, map, refl, sym, ap, ◌∙◌, arith, slice_index_or}
 use Rattle.std.proofs.Math.Nat.{min-eq_left, min-eq_right, max-eq_left, max-eq_right}
 use Rattle.std.proofs.lemmas.List.{map-append}
 use Rattle.viz_fraction.specs.Cases.{cells_at}

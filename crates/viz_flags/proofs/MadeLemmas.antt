@@ -1,5 +1,5 @@
 -- What the passes give, one after the other.
-use Rattle.std.proofs.Common.{◌≡◌, ◌≢◌, ℕ, zero, suc, ◌+◌, ◌-◌, ◌*◌, ◌^◌, ◌<◌, ◌≤◌, Bool, true, false, List, [], ◌∷◌, length, get_or, map, slice_index, refl, sym, ap, ap₂, subst, ◌∙◌, arith}
+use Rattle.std.proofs.Common.{◌≡◌, ℕ, zero, suc, ◌+◌, ◌*◌, ◌^◌, ◌<◌, ◌≤◌, Bool, true, false, List, [], ◌∷◌, length, map, refl, sym, ap, subst, ◌∙◌, arith}
 use Rattle.std.specs.List.{All}
 use Rattle.std.proofs.Math.Nat.{mul-le-mul_left}
 use Rattle.std.proofs.lemmas.Simd.{map-map}
@@ -16,7 +16,7 @@ use Rattle.viz_flags.specs.Edges.{cells_by, edge, leaves_from}
 use Rattle.viz_flags.specs.Flagged.{flagged, all_edges}
 use Rattle.viz_flags.proofs.ByteLemmas.{flags-length}
 use Rattle.viz_flags.proofs.LayerLemmas.{row_in, plane_in}
-use Rattle.viz_flags.proofs.FlaggedLemmas.{flagged_are_edges, flags_are_ranks, numbers_below, no_section, zero_left, zero_mid, zero_right}
+use Rattle.viz_flags.proofs.FlaggedLemmas.{flagged_are_edges, flags_are_ranks, numbers_below, no_section, zero_mid, zero_right}
 
 -- what holds of images holds of what they are images of
 All-of_map : {X Y : Type 0} (P : Y → Type 0) (f : X → Y) (xs : List X) → All P (map f xs) → All (λ x. P (f x)) xs

@@ -1,15 +1,12 @@
 -- The names of flagged edges, byte by byte.
-use Rattle.std.proofs.Common.{◌≡◌, ◌≢◌, ℕ, zero, suc, ◌+◌, ◌-◌, ◌*◌, ◌/◌, ◌%◌, ◌^◌, ◌<◌, ◌≤◌, ◌==◌, nat_eq, Bool, true, false, if◌then◌else◌, List, [], ◌∷◌, ◌++◌, length, get_or, set, map, take, refl, sym, ap, subst, ◌∙◌, arith, eqb-true, append-nil, append_assoc, bit_or, w8, replicate}
+use Rattle.std.proofs.Common.{◌≡◌, ℕ, ◌+◌, ◌*◌, ◌/◌, ◌%◌, ◌<◌, ◌==◌, Bool, true, false, if◌then◌else◌, List, [], ◌∷◌, ◌++◌, length, get_or, map, take, refl, sym, ap, ◌∙◌, arith, append-nil, append_assoc}
 use Rattle.std.specs.Int.{bit_at}
-use Rattle.std.specs.List.{All, flat_map, range_with_len}
-use Rattle.std.proofs.lemmas.List.Elements.{All-get_or}
-use Rattle.std.proofs.lemmas.Bool.Decides.{nat_tests}
-use Rattle.std.proofs.lemmas.Nat.Bits.{bit_at_set_same, bit_at_set_other}
-use Rattle.std.proofs.lemmas.List.{set-append_left, set-append_right, take_more, map-append, length-take-le, take_all}
+use Rattle.std.specs.List.{range_with_len}
+use Rattle.std.proofs.lemmas.List.{take_more, map-append, length-take-le, take_all}
 use Rattle.std.proofs.lemmas.List.FromFn.{length-map-range_with_len}
 use Rattle.std.proofs.lemmas.Grind.{flat_map-append}
 use Rattle.std.proofs.lemmas.Simd.{map-map}
-use Rattle.viz_sheet.specs.Kept.{kept, kept_rank}
+use Rattle.viz_sheet.specs.Kept.{kept}
 use Rattle.viz_flags.specs.Flags.{flags_of, flags}
 use Rattle.viz_flags.proofs.ByteLemmas.{flags-length}
 use Rattle.viz_flags.proofs.BitLemmas.{range-append}
@@ -138,4 +135,3 @@ names_all first row plane masks i names last is =
     ∙ ap (λ n. kept (flags masks) (map name (range_with_len 0 n))) (sym (flags-length masks))
     ∙ ap (kept (flags masks)) (sym (map-map (leaves_from first) (edge row plane) all))
     ∙ kept-map (leaves_from first) (flags masks) (map (edge row plane) all)
-

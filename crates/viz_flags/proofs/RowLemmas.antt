@@ -1,8 +1,6 @@
 -- The rows of the code's table are the cells of each mask.
-use Rattle.std.proofs.Common.{◌≡◌, ◌≢◌, ℕ, zero, suc, ◌+◌, ◌<◌, ◌≤◌, List, [], ◌∷◌, ◌++◌, Bool, true, nat_eq, nat_lt, false, refl, sym, ap, ◌∙◌, append_assoc, append-nil, arith, slice_index, slice_index_or}
-use Rattle.std.specs.List.{All}
+use Rattle.std.proofs.Common.{◌≡◌, ◌≢◌, ℕ, zero, suc, ◌<◌, List, [], ◌∷◌, ◌++◌, nat_eq, false, refl, ap, ◌∙◌, append_assoc, arith, slice_index, slice_index_or}
 use Rattle.std.proofs.lemmas.Bool.Decides.{nat_tests}
-use Rattle.std.proofs.lemmas.List.Elements.{All-nil, All-cons}
 use Rattle.viz_fraction.specs.Cases.{cells_at}
 use Rattle.viz_fraction.proofs.CaseTable.{EachBelow}
 use Rattle.viz_flags.specs.declared.cases.TheConstants.{ROWS}

@@ -81,12 +81,9 @@ fn push_triangle<T: Ends>(
     requires c { c < 6 }
     requires fits { All (λ n. n < T.limit) edges }
     ensures { OnOk result (map T.list out.new.items
-        ≡ map T.list out.old.items ++ (slice_index edges a ∷ slice_index edges b ∷ slice_index edges c ∷ []) ∷ []) }
+        ≡ map T.list out.old.items
+        ++ (slice_index edges a ∷ slice_index edges b ∷ slice_index edges c ∷ []) ∷ []) }
 {
-    out.push(T::of([
-        edges[a as usize],
-        edges[b as usize],
-        edges[c as usize],
-    ]))?;
+    out.push(T::of([edges[a as usize], edges[b as usize], edges[c as usize]]))?;
     Ok(())
 }

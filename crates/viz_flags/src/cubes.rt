@@ -23,7 +23,7 @@ pub(crate) fn push_cube<T: Ends>(
     requires narrow { length inside.now < 2 ^ 31 }
     ensures { OnOk result (cells_by row plane (map T.list out.new.items)
         ≡ cells_by row plane (map T.list out.old.items)
-            ++ cells_between inside.now (eight_from lowest row plane)) }
+        ++ cells_between inside.now (eight_from lowest row plane)) }
 {
     let next = lowest + 1;
     let eight = [
@@ -68,7 +68,7 @@ fn push_six<T: Ends>(
     requires narrow { length inside.now < 2 ^ 31 }
     ensures { OnOk result (cells_by row plane (map T.list out.new.items)
         ≡ cells_by row plane (map T.list out.old.items)
-            ++ cells_between inside.now (eight_from lowest row plane)) }
+        ++ cells_between inside.now (eight_from lowest row plane)) }
 {
     let a = lowest;
     let b = lowest + plane;
@@ -78,12 +78,36 @@ fn push_six<T: Ends>(
     let f = lowest + 1 + plane;
     let g = lowest + 1 + row;
     let h = lowest + 1 + row + plane;
-    push_tetrahedron(out, mask(inside, [a, e, g, h]), [8 * a, 8 * a + 2, 8 * a + 6, 8 * e + 1, 8 * e + 5, 8 * g + 3])?;
-    push_tetrahedron(out, mask(inside, [a, f, e, h]), [8 * a + 4, 8 * a, 8 * a + 6, 8 * e + 3, 8 * f + 1, 8 * e + 5])?;
-    push_tetrahedron(out, mask(inside, [a, g, c, h]), [8 * a + 2, 8 * a + 1, 8 * a + 6, 8 * c, 8 * g + 3, 8 * c + 4])?;
-    push_tetrahedron(out, mask(inside, [a, c, d, h]), [8 * a + 1, 8 * a + 5, 8 * a + 6, 8 * c + 3, 8 * c + 4, 8 * d])?;
-    push_tetrahedron(out, mask(inside, [a, b, f, h]), [8 * a + 3, 8 * a + 4, 8 * a + 6, 8 * b, 8 * b + 2, 8 * f + 1])?;
-    push_tetrahedron(out, mask(inside, [a, d, b, h]), [8 * a + 5, 8 * a + 3, 8 * a + 6, 8 * b + 1, 8 * d, 8 * b + 2])?;
+    push_tetrahedron(
+        out,
+        mask(inside, [a, e, g, h]),
+        [8 * a, 8 * a + 2, 8 * a + 6, 8 * e + 1, 8 * e + 5, 8 * g + 3],
+    )?;
+    push_tetrahedron(
+        out,
+        mask(inside, [a, f, e, h]),
+        [8 * a + 4, 8 * a, 8 * a + 6, 8 * e + 3, 8 * f + 1, 8 * e + 5],
+    )?;
+    push_tetrahedron(
+        out,
+        mask(inside, [a, g, c, h]),
+        [8 * a + 2, 8 * a + 1, 8 * a + 6, 8 * c, 8 * g + 3, 8 * c + 4],
+    )?;
+    push_tetrahedron(
+        out,
+        mask(inside, [a, c, d, h]),
+        [8 * a + 1, 8 * a + 5, 8 * a + 6, 8 * c + 3, 8 * c + 4, 8 * d],
+    )?;
+    push_tetrahedron(
+        out,
+        mask(inside, [a, b, f, h]),
+        [8 * a + 3, 8 * a + 4, 8 * a + 6, 8 * b, 8 * b + 2, 8 * f + 1],
+    )?;
+    push_tetrahedron(
+        out,
+        mask(inside, [a, d, b, h]),
+        [8 * a + 5, 8 * a + 3, 8 * a + 6, 8 * b + 1, 8 * d, 8 * b + 2],
+    )?;
     Ok(())
 }
 

@@ -16,7 +16,8 @@ pub(crate) fn flags_of<T: Ends>(
     triangles: &[T],
 ) -> Result<Vec<u8>, AllocError>
     requires { All (λ t. All (λ n. n < 8 * count) (T.list t)) triangles.now }
-    ensures marks { IfOk result (λ v. AreMarks (8 * count) (map T.list triangles.now) (bits_of v.items)) }
+    ensures marks { IfOk result (λ v.
+        AreMarks (8 * count) (map T.list triangles.now) (bits_of v.items)) }
     ensures size { IfOk result (λ v. length v.items ≡ count) }
 {
     let mut flags = vec![in alloc; 0; count]?;

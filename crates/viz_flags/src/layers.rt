@@ -22,7 +22,7 @@ pub(crate) fn section<T: Ends>(
     requires fits { 8 * length inside.now ≤ T.limit }
     ensures cells { IfOk result (λ v.
         cells_by (size_x whole.now) (plane_size whole.now) (map T.list v.items)
-            ≡ grid_cells whole.now inside.now) }
+        ≡ grid_cells whole.now inside.now) }
 {
     let [x0, x1, y0, y1, z0, z1] = whole.bounds();
     let across_x = (x1 - x0) as usize;
@@ -46,9 +46,11 @@ fn push_layer<T: Ends>(
     requires within { first + 2 * ((across_x + 1) * (across_y + 1)) ≤ length inside.now }
     requires fits { 8 * length inside.now ≤ T.limit }
     requires narrow { length inside.now < 2 ^ 31 }
-    ensures { OnOk result (cells_by (across_x + 1) ((across_x + 1) * (across_y + 1)) (map T.list out.new.items)
+    ensures { OnOk result (
+        cells_by (across_x + 1) ((across_x + 1) * (across_y + 1)) (map T.list out.new.items)
         ≡ cells_by (across_x + 1) ((across_x + 1) * (across_y + 1)) (map T.list out.old.items)
-            ++ cells_in_layer inside.now (across_x + 1) ((across_x + 1) * (across_y + 1)) across_x across_y first) }
+        ++ cells_in_layer inside.now (across_x + 1) ((across_x + 1) * (across_y + 1))
+        across_x across_y first) }
 {
     let row = across_x + 1;
     let plane = row * (across_y + 1);
@@ -72,7 +74,7 @@ fn push_row<T: Ends>(
     requires narrow { length inside.now < 2 ^ 31 }
     ensures { OnOk result (cells_by (across_x + 1) plane (map T.list out.new.items)
         ≡ cells_by (across_x + 1) plane (map T.list out.old.items)
-            ++ cells_in_row inside.now (across_x + 1) plane across_x first) }
+        ++ cells_in_row inside.now (across_x + 1) plane across_x first) }
 {
     let row = across_x + 1;
     for i in 0..across_x {

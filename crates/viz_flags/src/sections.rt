@@ -41,7 +41,7 @@ pub fn ranked_section(
         ≡ map (leaves_from first) (edges_of (grid_cells window.now inside.now))) }
     ensures ranks { IfOk result (λ r. r.triangles.items
         ≡ map (map (rank_of (edges_of (grid_cells window.now inside.now))))
-            (grid_cells window.now inside.now)) }
+        (grid_cells window.now inside.now)) }
     ensures few { IfOk result (λ r. length r.names.items < 2 ^ 32) }
 {
     if inside.len() < MOST_SHORT {
@@ -65,7 +65,7 @@ fn ranked_in<T: Ends>(
         ≡ map (leaves_from first) (edges_of (grid_cells window.now inside.now))) }
     ensures ranks { IfOk result (λ r. r.triangles.items
         ≡ map (map (rank_of (edges_of (grid_cells window.now inside.now))))
-            (grid_cells window.now inside.now)) }
+        (grid_cells window.now inside.now)) }
     ensures few { IfOk result (λ r. length r.names.items < 2 ^ 32) }
 {
     let numbers = section::<T>(alloc, window, inside)?;

@@ -1,7 +1,6 @@
-use Rattle.std.proofs.Common.{◌≡◌, List, map, length, ap, sym, subst, ◌∙◌, arith, rules}
+use Rattle.std.proofs.Common.{length, ap, sym, ◌∙◌, rules}
 use Rattle.viz_sheet.specs.Arrays.{points_in}
 use Rattle.viz_sheet.proofs.UsedLemmas.{seen_is}
-use Rattle.viz_grid_section.specs.Edges.{edge_leaves}
 use Rattle.viz_grid_section.specs.ImageSection.{insides, contour_cells, contour_edges}
 use Rattle.viz_grid_section.proofs.MembersLemmas.{length-map_of}
 use Rattle.viz_contour.specs.Steps.Named.{named_point}

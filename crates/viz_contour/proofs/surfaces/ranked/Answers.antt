@@ -1,4 +1,4 @@
-use Rattle.std.proofs.Common.{◌≡◌, ◌+◌, ◌∷◌, [], ℕ, ℤ, List, Bool, map, refl, ap, ap₂, sym, ◌∙◌, arith}
+use Rattle.std.proofs.Common.{◌≡◌, ◌+◌, ◌∷◌, [], List, Bool, map, refl, ap, ap₂, ◌∙◌, arith}
 use Rattle.viz_extent.specs.Extent.{Bounds}
 use Rattle.viz_grid_section.specs.Edges.{Edge, edges_of, edge_leaves, rank_of}
 use Rattle.viz_grid_section.specs.GridSection.{grid_cells}

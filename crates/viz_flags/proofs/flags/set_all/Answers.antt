@@ -1,5 +1,5 @@
-use Rattle.std.proofs.Common.{◌≡◌, ◌*◌, ◌<◌, ℕ, List, length, get_or, take, ap, sym, subst, ◌∙◌, arith}
-use Rattle.std.specs.List.{All, flat_map}
+use Rattle.std.proofs.Common.{ℕ, List, take, subst, ◌∙◌}
+use Rattle.std.specs.List.{flat_map}
 use Rattle.viz_flags.specs.Flags.{flags as bits_of}
 use Rattle.viz_sheet.specs.Steps.Marking.{IsMarkedBy}
 use Rattle.viz_sheet.proofs.MarkingLemmas.{cell_marked, flat-more}

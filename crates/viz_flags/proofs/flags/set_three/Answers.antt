@@ -1,4 +1,4 @@
-use Rattle.std.proofs.Common.{◌≡◌, ◌<◌, ◌*◌, ℕ, List, [], ◌∷◌, Bool, length, get_or, subst, ap, arith, rules}
+use Rattle.std.proofs.Common.{◌≡◌, ◌<◌, ◌*◌, ℕ, List, length, get_or, subst, arith, rules}
 use Rattle.std.proofs.lemmas.List.Elements.{All-get_or}
 use Rattle.viz_flags.specs.Flags.{flags as bits_of}
 use Rattle.viz_sheet.specs.Steps.Marking.{IsMarkedBy}

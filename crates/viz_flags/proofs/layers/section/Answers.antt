@@ -1,6 +1,6 @@
 use Rattle.std.proofs.Common.{ap, map, arith, ◌∙◌}
 use Rattle.viz_flags.specs.Edges.{cells_by}
-use Rattle.viz_grid_section.proofs.SectionLemmas.{layers-none, layers-more, layers-are, layer-within, layer-narrow}
+use Rattle.viz_grid_section.proofs.SectionLemmas.{layers-none, layers-more, layer-within, layer-narrow}
 use Rattle.viz_flags.proofs.LayerLemmas.{row_in, plane_in, layers-by}
 use Rattle.viz_flags.proofs.layers.section.Goals as goal
 

@@ -1,5 +1,5 @@
-use Rattle.std.proofs.Common.{◌≡◌, ◌+◌, ◌*◌, ◌/◌, ◌%◌, ◌<◌, ◌≤◌, length, get_or, arith, ap, sym, ◌∙◌}
-use Rattle.viz_flags.specs.Flags.{flags, flags_of, set_in}
+use Rattle.std.proofs.Common.{◌≡◌, ◌*◌, ◌/◌, length, get_or, arith, ap, ◌∙◌}
+use Rattle.viz_flags.specs.Flags.{flags}
 use Rattle.viz_sheet.specs.Kept.{kept_rank}
 use Rattle.viz_flags.proofs.ByteLemmas.{start-is, starts-length, rank-parts, rank-within}
 use Rattle.viz_flags.proofs.ranks.rank.Goals as goal

@@ -2,7 +2,7 @@ use Rattle.std.proofs.Common.{◌≡◌, ◌+◌, ◌*◌, ◌<◌, ℕ, suc, Li
 use Rattle.std.specs.List.{All}
 use Rattle.viz_flags.specs.Flags.{flags as bits_of}
 use Rattle.viz_sheet.specs.Kept.{kept_rank}
-use Rattle.viz_flags.proofs.ChangedLemmas.{changed, changed_none, changed_length, changed_at, changed_within, changed_more, changed_all}
+use Rattle.viz_flags.proofs.ChangedLemmas.{changed, changed_none, changed_at, changed_within, changed_more, changed_all}
 use Rattle.viz_flags.proofs.ranks.rank_all.Goals as goal
 
 ranks : List ℕ → List ℕ → List ℕ

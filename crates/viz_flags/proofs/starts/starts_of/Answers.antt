@@ -1,4 +1,4 @@
-use Rattle.std.proofs.Common.{◌≡◌, ◌+◌, refl, ◌∙◌, arith, get_or}
+use Rattle.std.proofs.Common.{refl, ◌∙◌, get_or}
 use Rattle.viz_flags.specs.Flags.{flags_of}
 use Rattle.viz_sheet.specs.Kept.{kept_rank}
 use Rattle.viz_flags.proofs.BitLemmas.{starts_more}
