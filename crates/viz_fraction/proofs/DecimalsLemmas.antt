@@ -31,7 +31,7 @@ floor_is (negsuc a) (pos m) positive =
     record { at_most = omega (arith, ints, parts, below); above = subst P (sym last) less }
 
 -- a number times a positive one is less only where the number is
-less_by_product : (a b : ℤ) (m : ℕ) → (a *ℤ pos m) <ℤ (b *ℤ pos m) → a <ℤ b
+pub less_by_product : (a b : ℤ) (m : ℕ) → (a *ℤ pos m) <ℤ (b *ℤ pos m) → a <ℤ b
 less_by_product a b m less =
     let product : (up a + down b) * m < (up b + down a) * m = omega (arith, ints, less) in
     let below : up a + down b < up b + down a = lt_of_mul-lt-mul_right m product in

@@ -5,6 +5,8 @@ pub mod FieldsLemmas
 pub mod CrossingsLemmas
 pub mod ZerosLemmas
 pub mod DecimalsLemmas
+pub mod ShortLemmas
+pub mod PlacesLemmas
 pub mod StandardFacts
 pub mod CaseTable
 pub mod CaseValue

@@ -1,6 +1,8 @@
 pub mod Divisors
 pub mod Points
 pub mod Small
+pub mod Short
+pub mod Places
 pub mod Numbers
 pub mod Forms
 pub mod Sums

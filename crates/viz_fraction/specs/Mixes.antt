@@ -1,9 +1,11 @@
 -- A weighted sum of two points, number by number.
-use Rattle.std.specs.Prelude.{◌≡◌, ℤ, pos, ◌+ℤ◌, ◌*ℤ◌, ◌≤ℤ◌, ◌<ℤ◌, unsigned_abs}
+use Rattle.std.specs.Prelude.{◌≡◌, ◌+◌, ◌^◌, ◌<◌, ℤ, pos, ◌+ℤ◌, ◌*ℤ◌, ◌≤ℤ◌, ◌<ℤ◌, unsigned_abs}
 use Rattle.viz_fraction.specs.declared.crossings.Weights.{Weights}
 use Rattle.viz_fraction.specs.declared.numbers.Numbers.{Numbers}
 use Rattle.viz_fraction.specs.Divisors.{gcd}
 use Rattle.viz_fraction.specs.Points.{IsNarrow}
+use Rattle.viz_fraction.specs.Numbers.{point_of}
+use Rattle.viz_fraction.specs.Short.{IsShort}
 
 -- weights without a common divisor but 1, of which the inside one isn't 0
 pub record IsLowestWeights (k : Weights) : Type 0 where
@@ -39,3 +41,9 @@ pub record IsNarrowMix (k : Weights) (a b : Numbers) : Type 0 where
   pub z : IsNarrowSum (k.outside *ℤ b.z) (k.inside *ℤ a.z)
   pub s : IsNarrowSum (k.outside *ℤ b.s) (k.inside *ℤ a.s)
   pub w : IsNarrowSum (k.outside *ℤ b.w) (k.inside *ℤ a.w)
+
+-- both ends are short, and their weights together fit 32 bits
+pub record IsShortMix (k : Weights) (a b : Numbers) : Type 0 where
+  pub weights : unsigned_abs k.outside + unsigned_abs k.inside < 2 ^ 32
+  pub inside : IsShort (point_of a)
+  pub outside : IsShort (point_of b)

@@ -9,14 +9,15 @@ use crate::divisors::common_divisor;
 use crate::numbers::{Numbers, magnitude};
 use crate::points::{Point5, TooWide, lowest_terms};
 use crate::products::{product, sum};
+use crate::short_crossings::{are_short, short_mixed};
 use crate::steps::step_divisor;
 
 /// What an outside and an inside end count for in their crossing: positive numbers or 0, without a
 /// common divisor but 1.
 #[derive(Clone, Copy)]
-struct Weights {
-    outside: i128,
-    inside: i128,
+pub(crate) struct Weights {
+    pub outside: i128,
+    pub inside: i128,
 }
 
 /// The crossing of a form on the edge from an inside end `a`, where its value is `la`, to an
@@ -37,6 +38,7 @@ pub fn crossing(la: i128, a: &Point5, lb: i128, b: &Point5) -> Result<Point5, To
 }
 
 /// The crossing of two ends with their weights.
+#[inline(always)]
 fn crossing_at(weights: &Weights, a: &Numbers, b: &Numbers) -> Result<Point5, TooWide>
     requires inside { IsPoint (point_of a.now) }
     requires outside { IsPoint (point_of b.now) }
@@ -49,7 +51,8 @@ fn crossing_at(weights: &Weights, a: &Numbers, b: &Numbers) -> Result<Point5, To
 }
 
 /// The weights of an outside end of value `lb` and an inside end of value `la`.
-fn weights_of(la: &i128, lb: &i128) -> Weights
+#[inline(always)]
+pub(crate) fn weights_of(la: &i128, lb: &i128) -> Weights
     requires outside { lb.now <ℤ pos 0 }
     requires narrow_inside { IsNarrow la.now }
     requires narrow_outside { IsNarrow lb.now }
@@ -67,6 +70,7 @@ fn weights_of(la: &i128, lb: &i128) -> Weights
 }
 
 /// A magnitude divided by a divisor of it.
+#[inline(always)]
 fn share(magnitude: u128, divisor: u128) -> i128
     requires some { 0 < divisor }
     requires narrow { magnitude ≤ 2 ^ 120 }
@@ -75,11 +79,27 @@ fn share(magnitude: u128, divisor: u128) -> i128
     if divisor == 1 {
         return magnitude as i128;
     }
+    if magnitude <= u64::MAX as u128 && divisor <= u64::MAX as u128 {
+        return i128::from(magnitude as u64 / divisor as u64);
+    }
     (magnitude / divisor) as i128
 }
 
 /// The outside end times its weight and the inside end times its weight, together.
+#[inline(always)]
 fn mixed(weights: &Weights, a: &Numbers, b: &Numbers) -> Result<Numbers, TooWide>
+    ensures value { IfOk result (λ n. n ≡ mixed_of weights.now a.now b.now) }
+    ensures succeeds { IsOk result ↔ IsNarrowMix weights.now a.now b.now }
+{
+    if are_short(weights, a, b) {
+        return Ok(short_mixed(weights, a, b));
+    }
+    long_mixed(weights, a, b)
+}
+
+/// The same of any numbers.
+#[inline(never)]
+fn long_mixed(weights: &Weights, a: &Numbers, b: &Numbers) -> Result<Numbers, TooWide>
     ensures value { IfOk result (λ n. n ≡ mixed_of weights.now a.now b.now) }
     ensures succeeds { IsOk result ↔ IsNarrowMix weights.now a.now b.now }
 {

@@ -1,14 +1,14 @@
 //! Fractions as fixed-point numbers.
-ghost use Rattle.std.specs.Prelude.{◌≡◌, ◌+◌, ◌*◌, ◌/◌, ◌^◌, ◌<◌, ◌≤◌, pos, ◌*ℤ◌, ◌+ℤ◌, ◌-ℤ◌, ◌<ℤ◌, ◌≤ℤ◌, ◌↔◌, IfOk, IsOk, FitsSigned, unsigned_abs};
-ghost use Rattle.std.specs.Int.{w64};
+ghost use Rattle.std.specs.Prelude.{◌≡◌, ◌+◌, ◌*◌, ◌/◌, ◌^◌, ◌<◌, ◌≤◌, pos, ◌*ℤ◌, ◌+ℤ◌, ◌-ℤ◌, ◌<ℤ◌, ◌≤ℤ◌, ◌↔◌, IfOk, IfSome, IsOk, FitsSigned, unsigned_abs};
+ghost use Rattle.std.specs.Int.{w64, int_div_euclid};
 ghost use Rattle.viz_fraction.specs.Points.{IsNarrow};
 ghost use Rattle.viz_fraction.specs.Decimals.{fixed_of, IsFloor};
 
-use crate::numbers::magnitude;
+use crate::numbers::{as_word, is_word, magnitude};
 use crate::points::TooWide;
 
 /// The powers of ten from 10^0 to 10^9.
-const POWERS: [u128; 10] = [
+const POWERS: [u64; 10] = [
     1,
     10,
     100,
@@ -49,6 +49,50 @@ fn fixed_at(n: &i128, w: &i128, k: u8) -> Result<i64, TooWide>
     ensures value { IfOk result (λ m. m ≡ fixed_of n.now w.now k) }
     ensures succeeds { IsOk result ↔ FitsSigned w64 (fixed_of n.now w.now k) }
 {
+    if is_word(n) && is_word(w) {
+        if let Some(places) = short_fixed(&as_word(n), &as_word(w), k) {
+            return Ok(places);
+        }
+    }
+    long_fixed(n, w, k)
+}
+
+/// The same of numbers of 64 bits, where the numerator at `k` places fits 64 bits too.
+fn short_fixed(n: &i64, w: &i64, k: u8) -> Option<i64>
+    requires positive { pos 0 <ℤ w.now }
+    requires places { k ≤ 9 }
+    ensures { IfSome result (λ m. m ≡ fixed_of n.now w.now k) }
+{
+    let product = at_places(n, k)?;
+    Some(quotient_down(&product, w))
+}
+
+/// A number counted in the last of `k` decimal places, where it fits 64 bits.
+fn at_places(n: &i64, k: u8) -> Option<i64>
+    requires { k ≤ 9 }
+    ensures { IfSome result (λ m. m ≡ n.now *ℤ pos (10 ^ k)) }
+{
+    n.checked_mul(power(k) as i64)
+}
+
+/// The floor of a quotient.
+fn quotient_down(product: &i64, w: &i64) -> i64
+    requires { pos 0 <ℤ w.now }
+    ensures { result ≡ int_div_euclid product.now w.now }
+{
+    product.div_euclid(*w)
+}
+
+/// The same of any numbers.
+#[inline(never)]
+fn long_fixed(n: &i128, w: &i128, k: u8) -> Result<i64, TooWide>
+    requires positive { pos 0 <ℤ w.now }
+    requires narrow_n { IsNarrow n.now }
+    requires narrow_w { IsNarrow w.now }
+    requires places { k ≤ 9 }
+    ensures value { IfOk result (λ m. m ≡ fixed_of n.now w.now k) }
+    ensures succeeds { IsOk result ↔ FitsSigned w64 (fixed_of n.now w.now k) }
+{
     let whole = floor(n, w);
     let rest = rest_of(n, w, &whole);
     let places = fraction(rest, magnitude(w), k);
@@ -57,7 +101,7 @@ fn fixed_at(n: &i128, w: &i128, k: u8) -> Result<i64, TooWide>
 }
 
 /// The floor of a fraction.
-fn floor(n: &i128, w: &i128) -> i128
+pub(crate) fn floor(n: &i128, w: &i128) -> i128
     requires positive { pos 0 <ℤ w.now }
     requires narrow { IsNarrow n.now }
     ensures { IsFloor n.now w.now result }
@@ -97,7 +141,7 @@ fn fraction(rest: u128, w: u128, k: u8) -> u128
     ensures below { result < 10 ^ k }
 {
     if rest < SMALL {
-        return rest * power(k) / w;
+        return rest * u128::from(power(k)) / w;
     }
     digit_by_digit(rest, w, k)
 }
@@ -119,7 +163,7 @@ fn digit_by_digit(rest: u128, w: u128, k: u8) -> u128
 }
 
 /// A power of ten.
-fn power(k: u8) -> u128
+fn power(k: u8) -> u64
     requires { k ≤ 9 }
     ensures value { result ≡ 10 ^ k }
     ensures most { result ≤ 1000000000 }
@@ -133,7 +177,7 @@ fn joined(whole: &i64, k: u8, places: u128) -> i128
     requires below { places < 10 ^ k }
     ensures { result ≡ whole.now *ℤ pos (10 ^ k) +ℤ pos places }
 {
-    i128::from(*whole) * power(k) as i128 + places as i128
+    i128::from(*whole) * i128::from(power(k)) + places as i128
 }
 
 /// A number of 64 bits.

@@ -3,6 +3,7 @@ ghost use Rattle.std.specs.Prelude.{◌≡◌, ℕ, ◌<◌, ◌%◌};
 ghost use Rattle.viz_fraction.specs.Divisors.{gcd};
 
 /// The greatest common divisor of a divisor and one magnitude more; quick where the divisor is 1.
+#[inline(always)]
 pub(crate) fn with_magnitude(divisor: u128, magnitude: u128) -> u128
     ensures { result ≡ gcd divisor magnitude }
 {
@@ -16,6 +17,7 @@ pub(crate) fn with_magnitude(divisor: u128, magnitude: u128) -> u128
 }
 
 /// The greatest number that divides both, and the other number where one is 0.
+#[inline(never)]
 pub(crate) fn common_divisor(a: u128, b: u128) -> u128
     ensures { result ≡ gcd a b }
 {

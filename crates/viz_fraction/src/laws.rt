@@ -3,6 +3,7 @@ ghost use Rattle.viz_fraction.specs.Divisors.{GcdIsGreatest};
 ghost use Rattle.viz_fraction.specs.Points.{DivisorIsGreatest, ReducedIsSamePlace, ReducedIsLowest, SamePlaceIsSamePoint, PointIsReduced};
 ghost use Rattle.viz_fraction.specs.Crossings.{CrossingIsZero, CrossingIsBetween, CrossingAtInsideEnd, EdgeHasOneCrossing};
 ghost use Rattle.viz_fraction.specs.Decimals.{FixedIsFloor};
+ghost use Rattle.viz_fraction.specs.Places.{EqualPositionsHaveOnePlace};
 
 /// The greatest common divisor of two numbers, and that of five, is what its name says.
 pub fn divisors_are_greatest()
@@ -29,4 +30,9 @@ pub fn crossings_are_zeros()
 /// A fixed-point number is the floor of its fraction.
 pub fn decimals_are_floors()
     ensures floor { FixedIsFloor }
+{}
+
+/// Points at one position have one place, whatever their scalars, and points at two have two.
+pub fn places_are_one()
+    ensures one { EqualPositionsHaveOnePlace }
 {}

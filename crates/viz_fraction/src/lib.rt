@@ -14,8 +14,10 @@ mod divisors;
 mod forms;
 mod laws;
 mod numbers;
+mod places;
 mod points;
 mod products;
+mod short_crossings;
 mod small_points;
 mod steps;
 
@@ -28,11 +30,16 @@ pub use decimals::fixed;
 pub use forms::{Form, is_inside, value};
 pub use laws::{
     crossings_are_zeros, decimals_are_floors, divisors_are_greatest, lowest_terms_are_one,
+    places_are_one,
 };
 pub use numbers::WIDEST;
+pub use places::{place, within};
 pub use points::{Point5, TooWide, point};
+pub use short_crossings::small_crossing;
 pub use small_points::{SmallPoint, small};
 
+#[cfg(test)]
+mod border_tests;
 #[cfg(test)]
 mod case_tests;
 #[cfg(test)]

@@ -139,6 +139,7 @@ fn narrow_point(n: &Numbers) -> Result<Point5, TooWide>
 }
 
 /// The point of five numbers, of whose greatest common divisor `start` is a multiple; 0 is one.
+#[inline(always)]
 pub(crate) fn lowest_terms(start: u128, n: &Numbers) -> Point5
     requires positive { pos 0 <ℤ n.now.w }
     requires narrow { IsNarrowPoint (point_of n.now) }
@@ -147,12 +148,13 @@ pub(crate) fn lowest_terms(start: u128, n: &Numbers) -> Point5
 {
     let divisor = divisor_of_five(start, n);
     if divisor == 1 {
-        return whole(n);
+        return point_as_it_stands(n);
     }
     divided(n, &(divisor as i128))
 }
 
 /// The greatest common divisor of five numbers, of which `start` is a multiple.
+#[inline(always)]
 fn divisor_of_five(start: u128, n: &Numbers) -> u128
     requires { divisor_of (point_of n.now) ∣ start }
     ensures { result ≡ divisor_of (point_of n.now) }
@@ -162,22 +164,6 @@ fn divisor_of_five(start: u128, n: &Numbers) -> u128
     let with_y = with_magnitude(with_x, magnitude(&n.y));
     let with_z = with_magnitude(with_y, magnitude(&n.z));
     with_magnitude(with_z, magnitude(&n.s))
-}
-
-/// Five numbers in lowest terms as they stand.
-fn whole(n: &Numbers) -> Point5
-    requires positive { pos 0 <ℤ n.now.w }
-    requires narrow { IsNarrowPoint (point_of n.now) }
-    requires lowest { divisor_of (point_of n.now) ≡ 1 }
-    ensures { result ≡ reduced (point_of n.now) }
-{
-    Point5 {
-        x: n.x,
-        y: n.y,
-        z: n.z,
-        s: n.s,
-        w: n.w,
-    }
 }
 
 /// Five numbers divided by their greatest common divisor.
@@ -198,6 +184,7 @@ fn divided(n: &Numbers, divisor: &i128) -> Point5
 }
 
 /// Five numbers that are a point as they stand.
+#[inline(always)]
 pub(crate) fn point_as_it_stands(n: &Numbers) -> Point5
     requires { IsPoint (point_of n.now) }
     ensures { result ≡ point_of n.now }

@@ -1,11 +1,10 @@
 //! Points whose five numbers fit 64 bits, in half the room.
-ghost use Rattle.std.specs.Prelude.{◌≡◌, ◌↔◌, IfSome, IsSome, IsTrue, FitsSigned};
-ghost use Rattle.std.specs.Int.{w64};
+ghost use Rattle.std.specs.Prelude.{◌≡◌, ◌↔◌, IfSome, IsSome, IsTrue};
 ghost use Rattle.viz_fraction.specs.Points.{Point, IsPoint};
 ghost use Rattle.viz_fraction.specs.Numbers.{point_of};
 ghost use Rattle.viz_fraction.specs.Small.{IsSmall};
 
-use crate::numbers::Numbers;
+use crate::numbers::{Numbers, is_word};
 use crate::points::{Point5, point_as_it_stands};
 use std::marker::Model;
 
@@ -52,20 +51,31 @@ impl Model for SmallPoint {
 
 impl SmallPoint {
     /// The same point, in the type that points are reckoned with.
+    #[inline]
     pub fn wide(&self) -> Point5
         ensures value { result ≡ self.now }
     {
-        point_as_it_stands(&Numbers {
+        point_as_it_stands(&self.numbers())
+    }
+
+    /// All five.
+    #[inline]
+    pub(crate) fn numbers(&self) -> Numbers
+        ensures value { point_of result ≡ self.now }
+        ensures valid { IsPoint self.now }
+    {
+        Numbers {
             x: i128::from(self.x),
             y: i128::from(self.y),
             z: i128::from(self.z),
             s: i128::from(self.s),
             w: i128::from(self.w),
-        })
+        }
     }
 }
 
 /// The same point in half the room, where its numbers fit 64 bits.
+#[inline]
 pub fn small(p: &Point5) -> Option<SmallPoint>
     ensures value { IfSome result (λ q. q ≡ p.now) }
     ensures some { IsSome result ↔ IsSmall p.now }
@@ -84,15 +94,8 @@ fn is_small(n: &Numbers) -> bool
     is_word(&n.x) && is_word(&n.y) && is_word(&n.z) && is_word(&n.s) && is_word(&n.w)
 }
 
-/// The number fits 64 bits.
-fn is_word(n: &i128) -> bool
-    ensures { IsTrue result ↔ FitsSigned w64 n.now }
-{
-    *n >= i64::MIN as i128 && *n <= i64::MAX as i128
-}
-
 /// Five numbers of 64 bits that are a point as they stand.
-fn narrowed(n: &Numbers) -> SmallPoint
+pub(crate) fn narrowed(n: &Numbers) -> SmallPoint
     requires small { IsSmall (point_of n.now) }
     requires valid { IsPoint (point_of n.now) }
     ensures { result ≡ point_of n.now }

@@ -8,6 +8,7 @@ use crate::numbers::Numbers;
 
 /// A multiple of the greatest common divisor of a crossing's numbers: that of the steps between its
 /// ends, where both have the weight 1, as the neighbours of a grid of whole numbers; else 0.
+#[inline(always)]
 pub(crate) fn step_divisor(a: &Numbers, b: &Numbers) -> u128
     ensures { IsStepDivisor (point_of a.now) (point_of b.now) result }
 {
@@ -20,6 +21,7 @@ pub(crate) fn step_divisor(a: &Numbers, b: &Numbers) -> u128
 }
 
 /// How far the second number is from the first.
+#[inline(always)]
 fn step(from: &i128, to: &i128) -> u128
     ensures { result ≡ unsigned_abs (to.now -ℤ from.now) }
 {

@@ -4,4 +4,6 @@ pub mod BitLemmas
 pub mod EndLemmas
 pub mod SectionLemmas
 pub mod NarrowLemmas
+pub mod TetrahedraLemmas
+pub mod LeafCells
 pub mod StandardFacts

@@ -1,5 +1,5 @@
 -- No number of a section is wide just where none is in any cell.
-use Rattle.std.proofs.Common.{◌≡◌, ◌≢◌, ℕ, ◌<◌, ◌⊎◌, inl, inr, ⊎_elim, ℤ, pos, true, false, true≢false, List, [], length, get_or, slice_index_or, sym, ap, subst, ◌∙◌, arith}
+use Rattle.std.proofs.Common.{◌≡◌, ◌≢◌, ℕ, ◌<◌, ◌⊎◌, inl, inr, ⊎_elim, pos, true, false, true≢false, List, [], length, get_or, slice_index_or, sym, ap, subst, ◌∙◌, arith}
 use Rattle.std.specs.Prelude.{◌≤ℤ◌, ◌<ℤ◌, int_le}
 use Rattle.std.specs.List.{All, Contains, flat_map}
 use Rattle.std.proofs.lemmas.Bool.{cases_lt}
@@ -14,7 +14,7 @@ use Rattle.viz_fraction.specs.Points.{Point}
 use Rattle.viz_sheet.specs.PairNames.{AreNames}
 use Rattle.viz_sheet.specs.Sheet.{SheetData, IsNamedCell, IsSheet}
 use Rattle.viz_sheet.proofs.RankLemmas.{rank-at}
-use Rattle.viz_meaning.specs.Names.{edge_name, lesser_end, greater_end, names_of}
+use Rattle.viz_meaning.specs.Names.{edge_name, greater_end, names_of}
 use Rattle.viz_meaning.specs.Narrow.{IsNarrowCell, IsNarrowEdge, IsNarrowName, IsNarrowSection}
 use Rattle.viz_meaning.specs.Section.{cells_in, end_name, is_inside_at, point_of, section_cells, zero_point}
 use Rattle.viz_meaning.proofs.EndLemmas.{IsNamedEnd, by-ends, edge-ends, end-used}

@@ -1,5 +1,5 @@
 -- A section of a sheet is a sheet again: its cells, its names and their lengths.
-use Rattle.std.proofs.Common.{◌≡◌, ℕ, suc, ◌+◌, ◌<◌, ◌≤◌, ◌^◌, Bool, List, [], ◌∷◌, ◌++◌, length, get_or, map, refl, sym, ap, subst, ◌∙◌, arith}
+use Rattle.std.proofs.Common.{◌≡◌, ℕ, suc, ◌+◌, ◌<◌, ◌≤◌, ◌^◌, Bool, List, [], ◌∷◌, length, get_or, sym, subst, arith}
 use Rattle.std.specs.List.{All, Contains, flat_map}
 use Rattle.std.proofs.lemmas.Bool.Decides.{nat_tests}
 use Rattle.std.proofs.lemmas.List.{length-map}
@@ -8,9 +8,9 @@ use Rattle.viz_fraction.specs.declared.forms.Form.{Form}
 use Rattle.viz_fraction.specs.CaseRows.{End}
 use Rattle.viz_sheet.specs.PairNames.{AreNames}
 use Rattle.viz_sheet.specs.Sheet.{SheetData, IsFit, IsNamedCell, IsSheet, most_names}
-use Rattle.viz_meaning.specs.Names.{edge_name, names_of}
+use Rattle.viz_meaning.specs.Names.{names_of}
 use Rattle.viz_meaning.specs.Section.{cells_in, crossing_at, end_name, is_inside_at, point_of, section_cells, section_of}
-use Rattle.viz_meaning.proofs.EndLemmas.{IsNamedEnd, IsWholePiece, by-ends, edge-length, named-pieces, whole-pieces}
+use Rattle.viz_meaning.proofs.EndLemmas.{IsNamedEnd, by-ends, edge-length, named-pieces, whole-pieces}
 use Rattle.viz_meaning.proofs.ListLemmas.{all-flat, all-among, all-pieces, front, back}
 use Rattle.viz_meaning.proofs.NameSets.{in-each_once, of-each_once, sorted-each_once}
 

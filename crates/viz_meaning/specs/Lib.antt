@@ -1,6 +1,10 @@
 pub mod Section
 pub mod Narrow
 pub mod Tetrahedra
+pub mod WholeImages
+pub mod ImageFilters
+pub mod Threshold
 pub mod Names
 pub mod Laws
 pub mod SectionLaws
+pub mod TetrahedraLaws

@@ -2,6 +2,9 @@
 
 ghost use Rattle.viz_meaning.specs.Laws.{EdgeHasOneName, NamesAreDetermined, PairsHaveEnds, SectionNamesAreUsed, SectionNamesAscend, SectionNamesHavePoints};
 ghost use Rattle.viz_meaning.specs.SectionLaws.{NarrowCellByCell, SectionFits, SectionHasNextNames, SectionIsSheet};
+ghost use Rattle.viz_meaning.specs.TetrahedraLaws.{TetrahedraAreSheet, TetrahedraFit, TetrahedraHaveLeaves};
+
+use viz_kuhn::{corners_are_the_cubes, edges_are_steps};
 
 /// The names of a section are the set of its cells' names, ascending, and each has a point.
 pub fn section_names_are_a_set()
@@ -29,3 +32,13 @@ pub fn sections_are_sheets()
 pub fn sections_are_wide_in_a_cell()
     ensures cells { NarrowCellByCell }
 {}
+
+/// The tetrahedra of an image are a sheet of names of one leaf, and it fits.
+pub fn tetrahedra_are_a_sheet()
+    ensures sheet { TetrahedraAreSheet }
+    ensures names { TetrahedraHaveLeaves }
+    ensures fits { TetrahedraFit }
+{
+    corners_are_the_cubes();
+    edges_are_steps();
+}

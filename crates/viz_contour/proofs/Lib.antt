@@ -1,0 +1,5 @@
+mod UnitLemmas
+mod EndLemmas
+mod ApartLemmas
+mod SheetLemmas
+mod NamedLemmas

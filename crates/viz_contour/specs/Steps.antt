@@ -1,0 +1,3 @@
+pub mod Units
+pub mod Ends
+pub mod Named

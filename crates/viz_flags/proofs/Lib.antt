@@ -1,0 +1,11 @@
+mod ByteLemmas
+mod RowLemmas
+mod CountLemmas
+mod CubeLemmas
+mod LayerLemmas
+mod NumberOrder
+mod BitLemmas
+mod NameLemmas
+mod ChangedLemmas
+mod FlaggedLemmas
+mod MadeLemmas

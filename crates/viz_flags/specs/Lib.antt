@@ -1,0 +1,4 @@
+pub mod Edges
+pub mod Flags
+pub mod Flagged
+pub mod Steps

@@ -1,0 +1,12 @@
+pub mod FrontLemmas
+pub mod SectionStanding
+pub mod PointStanding
+pub mod GridStanding
+pub mod PolyStanding
+pub mod HeadStanding
+pub mod IndexLemmas
+pub mod PieceLemmas
+pub mod MeshTexts
+pub mod MeshStanding
+pub mod AgainLemmas
+pub mod OnlyLemmas
