@@ -4,6 +4,5 @@ pub mod Causes
 pub mod Report
 pub mod Command
 pub mod Outputs
-pub mod Threshold
 pub mod Commands
 pub mod Made

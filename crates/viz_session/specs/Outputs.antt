@@ -15,7 +15,7 @@ use Rattle.viz_mesh_write.specs.Fits.{FitCounts, FitNumbers}
 use Rattle.viz_mesh_write.specs.MeshText.{mesh_text}
 use Rattle.viz_session.specs.declared.command.Filter.{Filter}
 use Rattle.viz_session.specs.declared.command.Filter.TheVariants.{Threshold, Contour}
-use Rattle.viz_session.specs.Threshold.{thresholded}
+use Rattle.viz_meaning.specs.Threshold.{thresholded}
 
 -- ---- what is written of a dataset
 

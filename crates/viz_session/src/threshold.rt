@@ -2,7 +2,7 @@
 
 ghost use Rattle.std.specs.Prelude.{◌≡◌, map, IfOk};
 ghost use Rattle.viz_dataset.specs.Images.{IsImage};
-ghost use Rattle.viz_session.specs.Threshold.{is_within, kept_value, kept_numbers, thresholded};
+ghost use Rattle.viz_meaning.specs.Threshold.{is_within, kept_value, kept_numbers, thresholded};
 
 use std::alloc::{AllocError, Global};
 use viz_column::{Column, Lent, Number};

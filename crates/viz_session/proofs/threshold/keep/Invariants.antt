@@ -1,5 +1,5 @@
 use Rattle.std.proofs.Common.{◌≡◌, map, take}
-use Rattle.viz_session.specs.Threshold.{kept_value}
+use Rattle.viz_meaning.specs.Threshold.{kept_value}
 use Rattle.viz_session.proofs.threshold.keep.Given as goal
 
 -- the numbers so far
