@@ -1,5 +1,8 @@
 //! Points and parts of images, by hand.
 
+ghost use Rattle.std.specs.Prelude.{◌↔◌, IsTrue};
+ghost use Rattle.viz_extent.specs.Parts.{IsPart};
+
 use crate::{Dataset, Image, Info, has_point, is_origin, is_spacing};
 use std::alloc::{AllocError, Global};
 use std::process::Abort;
@@ -54,10 +57,17 @@ fn point_of(image: &Image, [i, j, k]: [u32; 3]) -> Option<Point5> {
     Some(image.point(i, j, k))
 }
 
+// Whether a part lies in an extent.
+fn is_part(whole: &Extent, part: &Extent) -> bool
+    ensures { IsTrue result ↔ IsPart whole.now part.now }
+{
+    whole.contains(part)
+}
+
 // A part of an image, where there is one.
 fn part_of(alloc: Global, image: &Image, bounds: [u32; 6]) -> Result<Image, Fail> {
     let part = Extent::new(bounds).ok_or("a part")?;
-    if !image.extent().contains(&part) {
+    if !is_part(&image.extent(), &part) {
         return Err("a part within")?;
     }
     let small = image.restrict(alloc, &part)?;
