@@ -22,10 +22,10 @@ pub record Ascends (f : Leaves) : Type 0 where
 abbrev pub same_leaves : Leaves → Leaves → Bool
 same_leaves f g = same_flag f.up g.up && ((f.a == g.a) && ((f.b == g.b) && (f.c == g.c)))
 
-leaves_from : (f g : Leaves) → f.up ≡ g.up → f.a ≡ g.a → f.b ≡ g.b → f.c ≡ g.c → f ≡ g
+pub leaves_from : (f g : Leaves) → f.up ≡ g.up → f.a ≡ g.a → f.b ≡ g.b → f.c ≡ g.c → f ≡ g
 leaves_from f g up a b c = λ i. record { up = up i; a = a i; b = b i; c = c i }
 
-flags : (p q : Bool) → (p ≡ q) ⊎ (p ≡ not q)
+pub flags : (p q : Bool) → (p ≡ q) ⊎ (p ≡ not q)
 flags true true = inl refl
 flags true false = inr refl
 flags false true = inr refl

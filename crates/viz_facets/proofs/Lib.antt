@@ -4,3 +4,4 @@ pub mod FacetTable
 pub mod LeafFacets
 pub mod GridFacets
 pub mod SharedLaw
+mod StandardFacts
