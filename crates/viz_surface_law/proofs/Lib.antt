@@ -10,4 +10,6 @@ pub mod Ranks
 pub mod RankCounts
 pub mod SheetLemmas
 pub mod ContourLemmas
+pub mod BorderLemmas
+pub mod AuditLemmas
 mod StandardFacts

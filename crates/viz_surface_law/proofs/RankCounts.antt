@@ -14,7 +14,7 @@ use Rattle.viz_facets.proofs.ListCounts.{sum_by-same, sum_by-map, by_test}
 use Rattle.viz_surface_law.proofs.AuditLaw.{ones}
 use Rattle.viz_surface_law.proofs.PassLaw.{uniq, passes}
 use Rattle.viz_facets.proofs.FacetTable.{Each, Each_at}
-use Rattle.viz_surface_law.proofs.Ranks.{Sorted, Pair, pair, Valid, side_at, key_at, first, first_valid, first_less, undirected_at, half_at, same_by_code, all_pairs, keys_are, sides_are, valid_pairs, sum_alike, runs_by_code}
+use Rattle.viz_surface_law.proofs.Ranks.{Sorted, Pair, pair, Valid, side_at, key_at, first, first_valid, undirected_at, half_at, same_by_code, all_pairs, keys_are, sides_are, valid_pairs, sum_alike, runs_by_code}
 
 -- ---- keys
 

@@ -34,6 +34,7 @@ Sorted names = IsStrictlySortedBy edge_cmp (map edge_named names)
 
 -- the edge of the name of a rank stands at that rank
 at_rank : (names : List (List ℕ)) (p : ℕ) → edge_at names p ≡ get_or (map edge_named names) p no_edge
+unfolding no_edge
 at_rank [] p = refl
 at_rank (n ∷ ns) zero = refl
 at_rank (n ∷ ns) (suc p) = at_rank ns p
@@ -59,10 +60,10 @@ before_by_rank names p q s in_p in_q apart =
 
     cases : (p < q) ⊎ (q < p) → is_before (get_or (map edge_named names) p no_edge) (get_or (map edge_named names) q no_edge) ≡ nat_lt p q
     cases (inl less) =
-        less-before _ _ (Less-from_sorted edge_cmp (map edge_named names) p q no_edge s less (within q in_q))
+        less-before (get_or (map edge_named names) p no_edge) (get_or (map edge_named names) q no_edge) (Less-from_sorted edge_cmp (map edge_named names) p q no_edge s less (within q in_q))
         ∙ sym (grind (arith, nat_tests))
     cases (inr more) =
-        after-not_before _ _ (Less-from_sorted edge_cmp (map edge_named names) q p no_edge s more (within p in_p))
+        after-not_before (get_or (map edge_named names) p no_edge) (get_or (map edge_named names) q no_edge) (Less-from_sorted edge_cmp (map edge_named names) q p no_edge s more (within p in_p))
         ∙ sym (grind (arith, nat_tests))
 
 -- ---- one list of directed sides, seen by names and by keys

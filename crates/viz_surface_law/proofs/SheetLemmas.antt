@@ -32,7 +32,7 @@ one_triangle count (p ∷ q ∷ []) rule three = absurd (omega (arith, three))
 one_triangle count (p ∷ q ∷ r ∷ s ∷ rest) rule three = absurd (omega (arith, three))
 
 -- the cells of a sheet have as many ranks as names
-three_ranks : (names : List (List ℕ)) (ranks : List (List ℕ)) → All (λ cell. length cell ≡ 3) (by_names names ranks) → All (λ cell. length cell ≡ 3) ranks
+pub three_ranks : (names : List (List ℕ)) (ranks : List (List ℕ)) → All (λ cell. length cell ≡ 3) (by_names names ranks) → All (λ cell. length cell ≡ 3) ranks
 three_ranks names [] three = λ k d less. absurd (omega (arith, less))
 three_ranks names (cell ∷ rest) three =
     let first = sym (length-map_of (λ r. get_or names r []) cell) ∙ All-head (λ c. length c ≡ 3) (names_at names cell) (by_names names rest) three in

@@ -1,6 +1,6 @@
 //! Whether the facet of a side lies on the boundary of a grid.
 
-ghost use Rattle.std.specs.Prelude.{◌≡◌, All, length};
+ghost use Rattle.std.specs.Prelude.{◌≡◌, ◌==◌, ◌||◌, All, length};
 ghost use Rattle.viz_extent.specs.Extent.{count_of};
 ghost use Rattle.viz_surface_law.specs.Closed.{on_boundary};
 ghost use Rattle.viz_surface_law.specs.Sides.{side};
@@ -29,11 +29,18 @@ fn lies_on_boundary(whole: &Extent, tail: &[u32], head: &[u32]) -> bool
     ensures value { result ≡ on_boundary whole.now (side (edge_named tail.now) (edge_named head.now)) }
 {
     let (a, b, c, d) = (tail[0], tail[1], head[0], head[1]);
-    if c == a || c == b {
+    if is_one_of(c, a, b) {
         facet_on_boundary(whole, [u64::from(a), u64::from(b), u64::from(d)])
-    } else if d == a || d == b {
+    } else if is_one_of(d, a, b) {
         facet_on_boundary(whole, [u64::from(a), u64::from(b), u64::from(c)])
     } else {
         false
     }
+}
+
+/// Whether a leaf is one of two.
+fn is_one_of(leaf: u32, a: u32, b: u32) -> bool
+    ensures { result ≡ ((leaf == a) || (leaf == b)) }
+{
+    leaf == a || leaf == b
 }
