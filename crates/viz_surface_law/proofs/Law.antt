@@ -24,7 +24,8 @@ use Rattle.viz_facets.proofs.LeafFacets.{Leaves}
 use Rattle.viz_surface_law.proofs.Cuts.{cut_of, cut_of_flip, cuts, Cuts, of_cut, IsOf, same_side-decides}
 use Rattle.viz_facets.proofs.GridFacets.{chains, In, leaf_at, facet_at, ascends, false_then, lowest_in, StandsAt, low_corner}
 use Rattle.viz_surface_law.proofs.Total.{total, cuts_in, diags_in, diag_of, cuts_of_facet}
-use Rattle.viz_surface_law.proofs.Diagonals.{Diags, IsIn, of_diag, of_table, row_diags, diag_none, diags_of_side}
+use Rattle.viz_surface_law.proofs.Diagonals.{Diags, IsIn, of_diag, diag_none}
+use Rattle.viz_surface_law.proofs.DiagonalRows.{of_table, row_diags, diags_of_side}
 
 -- ---- sums
 

@@ -2,6 +2,7 @@ pub mod Local
 pub mod Cuts
 pub mod Total
 pub mod Diagonals
+pub mod DiagonalRows
 pub mod Law
 pub mod AuditLaw
 pub mod PassLaw

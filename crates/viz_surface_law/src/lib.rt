@@ -12,9 +12,13 @@ mod boundary;
 mod keys;
 mod laws;
 mod passes;
+mod surfaces;
 
 pub use audits::{Counts, audit};
 pub use laws::{contours_are_closed, sections_are_closed};
+pub use surfaces::is_surface;
 
-
-
+#[cfg(test)]
+mod contour_tests;
+#[cfg(test)]
+mod tests;
