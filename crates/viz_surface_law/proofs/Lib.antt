@@ -1,0 +1,16 @@
+pub mod Local
+pub mod Cuts
+pub mod Total
+pub mod Diagonals
+pub mod DiagonalRows
+pub mod Law
+pub mod AuditLaw
+pub mod PassLaw
+pub mod Reordered
+pub mod Ranks
+pub mod RankCounts
+pub mod SheetLemmas
+pub mod ContourLemmas
+pub mod BorderLemmas
+pub mod AuditLemmas
+mod StandardFacts

@@ -1,0 +1,21 @@
+//! Laws of the sides of a section. A function that calls one may rest on it.
+
+ghost use Rattle.viz_surface_law.specs.Audit.{AuditsAgree};
+ghost use Rattle.viz_surface_law.specs.Closed.{SectionsAreClosed};
+ghost use Rattle.viz_surface_law.specs.Contours.{ContourSidesAddUp, ContoursAreClosed, ContoursAreSurfaces, LoneSidesAreBorders};
+
+/// Whichever points are inside, each side of a triangle of the section lies in exactly two
+/// triangles that run through it in opposite directions, or in exactly one, and in one exactly
+/// where its facet lies on the boundary of the grid.
+pub fn sections_are_closed()
+    ensures closed { SectionsAreClosed }
+    ensures audit { AuditsAgree }
+{}
+
+/// So it is for the contour of an image at each level, and its audit says so.
+pub fn contours_are_closed()
+    ensures closed { ContoursAreClosed }
+    ensures sides { ContourSidesAddUp }
+    ensures lone { LoneSidesAreBorders }
+    ensures surface { ContoursAreSurfaces }
+{}
