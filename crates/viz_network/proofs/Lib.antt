@@ -7,6 +7,8 @@ pub mod BehindLemmas
 pub mod ConnectLemmas
 pub mod ToldLemmas
 pub mod OrderLemmas
+pub mod PlaceLemmas
+pub mod EightLemmas
 pub mod PartLemmas
 pub mod EditLemmas
 pub mod RemoveLemmas

@@ -10,7 +10,7 @@ use Rattle.viz_network.specs.Cone.{Cone, Tree, port, grow, above, joined, total,
 use Rattle.viz_network.specs.Steps.Order.{IsBefore, IsTale}
 
 module _ (tale : List NodeId) (up down : ℕ → Option Tree) (k : ℕ) (same : (j : ℕ) (x : NodeId) → j < k → slice_get tale j ≡ Some x → up x.0 ≡ down x.0) where
-  grow_same : (inputs : List (Option NodeId)) → AllByRecursion (IsBefore tale k) inputs → grow up inputs ≡ grow down inputs
+  pub grow_same : (inputs : List (Option NodeId)) → AllByRecursion (IsBefore tale k) inputs → grow up inputs ≡ grow down inputs
   grow_same [] h = refl
   grow_same (None ∷ inputs) h = ap Cone.empty (grow_same inputs h.1)
   grow_same (Some id ∷ inputs) h = ap (λ t. port t (grow up inputs)) (same h.0.0 id h.0.1 h.0.2) ∙ ap (port (down id.0)) (grow_same inputs h.1)

@@ -24,7 +24,7 @@ rank_some net id n h = by (rank_of net id) refl
     by None r = let bad : Some n ≡ None = sym h ∙ (none_at_rank net id r).0 in let no : ⊥ = cc in absurd no
 
 -- two nodes of one rank are one
-same_id : (net : Network) (a b i : ℕ) (d : List ℕ × Node) → rank_of net a ≡ Some i → rank_of net b ≡ Some i → i < length net → a ≡ b
+pub same_id : (net : Network) (a b i : ℕ) (d : List ℕ × Node) → rank_of net a ≡ Some i → rank_of net b ≡ Some i → i < length net → a ≡ b
 same_id net a b i d p q l =
     let at = slice_get-get_or net i d l in
     sym (at_rank net a i (get_or net i d) p at).0 ∙ (at_rank net b i (get_or net i d) q at).0

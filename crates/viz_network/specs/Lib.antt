@@ -5,4 +5,5 @@ pub mod History
 pub mod Cone
 pub mod Network
 pub mod Readers
+pub mod Step
 pub mod Steps

@@ -7,12 +7,14 @@ ghost use Rattle.viz_network.specs.Readers.{kind_at, input_at, value_at};
 ghost use Rattle.viz_network.specs.Cone.{stamp_of};
 ghost use Rattle.viz_network.specs.Edits.{apply};
 ghost use Rattle.viz_network.specs.Applies.{Applies, IsPast};
+ghost use Rattle.viz_network.specs.Step.{AreSteps};
 
 use crate::changes::{add, connect, disconnect, load, remove, set};
 use crate::edit::Edit;
 use crate::node::Node;
 use crate::nodes::{Nodes, name_at, node_at, node_named};
 use crate::refusal::ApplyStop;
+use crate::steps::{Step, steps_in};
 use crate::sweep::stamp_in;
 use indexmap::IndexMap;
 use std::alloc::{AllocError, Global};
@@ -164,5 +166,11 @@ impl Net {
             return None;
         }
         Some(stamp_in(&self.nodes, &self.order, node))
+    }
+    /// A step for each node, each behind what feeds it.
+    pub fn steps(&self, alloc: Global) -> Result<Vec<Step>, AllocError>
+        ensures { IfOk result (λ steps. AreSteps self.now steps.items) }
+    {
+        steps_in(alloc, &self.nodes, &self.order)
     }
 }

@@ -1,0 +1,106 @@
+//! The information pass: what is known of each step before numbers are, by headers alone.
+
+ghost use Rattle.std.specs.Prelude.{◌≡◌, IfOk, length, map};
+ghost use Rattle.viz_network.specs.Step.{AreSteps};
+ghost use Rattle.viz_scratch.specs.Fold.{IsMade, at_node};
+ghost use Rattle.viz_scratch.specs.Information.{IsHeaderOf, InformationRule};
+ghost use Rattle.viz_scratch.specs.Steps.Table.{value_at, told, anything, always, IsTable};
+
+use crate::gathered::fault_in;
+use crate::information::{Information, filtered, of_header};
+use std::alloc::{AllocError, Global};
+use viz_kinds::Settings;
+use viz_legacy_read::header;
+use viz_network::{Cause, Fault, Net, Node, Step};
+
+type Known = Option<Result<Information, Fault>>;
+
+fn information_at(table: &[Known], place: &Option<usize>) -> Option<Information>
+    ensures { result ≡ value_at table.now place.now }
+{
+    let Some(place) = place else {
+        return None;
+    };
+    match table.get(*place) {
+        Some(Some(Ok(information))) => Some(*information),
+        _ => None,
+    }
+}
+
+// What is known at the eight ports.
+fn inputs_of(table: &[Known], places: &[Option<usize>; 8]) -> [Option<Information>; 8]
+    ensures { result ≡ map (value_at table.now) places.now }
+{
+    let [a, b, c, d, e, f, g, h] = places;
+    [
+        information_at(table, a),
+        information_at(table, b),
+        information_at(table, c),
+        information_at(table, d),
+        information_at(table, e),
+        information_at(table, f),
+        information_at(table, g),
+        information_at(table, h),
+    ]
+}
+
+fn of_file(node: &Node) -> Result<Information, Cause>
+    ensures { IsHeaderOf node.now.file result }
+{
+    let Some(file) = &node.file else {
+        return Err(Cause::NoFile);
+    };
+    match header(file.get().list()) {
+        Ok(info) => Ok(of_header(&info)),
+        Err(fault) => Err(Cause::BadFile(fault)),
+    }
+}
+
+fn own_information(
+    node: &Node,
+    inputs: &[Option<Information>; 8],
+) -> Result<Information, Cause>
+    ensures { InformationRule node.now inputs.now result }
+{
+    match &node.settings {
+        Settings::File { .. } => of_file(node),
+        settings => filtered(settings, inputs),
+    }
+}
+
+fn at_node(node: &Node, own: Result<Information, Cause>) -> Result<Information, Fault>
+    ensures { result ≡ at_node node.now own }
+{
+    match own {
+        Ok(information) => Ok(information),
+        Err(cause) => Err(Fault {
+            node: node.id,
+            cause,
+        }),
+    }
+}
+
+fn known_of(table: &[Known], node: &Node, places: &[Option<usize>; 8]) -> Result<Information, Fault>
+    ensures { IsMade InformationRule node.now (told table.now places.now) result }
+{
+    if let Some(fault) = fault_in(table, places) {
+        return Err(fault);
+    }
+    let inputs = inputs_of(table, places);
+    at_node(node, own_information(node, &inputs))
+}
+
+/// What is known of each step, or its first fault.
+pub fn information_pass(alloc: Global, net: &Net, steps: &[Step]) -> Result<Vec<Known>, AllocError>
+    requires { AreSteps net.now steps.now }
+    ensures { IfOk result (λ table.
+        IsTable InformationRule anything always net.now steps.now (length steps.now) table.items) }
+{
+    let mut table = Vec::with_capacity(alloc, steps.len())?;
+    for step in steps {
+        let node = net.node(step.node).unwrap();
+        let known = known_of(&table, node, &step.inputs);
+        table.push(Some(known))?;
+    }
+    Ok(table)
+}

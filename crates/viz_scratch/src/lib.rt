@@ -1,0 +1,25 @@
+//! Evaluation from scratch: what a node of a network gives, and the text of its file, by the plain
+//! definitions over all that lies upstream of it.
+//!
+//! Contract: `scratch` gives the dataset of the definitions or its first fault, and `file_text` the
+//! text of the dataset or why there is none; equal cones give the same. Definitions:
+//! `specs/Scratch.antt`, `specs/Written.antt`; the rules are those of docs/FORMATS.md, "What a node
+//! gives".
+#![tactic(auto)]
+
+mod datasets;
+mod filters;
+mod gathered;
+mod headers;
+mod information;
+mod readers;
+mod scratch;
+mod section;
+mod stop;
+mod written;
+
+pub use scratch::scratch;
+pub use written::file_text;
+
+#[cfg(test)]
+mod tests;
