@@ -1,2 +1,5 @@
 pub mod TableLemmas
 pub mod ReaderLemmas
+pub mod OneLemmas
+pub mod RuleLemmas
+pub mod GridLemmas

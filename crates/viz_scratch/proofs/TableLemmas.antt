@@ -1,8 +1,10 @@
 -- A table of what steps give grows by the rule.
-use Rattle.std.proofs.Common.{◌≡◌, ℕ, zero, suc, ◌+◌, ◌<◌, ◌⊎◌, inl, inr, Bool, true, false, nat_eq, List, [], ◌∷◌, ◌++◌, length, length-append, map, slice_get, slice_index_or, Option, None, Some, Result, Ok, Err, refl, sym, ap, subst, ◌∙◌, arith}
+use Rattle.std.specs.Option.{option_copied}
+use Rattle.std.proofs.Common.{Bor, IsSome, ◌≡◌, ℕ, zero, suc, ◌+◌, ◌<◌, ◌≤◌, ◌⊎◌, inl, inr, Bool, true, false, nat_eq, List, [], ◌∷◌, ◌++◌, length, length-append, map, slice_get, set, get_or, Option, None, Some, Result, Ok, Err, refl, sym, ap, subst, ◌∙◌, arith}
 use Rattle.std.proofs.lemmas.Bool.{eqb-true}
 use Rattle.std.proofs.lemmas.Bool.Decides.{nat_tests}
-use Rattle.std.proofs.lemmas.Option.{get_or_from_slice_get}
+use Rattle.std.proofs.lemmas.List.{get_or-set_same, length-set}
+use Rattle.std.proofs.lemmas.Option.{slice_get-get_or, get_or_from_slice_get}
 use Rattle.viz_base.specs.declared.node.NodeId.{NodeId}
 use Rattle.viz_network.specs.declared.node.Node.{Node}
 use Rattle.viz_network.specs.declared.steps.Step.{Step}
@@ -11,7 +13,8 @@ use Rattle.viz_network.specs.Network.{Network, node_of}
 use Rattle.viz_network.specs.Cone.{Tree, grow, port, cone_of}
 use Rattle.viz_network.specs.Step.{nodes_of, AreFed, IsStepOf, AreSteps}
 use Rattle.viz_scratch.specs.Fold.{Inputs, NodeRule, filled, joined, IsMade, AreGiven, IsGiven}
-use Rattle.viz_scratch.specs.Steps.Table.{Table, fault_of, value_of, entry_at, value_at, first_of, first_fault, faulted, told, HasInputs, IsTable}
+use Rattle.viz_scratch.specs.Steps.Table.{Table, fault_of, value_of, entry_at, value_at, first_of, first_fault, faulted, told, HasInputs, IsTable, always, is_read, IsReleased}
+use Rattle.viz_scratch.specs.Steps.Readers.{AreReadAt}
 
 -- an item of a list with one more is one of the list, or the one more
 pub last_or : {A : Type 0} (xs : List A) (y : A) (j : ℕ) (x : A) → slice_get (xs ++ y ∷ []) j ≡ Some x → (slice_get xs j ≡ Some x) ⊎ ((j ≡ length xs) × (x ≡ y))
@@ -37,6 +40,14 @@ told_empty {X} table places = by (first_fault table places)
     by : (o : Option Fault) → faulted o (None ∷ map (value_at table) places) ≡ joined (Ok None) (faulted o (map (value_at table) places))
     by None = refl
     by (Some f) = refl
+
+-- an item beside the one that is set
+set_beside : {A : Type 0} (xs : List A) (p j : ℕ) (y : A) → (j ≡ p → ⊥) → slice_get (set xs p y) j ≡ slice_get xs j
+set_beside [] p j y differs = refl
+set_beside (x ∷ xs) zero zero y differs = absurd (differs refl)
+set_beside (x ∷ xs) zero (suc j) y differs = refl
+set_beside (x ∷ xs) (suc p) zero y differs = refl
+set_beside (x ∷ xs) (suc p) (suc j) y differs = set_beside xs p j y (λ e. differs (ap suc e))
 
 -- a port with its value in front of what the table has
 told_fed : {X : Type 0} (table : Table X) (place : ℕ) (places : List (Option ℕ)) (value : Result X Fault) → slice_get table place ≡ Some (Some value)
@@ -126,3 +137,95 @@ module _ {X : Type 0} (rule : NodeRule X) (P : X → Type 0) (needs : ℕ → �
       by j l need false e =
           let was = t.kept j (let before : j < k = grind (arith, nat_tests) in before) (fewer j k need) in
           (was.0, kept_at table (Some value ∷ []) j (Some was.0) was.1)
+
+-- where all is kept, the table has what feeds a step
+pub has_always : {X : Type 0} (rule : NodeRule X) (P : X → Type 0) (net : Network) (steps : List Step) (order : List NodeId) (k : ℕ) (table : Table X) → IsTable rule P always net steps k table
+    → (inputs : List (Option NodeId)) (places : List (Option ℕ)) → AreFed order k inputs places → HasInputs table places
+has_always rule P net steps order k table t [] [] f = tt
+has_always rule P net steps order k table t [] (p ∷ places) f = absurd f
+has_always rule P net steps order k table t (None ∷ inputs) [] f = absurd f
+has_always rule P net steps order k table t (Some id ∷ inputs) [] f = absurd f
+has_always rule P net steps order k table t (None ∷ inputs) (None ∷ places) f = has_always rule P net steps order k table t inputs places f
+has_always rule P net steps order k table t (None ∷ inputs) (Some p ∷ places) f = absurd f
+has_always rule P net steps order k table t (Some id ∷ inputs) (None ∷ places) f = absurd f
+has_always rule P net steps order k table t (Some id ∷ inputs) (Some p ∷ places) f = (t.kept p f.0 tt, has_always rule P net steps order k table t inputs places f.2)
+
+-- where a step is asked for, the table has what feeds it
+pub has_read : {X : Type 0} (rule : NodeRule X) (P : X → Type 0) (net : Network) (steps : List Step) (last : List ℕ) (order : List NodeId) (k : ℕ) (table : Table X)
+    → IsTable rule P (is_read last) net steps k table
+    → (inputs : List (Option NodeId)) (places : List (Option ℕ)) → AreFed order k inputs places → AreReadAt last k places → HasInputs table places
+has_read rule P net steps last order k table t [] [] f r = tt
+has_read rule P net steps last order k table t [] (p ∷ places) f r = absurd f
+has_read rule P net steps last order k table t (None ∷ inputs) [] f r = absurd f
+has_read rule P net steps last order k table t (Some id ∷ inputs) [] f r = absurd f
+has_read rule P net steps last order k table t (None ∷ inputs) (None ∷ places) f r = has_read rule P net steps last order k table t inputs places f r
+has_read rule P net steps last order k table t (None ∷ inputs) (Some p ∷ places) f r = absurd f
+has_read rule P net steps last order k table t (Some id ∷ inputs) (None ∷ places) f r = absurd f
+has_read rule P net steps last order k table t (Some id ∷ inputs) (Some p ∷ places) f r =
+    (t.kept p f.0 (omega (arith, f.0, r.0), r.0), has_read rule P net steps last order k table t inputs places f.2 r.1)
+
+-- a step that isn't asked for
+pub skip_table : {X : Type 0} (rule : NodeRule X) (P : X → Type 0) (net : Network) (steps : List Step) (last : List ℕ) (k : ℕ) (table : Table X)
+    → IsTable rule P (is_read last) net steps k table → get_or last k 0 ≡ 0 → IsTable rule P (is_read last) net steps (k + 1) (table ++ None ∷ [])
+skip_table {X} rule P net steps last k table t none = record {
+  count = length-append table (None ∷ []) ∙ ap (λ q. q + 1) t.count;
+  given = λ j id v here there. elim (last_or table None j (Some v) here) [ inl old ↦ t.given j id v old there | inr e ↦ (let bad : ⊥ = cc in absurd bad) ];
+  sound = λ j x here. elim (last_or table None j (Some (Ok x)) here) [ inl old ↦ t.sound j x old | inr e ↦ (let bad : ⊥ = cc in absurd bad) ];
+  kept = λ j l need. by j l need (nat_eq j k) refl;
+}
+  where
+    Kept : ℕ → Type 0
+    Kept j = (v : Result X Fault) × (slice_get (table ++ None ∷ []) j ≡ Some (Some v))
+
+    by : (j : ℕ) → j < k + 1 → is_read last j (k + 1) → (b : Bool) → nat_eq j k ≡ b → Kept j
+    by j l need true e =
+        let place = ap (λ q. get_or last q 0) (eqb-true j k e) in
+        absurd (omega (arith, place, none, need.0))
+    by j l need false e =
+        let was = t.kept j (let before : j < k = grind (arith, nat_tests) in before) (need.0, omega (arith, need.1)) in
+        (was.0, kept_at table (None ∷ []) j (Some was.0) was.1)
+
+-- what isn't read behind the last step is given up
+pub released_table : {X : Type 0} (rule : NodeRule X) (P : X → Type 0) (net : Network) (steps : List Step) (last : List ℕ) (k : ℕ) (old new : Table X)
+    → IsTable rule P (is_read last) net steps (k + 1) old → IsReleased last k old new → IsTable rule P (is_read last) net steps (k + 1) new
+released_table rule P net steps last k old new t r = record {
+  count = r.count ∙ t.count;
+  given = λ j id v here there. t.given j id v (r.same j v here) there;
+  sound = λ j x here. t.sound j x (r.same j (Ok x) here);
+  kept = λ j l need. (let was = t.kept j l need in (was.0, r.kept j (omega (arith, need.1)) ∙ was.1));
+}
+
+-- nothing is given up
+pub released_none : {X : Type 0} (last : List ℕ) (k : ℕ) (table : Table X) → IsReleased last k table table
+released_none last k table = record { count = refl; kept = λ j l. refl; same = λ j v e. e }
+
+-- what is given up, and then more
+pub released_more : {X : Type 0} (last : List ℕ) (k : ℕ) (old mid new : Table X) → IsReleased last k old mid → IsReleased last k mid new → IsReleased last k old new
+released_more last k old mid new a b = record {
+  count = b.count ∙ a.count;
+  kept = λ j l. b.kept j l ∙ a.kept j l;
+  same = λ j v e. a.same j v (b.same j v e);
+}
+
+-- one place is given up
+pub released_one : {X : Type 0} (last : List ℕ) (k p : ℕ) (table : Table X) → p < length table → get_or last p 0 ≡ k → IsReleased last k table (set table p None)
+released_one {X} last k p table within here = record {
+  count = length-set table p None;
+  kept = λ j l. (let differs : (j ≡ p → ⊥) = λ e. (let same = ap (λ q. get_or last q 0) e in omega (arith, same, here, l)) in other j differs);
+  same = λ j v e. by j v e (nat_eq j p) refl;
+}
+  where
+    other : (j : ℕ) → (j ≡ p → ⊥) → slice_get (set table p None) j ≡ slice_get table j
+    other j differs = set_beside table p j None differs
+
+    by : (j : ℕ) (v : Result X Fault) → slice_get (set table p None) j ≡ Some (Some v) → (b : Bool) → nat_eq j p ≡ b → slice_get table j ≡ Some (Some v)
+    by j v e true q =
+        let first : slice_get (set table p None) p ≡ Some None = slice_get-get_or (set table p None) p None (omega (arith, within, length-set table p None)) ∙ ap Some (get_or-set_same table p None None within) in
+        let found = sym first ∙ sym (ap (slice_get (set table p None)) (eqb-true j p q)) ∙ e in
+        let bad : ⊥ = cc in absurd bad
+    by j v e false q = sym (other j (λ (z : j ≡ p). (let bad : ⊥ = grind (arith, nat_tests) in bad))) ∙ e
+
+-- a node that is lent is there
+pub lent_there : {A : Type 0} (o : Option (Bor A)) (x : A) → option_copied o ≡ Some x → IsSome o
+lent_there None x h = let bad : ⊥ = cc in absurd bad
+lent_there (Some b) x h = refl

@@ -99,15 +99,15 @@ IsFiltered _ inputs r = ⊥
 abbrev pub all_information : Inputs Dataset → Inputs Information
 all_information inputs = map (option_map information_of) inputs
 
--- what is made where the information of the datasets is taken; else its cause
-abbrev pub IsMadeWith : Result Information Cause → Settings → Inputs Dataset → Result Dataset Cause → Type 0
-IsMadeWith (Ok i) settings inputs r = IsFiltered settings inputs r
-IsMadeWith (Err cause) settings inputs r = r ≡ Err cause
+-- what is made where the information at the ports is taken; else the cause
+abbrev pub IsMadeWith : Result Information Cause → (Result Dataset Cause → Type 0) → Result Dataset Cause → Type 0
+IsMadeWith (Ok i) made r = made r
+IsMadeWith (Err cause) made r = r ≡ Err cause
 
 -- what a node with these parameters and this file makes of the datasets at its ports
 abbrev pub IsEvaluated : Settings → Option (List ℕ) → Inputs Dataset → Result Dataset Cause → Type 0
 IsEvaluated (settings.File array unit) file inputs r = IsReadingOf array (unit_with unit) file r
-IsEvaluated settings file inputs r = IsMadeWith (filter_information settings (all_information inputs)) settings inputs r
+IsEvaluated settings file inputs r = IsMadeWith (filter_information settings (all_information inputs)) (IsFiltered settings inputs) r
 
 -- the data rule of a node
 abbrev pub DataRule : NodeRule Dataset

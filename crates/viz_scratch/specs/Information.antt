@@ -1,5 +1,5 @@
 -- What is known of a node's dataset before its numbers are (VTK User's Guide, "The visualization pipeline": the information pass; docs/FORMATS.md, "What a node gives").
-use Rattle.std.specs.Prelude.{◌≡◌, ℕ, ◌-◌, ◌^◌, Bool, true, false, ◌&&◌, nat_le, nat_eq, int_le, pos, ◌*ℤ◌, if◌then◌else◌, min, max, List, [], ◌∷◌, slice_index_or, map, Option, None, Some, Result, Ok, Err}
+use Rattle.std.specs.Prelude.{◌≡◌, ℕ, ◌-◌, ◌^◌, Bool, true, false, ◌&&◌, nat_le, nat_eq, int_le, ℤ, pos, ◌*ℤ◌, if◌then◌else◌, min, max, List, [], ◌∷◌, slice_index_or, map, Option, None, Some, Result, Ok, Err}
 use Rattle.std.specs.Int.{w128, saturate_signed}
 use Rattle.std.specs.Option.{option_map}
 use Rattle.std.specs.Ordering.{int_eq}
@@ -13,7 +13,7 @@ use Rattle.viz_dataset.specs.declared.dataset.Dataset.{Dataset}
 use Rattle.viz_dataset.specs.declared.dataset.Dataset.TheVariants as dataset
 use Rattle.viz_legacy_read.specs.Reading.{IsImageFile, IsMeshFile, StopsInHeader, ReadsHeader}
 use Rattle.viz_legacy_read.specs.Header.{Header, Heading}
-use Rattle.viz_legacy_read.specs.Header.Heading as heading
+use Rattle.viz_legacy_read.specs.Header.Heading.{OfImage as ImageHead}
 use Rattle.viz_kinds.specs.declared.settings.Settings.{Settings}
 use Rattle.viz_kinds.specs.declared.settings.Settings.TheVariants as settings
 use Rattle.viz_network.specs.declared.node.Node.{Node}
@@ -153,7 +153,7 @@ filter_information _ inputs = Err (Unconnected 1)
 -- what the header of a loaded file gives, or its fault
 abbrev pub IsHeaderOf : Option (List ℕ) → Result Information Cause → Type 0
 IsHeaderOf None r = r ≡ Err NoFile
-IsHeaderOf (Some bytes) (Ok (OfImage g)) = (h : Header) × ReadsHeader bytes (heading.OfImage h) × (g ≡ grid_of h.whole h.origin h.spacing)
+IsHeaderOf (Some bytes) (Ok (OfImage g)) = (h : Header) × ReadsHeader bytes (ImageHead h) × (g ≡ grid_of h.whole h.origin h.spacing)
 IsHeaderOf (Some bytes) (Ok OfMesh) = IsMeshFile bytes
 IsHeaderOf (Some bytes) (Err cause) = (fault : FileFault) × StopsInHeader bytes fault × (cause ≡ BadFile fault)
 

@@ -1,4 +1,4 @@
-pub mod Written
+
 pub mod Scratch
 pub mod Data
 pub mod Information

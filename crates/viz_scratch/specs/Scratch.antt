@@ -2,6 +2,8 @@
 use Rattle.std.specs.Prelude.{◌≡◌, ℕ, Option, Result, Ok, Err}
 use Rattle.viz_dataset.specs.declared.dataset.Dataset.{Dataset}
 use Rattle.viz_network.specs.declared.fault.Fault.{Fault}
+use Rattle.viz_network.specs.declared.fault.Stop.{Stop}
+use Rattle.viz_network.specs.declared.fault.Stop.TheVariants as stop
 use Rattle.viz_network.specs.Network.{Network}
 use Rattle.viz_network.specs.Cone.{Tree, cone_of}
 use Rattle.viz_scratch.specs.Fold.{IsGiven}
@@ -11,13 +13,19 @@ use Rattle.viz_scratch.specs.Data.{DataRule}
 
 -- the first information fault; else what the data give
 abbrev pub IsBehind : Result Information Fault → Option Tree → Result Dataset Fault → Type 0
-IsBehind (Err fault) cone r = r ≡ Err fault
-IsBehind (Ok i) cone r = IsGiven DataRule cone r
+IsBehind (Err fault) t r = r ≡ Err fault
+IsBehind (Ok i) t r = IsGiven DataRule t r
 
 -- what the node at the foot of a cone gives: the first information fault, or the first data fault, or its dataset
 abbrev pub IsScratchOf : Option Tree → Result Dataset Fault → Type 0
-IsScratchOf cone r = (i : Result Information Fault) × IsGiven InformationRule cone i × IsBehind i cone r
+IsScratchOf t r = (i : Result Information Fault) × IsGiven InformationRule t i × IsBehind i t r
 
 -- what a node of a network gives, evaluated from scratch
 abbrev pub IsScratch : Network → ℕ → Result Dataset Fault → Type 0
 IsScratch net id r = IsScratchOf (cone_of net id) r
+
+-- an answer is the result, unless memory ran out
+abbrev pub Answers : {X : Type 0} → (Result X Fault → Type 0) → Result X Stop → Type 0
+Answers result (Ok x) = result (Ok x)
+Answers result (Err (stop.Fault fault)) = result (Err fault)
+Answers result (Err stop.Memory) = Unit {0}

@@ -37,7 +37,7 @@ pub enum Information {
     OfMesh,
 }
 
-fn lengths(vector: &[i128; 3]) -> Lengths
+fn of_vector(vector: &[i128; 3]) -> Lengths
     ensures { result ≡ lengths_of (vector_of vector.now) }
 {
     Lengths {
@@ -58,8 +58,8 @@ pub fn of_header(info: &Info) -> Information
             spacing,
         } => Information::OfImage(Grid {
             extent: *whole,
-            origin: lengths(origin),
-            spacing: lengths(spacing),
+            origin: of_vector(origin),
+            spacing: of_vector(spacing),
         }),
         Info::Mesh => Information::OfMesh,
     }
@@ -72,8 +72,8 @@ pub fn of_dataset(dataset: &Dataset) -> Information
     match dataset {
         Dataset::Image(image) => Information::OfImage(Grid {
             extent: image.extent(),
-            origin: lengths(&image.origin()),
-            spacing: lengths(&image.spacing()),
+            origin: of_vector(&image.origin()),
+            spacing: of_vector(&image.spacing()),
         }),
         Dataset::Mesh(_) => Information::OfMesh,
     }

@@ -7,19 +7,7 @@
 //! gives".
 #![tactic(auto)]
 
-mod datasets;
-mod filters;
 mod gathered;
 mod headers;
 mod information;
 mod readers;
-mod scratch;
-mod section;
-mod stop;
-mod written;
-
-pub use scratch::scratch;
-pub use written::file_text;
-
-#[cfg(test)]
-mod tests;

@@ -22,10 +22,10 @@ pub fn place_of(steps: &[Step], node: NodeId) -> Option<usize>
 }
 
 // A place is read at step k.
-fn raise_one(last: &mut [usize], place: &Option<usize>, k: usize)
+fn raise_one(last: &mut Vec<usize>, place: &Option<usize>, k: usize)
     requires before { AreBefore k (place.now ∷ []) }
-    requires within { k < length last.old }
-    ensures { IsRaised k (place.now ∷ []) last.old last.new }
+    requires within { k < length last.old.items }
+    ensures { IsRaised k (place.now ∷ []) last.old.items last.new.items }
 {
     if let Some(place) = place {
         last[*place] = last[*place].max(k);
@@ -33,10 +33,10 @@ fn raise_one(last: &mut [usize], place: &Option<usize>, k: usize)
 }
 
 // The places that feed step k are read there.
-fn raise(last: &mut [usize], places: &[Option<usize>], k: usize)
+fn raise(last: &mut Vec<usize>, places: &[Option<usize>], k: usize)
     requires before { AreBefore k places.now }
-    requires within { k < length last.old }
-    ensures { IsRaised k places.now last.old last.new }
+    requires within { k < length last.old.items }
+    ensures { IsRaised k places.now last.old.items last.new.items }
 {
     for place in places {
         raise_one(last, place, k);

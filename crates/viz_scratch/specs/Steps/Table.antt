@@ -1,5 +1,5 @@
 -- What nodes give, in a table by the places of their steps. Only private contracts and proofs speak of it.
-use Rattle.std.specs.Prelude.{◌≡◌, ℕ, ◌<◌, List, [], ◌∷◌, length, map, slice_get, slice_index_or, Option, None, Some, Result, Ok, Err}
+use Rattle.std.specs.Prelude.{◌≡◌, ℕ, ◌<◌, ◌≤◌, List, [], ◌∷◌, length, map, slice_get, slice_index_or, Option, None, Some, Result, Ok, Err}
 use Rattle.viz_base.specs.declared.node.NodeId.{NodeId}
 use Rattle.viz_network.specs.declared.fault.Fault.{Fault}
 use Rattle.viz_network.specs.declared.steps.Step.{Step}
@@ -59,11 +59,15 @@ HasInputs table [] = Unit {0}
 HasInputs table (None ∷ places) = HasInputs table places
 HasInputs {X} table (Some place ∷ places) = ((value : Result X Fault) × (slice_get table place ≡ Some (Some value))) × HasInputs table places
 
+-- all values of the table are sound
+abbrev pub AreSoundIn : {X : Type 0} → (X → Type 0) → Table X → Type 0
+AreSoundIn {X} P table = (j : ℕ) (x : X) → slice_get table j ≡ Some (Some (Ok x)) → P x
+
 -- the table of the first k steps: what it has is given by the rule and sound, and it has what is needed from step k on
 pub record IsTable {X : Type 0} (rule : NodeRule X) (P : X → Type 0) (needs : ℕ → ℕ → Type 0) (net : Network) (steps : List Step) (k : ℕ) (table : Table X) : Type 0 where
   pub count : length table ≡ k
   pub given : (j : ℕ) (id : NodeId) (value : Result X Fault) → slice_get table j ≡ Some (Some value) → slice_get (nodes_of steps) j ≡ Some id → IsGiven rule (cone_of net id.0) value
-  pub sound : (j : ℕ) (x : X) → slice_get table j ≡ Some (Some (Ok x)) → P x
+  pub sound : AreSoundIn P table
   pub kept : (j : ℕ) → j < k → needs j k → (value : Result X Fault) × (slice_get table j ≡ Some (Some value))
 
 -- nothing is said of what is known
@@ -73,3 +77,13 @@ anything x = Unit {0}
 -- what each step gives is needed at all later ones
 abbrev pub always : ℕ → ℕ → Type 0
 always j k = Unit {0}
+
+-- what a step gives is read at step k or later
+abbrev pub is_read : List ℕ → ℕ → ℕ → Type 0
+is_read last j k = (0 < slice_index_or last j 0) × (k ≤ slice_index_or last j 0)
+
+-- some of what isn't read behind step k is given up, and all else stays
+pub record IsReleased {X : Type 0} (last : List ℕ) (k : ℕ) (old new : Table X) : Type 0 where
+  pub count : length new ≡ length old
+  pub kept : (j : ℕ) → k < slice_index_or last j 0 → slice_get new j ≡ slice_get old j
+  pub same : (j : ℕ) (value : Result X Fault) → slice_get new j ≡ Some (Some value) → slice_get old j ≡ Some (Some value)
