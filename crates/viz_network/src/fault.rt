@@ -1,5 +1,9 @@
 //! Why a node gives nothing.
 
+ghost use Rattle.std.specs.Prelude.{◌≡◌};
+ghost use Rattle.viz_network.specs.declared.fault.Stop.TheVariants.{Memory};
+
+use std::alloc::AllocError;
 use thiserror::Error;
 use viz_base::NodeId;
 use viz_lex::FileFault;
@@ -42,4 +46,12 @@ pub enum Stop {
     /// Memory ran out.
     #[error("out of memory")]
     Memory,
+}
+
+impl From<AllocError> for Stop {
+    ghost from_gives = { λ _ stop. stop ≡ Memory };
+
+    fn from(_error: AllocError) -> Stop {
+        Stop::Memory
+    }
 }

@@ -59,13 +59,13 @@ module _ (definite : IsDefinite header) where
   informed_one (settings.Threshold lo hi) file inputs a b p q = p ∙ sym q
   informed_one (settings.Smooth radius) file inputs a b p q = p ∙ sym q
   informed_one (settings.Arith op) file inputs a b p q = p ∙ sym q
-  informed_one settings.Tets file inputs a b p q = p ∙ sym q
-  informed_one (settings.Select lo hi all) file inputs a b p q = p ∙ sym q
+  informed_one settings.Tets file inputs a b p q = absurd p
+  informed_one (settings.Select lo hi all) file inputs a b p q = absurd p
   informed_one (settings.Contour count levels) file inputs a b p q = p ∙ sym q
-  informed_one (settings.Cut x y z r) file inputs a b p q = p ∙ sym q
-  informed_one settings.Append file inputs a b p q = p ∙ sym q
-  informed_one settings.Boundary file inputs a b p q = p ∙ sym q
-  informed_one settings.Merge file inputs a b p q = p ∙ sym q
+  informed_one (settings.Cut x y z r) file inputs a b p q = absurd p
+  informed_one settings.Append file inputs a b p q = absurd p
+  informed_one settings.Boundary file inputs a b p q = absurd p
+  informed_one settings.Merge file inputs a b p q = absurd p
   informed_one (settings.Writer binary digits) file inputs a b p q = p ∙ sym q
 
   pub information_one : IsOne InformationRule

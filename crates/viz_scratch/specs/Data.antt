@@ -107,6 +107,12 @@ IsMadeWith (Err cause) made r = r ≡ Err cause
 -- what a node with these parameters and this file makes of the datasets at its ports
 abbrev pub IsEvaluated : Settings → Option (List ℕ) → Inputs Dataset → Result Dataset Cause → Type 0
 IsEvaluated (settings.File array unit) file inputs r = IsReadingOf array (unit_with unit) file r
+IsEvaluated settings.Tets file inputs r = ⊥
+IsEvaluated (settings.Select lo hi all) file inputs r = ⊥
+IsEvaluated (settings.Cut x y z w) file inputs r = ⊥
+IsEvaluated settings.Append file inputs r = ⊥
+IsEvaluated settings.Boundary file inputs r = ⊥
+IsEvaluated settings.Merge file inputs r = ⊥
 IsEvaluated settings file inputs r = IsMadeWith (filter_information settings (all_information inputs)) (IsFiltered settings inputs) r
 
 -- the data rule of a node

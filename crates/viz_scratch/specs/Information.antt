@@ -139,7 +139,7 @@ shared_grid g h = if same_grid g h then Ok g else Err GridsDiffer
 abbrev pub as_image : Result Grid Cause → Result Information Cause
 as_image grid = and_then grid (λ g. Ok (OfImage g))
 
--- what a filter makes of the information at its ports, or its first fault: the lowest port that is empty or fed with what it doesn't take, then what is left of the image; of kinds that aren't evaluated yet there is none
+-- what a filter makes of the information at its ports, or its first fault: the lowest port that is empty or fed with what it doesn't take, then what is left of the image
 abbrev pub filter_information : Settings → Inputs Information → Result Information Cause
 filter_information (settings.Crop x0 x1 y0 y1 z0 z1) inputs = as_image (and_then (grid_at 1 inputs) (cropped (box_with x0 x1 y0 y1 z0 z1)))
 filter_information (settings.Sample x y z) inputs = as_image (and_then (grid_at 1 inputs) (thinned (rate_with x y z)))
@@ -157,9 +157,15 @@ IsHeaderOf (Some bytes) (Ok (OfImage g)) = (h : Header) × ReadsHeader bytes (Im
 IsHeaderOf (Some bytes) (Ok OfMesh) = IsMeshFile bytes
 IsHeaderOf (Some bytes) (Err cause) = (fault : FileFault) × StopsInHeader bytes fault × (cause ≡ BadFile fault)
 
--- what a node with these parameters and this file makes of the information at its ports
+-- what a node with these parameters and this file makes of the information at its ports; kinds that aren't evaluated yet have no answer
 abbrev pub IsInformed : Settings → Option (List ℕ) → Inputs Information → Result Information Cause → Type 0
 IsInformed (settings.File array unit) file inputs r = IsHeaderOf file r
+IsInformed settings.Tets file inputs r = ⊥
+IsInformed (settings.Select lo hi all) file inputs r = ⊥
+IsInformed (settings.Cut x y z w) file inputs r = ⊥
+IsInformed settings.Append file inputs r = ⊥
+IsInformed settings.Boundary file inputs r = ⊥
+IsInformed settings.Merge file inputs r = ⊥
 IsInformed settings file inputs r = r ≡ filter_information settings inputs
 
 -- the information rule of a node

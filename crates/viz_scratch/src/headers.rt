@@ -2,12 +2,14 @@
 
 ghost use Rattle.std.specs.Prelude.{◌≡◌, IfOk, length, map};
 ghost use Rattle.viz_network.specs.Step.{AreSteps};
-ghost use Rattle.viz_scratch.specs.Fold.{IsMade, at_node};
+ghost use Rattle.viz_scratch.specs.Fold.{IsMade};
 ghost use Rattle.viz_scratch.specs.Information.{IsHeaderOf, InformationRule};
+ghost use Rattle.viz_scratch.specs.Steps.Made.{Makes};
 ghost use Rattle.viz_scratch.specs.Steps.Table.{value_at, told, anything, always, IsTable};
 
 use crate::gathered::fault_in;
 use crate::information::{Information, filtered, of_header};
+use crate::stop::OwnStop;
 use std::alloc::{AllocError, Global};
 use viz_kinds::Settings;
 use viz_legacy_read::header;
@@ -59,35 +61,40 @@ fn of_file(node: &Node) -> Result<Information, Cause>
 fn own_information(
     node: &Node,
     inputs: &[Option<Information>; 8],
-) -> Result<Information, Cause>
-    ensures { InformationRule node.now inputs.now result }
+) -> Result<Information, OwnStop>
+    ensures { Makes (InformationRule node.now inputs.now) result }
 {
     match &node.settings {
-        Settings::File { .. } => of_file(node),
-        settings => filtered(settings, inputs),
+        Settings::File { .. } => Ok(of_file(node)?),
+        Settings::Tets
+        | Settings::Select { .. }
+        | Settings::Cut { .. }
+        | Settings::Append
+        | Settings::Boundary
+        | Settings::Merge => Err(OwnStop::Memory),
+        settings => Ok(filtered(settings, inputs)?),
     }
 }
 
-fn at_node(node: &Node, own: Result<Information, Cause>) -> Result<Information, Fault>
-    ensures { result ≡ at_node node.now own }
-{
-    match own {
-        Ok(information) => Ok(information),
-        Err(cause) => Err(Fault {
-            node: node.id,
-            cause,
-        }),
-    }
-}
-
-fn known_of(table: &[Known], node: &Node, places: &[Option<usize>; 8]) -> Result<Information, Fault>
-    ensures { IsMade InformationRule node.now (told table.now places.now) result }
+fn known_of(
+    table: &[Known],
+    node: &Node,
+    places: &[Option<usize>; 8],
+) -> Result<Result<Information, Fault>, AllocError>
+    ensures { IfOk result (IsMade InformationRule node.now (told table.now places.now)) }
 {
     if let Some(fault) = fault_in(table, places) {
-        return Err(fault);
+        return Ok(Err(fault));
     }
     let inputs = inputs_of(table, places);
-    at_node(node, own_information(node, &inputs))
+    match own_information(node, &inputs) {
+        Ok(information) => Ok(Ok(information)),
+        Err(OwnStop::Cause(cause)) => Ok(Err(Fault {
+            node: node.id,
+            cause,
+        })),
+        Err(OwnStop::Memory) => Err(AllocError),
+    }
 }
 
 /// What is known of each step, or its first fault.
@@ -99,7 +106,7 @@ pub fn information_pass(alloc: Global, net: &Net, steps: &[Step]) -> Result<Vec<
     let mut table = Vec::with_capacity(alloc, steps.len())?;
     for step in steps {
         let node = net.node(step.node).unwrap();
-        let known = known_of(&table, node, &step.inputs);
+        let known = known_of(&table, node, &step.inputs)?;
         table.push(Some(known))?;
     }
     Ok(table)

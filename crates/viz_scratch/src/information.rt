@@ -1,12 +1,12 @@
 //! What is known of a node's dataset before its numbers are.
 
 ghost use Rattle.std.specs.Prelude.{◌≡◌};
-ghost use Rattle.viz_dataset.specs.Images.{vector_of};
+ghost use Rattle.viz_dataset.specs.Images.{vector_of, IsImage};
 ghost use Rattle.viz_extent.specs.Extent.{bounds_of};
 ghost use Rattle.viz_extent.specs.Parts.{rate_of, IsRate};
-ghost use Rattle.viz_scratch.specs.Information.{information_of, information_in, lengths_of, grid_in, either_in, filter_information, within, rate_with, is_short, cropped, thinned, longer, longer_step, shared_grid, same_lengths, same_extent};
+ghost use Rattle.viz_scratch.specs.Information.{information_of, information_in, grid_of, lengths_of, grid_in, either_in, filter_information, within, rate_with, is_short, cropped, thinned, longer, longer_step, shared_grid, same_lengths, same_extent};
 
-use viz_dataset::{Dataset, Info};
+use viz_dataset::{Dataset, Image, Info};
 use viz_extent::Extent;
 use viz_kinds::Settings;
 use viz_network::Cause;
@@ -65,16 +65,24 @@ pub fn of_header(info: &Info) -> Information
     }
 }
 
+/// The points of an image.
+pub fn grid_of_image(image: &Image) -> Grid
+    ensures value { result ≡ grid_of image.now.extent image.now.origin image.now.spacing }
+    ensures valid { IsImage image.now }
+{
+    Grid {
+        extent: image.extent(),
+        origin: of_vector(&image.origin()),
+        spacing: of_vector(&image.spacing()),
+    }
+}
+
 /// What is known of a dataset that is there.
 pub fn of_dataset(dataset: &Dataset) -> Information
     ensures { result ≡ information_of dataset.now }
 {
     match dataset {
-        Dataset::Image(image) => Information::OfImage(Grid {
-            extent: image.extent(),
-            origin: of_vector(&image.origin()),
-            spacing: of_vector(&image.spacing()),
-        }),
+        Dataset::Image(image) => Information::OfImage(grid_of_image(image)),
         Dataset::Mesh(_) => Information::OfMesh,
     }
 }
@@ -113,7 +121,8 @@ pub fn rate_with(x: u32, y: u32, z: u32) -> [u32; 3]
     [within(1, 1024, x), within(1, 1024, y), within(1, 1024, z)]
 }
 
-fn cropped(bounds: [u32; 6], grid: &Grid) -> Result<Grid, Cause>
+/// The points of a crop, unless none is left.
+pub fn cropped(bounds: [u32; 6], grid: &Grid) -> Result<Grid, Cause>
     ensures { result ≡ cropped (bounds_of bounds) grid.now }
 {
     match grid.extent.clip(bounds) {
@@ -159,7 +168,8 @@ fn same_lengths(v: &Lengths, w: &Lengths) -> bool
     v.x == w.x && v.y == w.y && v.z == w.z
 }
 
-fn shared_grid(g: &Grid, h: &Grid) -> Result<Grid, Cause>
+/// The points that two images share, unless they differ.
+pub fn shared_grid(g: &Grid, h: &Grid) -> Result<Grid, Cause>
     ensures { result ≡ shared_grid g.now h.now }
 {
     if same_extent(&g.extent, &h.extent)
@@ -172,7 +182,8 @@ fn shared_grid(g: &Grid, h: &Grid) -> Result<Grid, Cause>
     }
 }
 
-fn thinned(rate: [u32; 3], grid: &Grid) -> Result<Grid, Cause>
+/// The points of a sample, unless none is left or a step is too wide.
+pub fn thinned(rate: [u32; 3], grid: &Grid) -> Result<Grid, Cause>
     requires { IsRate (rate_of rate) }
     ensures { result ≡ thinned (rate_of rate) grid.now }
 {

@@ -7,7 +7,16 @@
 //! gives".
 #![tactic(auto)]
 
+mod datasets;
+mod evaluation;
+mod filters;
 mod gathered;
 mod headers;
 mod information;
 mod readers;
+mod section;
+mod stop;
+mod written;
+
+pub use evaluation::scratch;
+pub use written::{file_text, style_with, text_with};

@@ -1,0 +1,93 @@
+//! The written file of a node.
+
+ghost use Rattle.std.specs.Prelude.{◌≡◌, IsSome};
+ghost use Rattle.viz_network.specs.Network.{node_of};
+ghost use Rattle.viz_scratch.specs.Information.{within};
+ghost use Rattle.viz_scratch.specs.Scratch.{Answers};
+ghost use Rattle.viz_scratch.specs.Written.{IsFileOf, IsTextOf, style_with, style_seen, of_write};
+
+use crate::evaluation::scratch;
+use std::alloc::Global;
+use viz_base::{Bytes, NodeId};
+use viz_dataset::Dataset;
+use viz_kinds::Settings;
+use viz_legacy_write::{Style, WriteStop, write_image};
+use viz_mesh_write::write_mesh;
+use viz_network::{Cause, Fault, Net, Stop};
+
+fn digits_with(digits: u8) -> u8
+    ensures { result ≡ within 0 9 digits }
+{
+    if digits < 9 { digits } else { 9 }
+}
+
+/// The style of a node's file: that of its parameters where it is a writer, else words at three
+/// places.
+pub fn style_with(settings: &Settings) -> Style
+    ensures { style_seen result ≡ style_with settings.now }
+{
+    match settings {
+        Settings::Writer { binary, digits } => Style {
+            binary: *binary,
+            digits: digits_with(*digits),
+        },
+        _ => Style {
+            binary: false,
+            digits: 3,
+        },
+    }
+}
+
+fn stopped(node: NodeId, stop: WriteStop) -> Stop
+    ensures { result ≡ of_write node stop }
+{
+    match stop {
+        WriteStop::TooMany => Stop::Fault(Fault {
+            node,
+            cause: Cause::TooMany,
+        }),
+        WriteStop::TooWide => Stop::Fault(Fault {
+            node,
+            cause: Cause::TooWide,
+        }),
+        WriteStop::Memory => Stop::Memory,
+    }
+}
+
+/// The text of a dataset that the node gives, in the style.
+///
+/// # Errors
+///
+/// `Fault` of the node with `TooMany` exactly where the text has too many points or cells, and with
+/// `TooWide` exactly where it hasn't and a written number doesn't fit.
+pub fn text_with(
+    alloc: Global,
+    node: NodeId,
+    style: &Style,
+    dataset: &Dataset,
+) -> Result<Bytes, Stop>
+    ensures value { Answers (IsTextOf (style_seen style.now) node.0 dataset.now) result }
+{
+    let text = match dataset {
+        Dataset::Image(image) => write_image(alloc, image, style),
+        Dataset::Mesh(mesh) => write_mesh(alloc, mesh, style),
+    };
+    match text {
+        Ok(text) => Ok(text),
+        Err(stop) => Err(stopped(node, stop)),
+    }
+}
+
+/// The text of what a node gives, evaluated from scratch, in the style of the node.
+///
+/// # Errors
+///
+/// The fault of `scratch`, or that of the writing; want of memory may come in place of each.
+pub fn file_text(alloc: Global, net: &Net, node: NodeId) -> Result<Bytes, Stop>
+    requires there { IsSome (node_of net.now node.0) }
+    ensures value { Answers (IsFileOf net.now node.0) result }
+{
+    let dataset = scratch(alloc, net, node)?;
+    let style = style_with(&net.node(node).unwrap().settings);
+    text_with(alloc, node, &style, dataset.get())
+}
