@@ -1,11 +1,12 @@
--- Lists of seats of which one or two changed.
+-- AreLists of seats of which one or two changed.
 use Rattle.std.proofs.Common.{◌≡◌, ◌≢◌, ◌⊎◌, ℕ, zero, suc, ◌<◌, Bool, true, false, ◌||◌, List, [], ◌∷◌, ◌++◌, length, set, sym, refl, ap, ◌∙◌, subst, ⊎_elim, inl, inr, arith, ◌==◌, not, Option, Some, None}
 use mathlib.Core.Option.{some, some-injective, some-ne-none}
 use lib.ListN.{get_elem?}
 use Rattle.std.proofs.lemmas.Bool.{or_cases, or_left, or_right, eqb-true, eq-eqb, and_parts, and_from, not-true, not_from_false, or_from, false_from_ne_true}
 use Rattle.atomic_table.proofs.Lists.{at_set}
-use Rattle.viz_turn.specs.declared.view.Who.{Who}
-use Rattle.viz_turn.specs.Rule.{has, once, own, all_of, spares}
+use Rattle.viz_turn.specs.Tales.{has, once}
+use Rattle.viz_turn.specs.Steps.Numbers.{spares, own_numbers, all_numbers}
+use Rattle.viz_turn.specs.declared.view.Numbers.{Numbers}
 
 module _ {A : Type 0} where
   pub at_end : (l : List A) (a b : A) (j : ℕ) → get_elem? (l ++ a ∷ []) j ≡ some b → (get_elem? l j ≡ some b) ⊎ ((j ≡ length l) × (a ≡ b))
@@ -69,8 +70,8 @@ once_append (x ∷ a) b h k apart = let p = and_parts (not (has x a)) (once a) h
     (once_append a b p.1 k (λ y in_a in_b. apart y (has_tail y x a in_a) in_b))
 
 -- the numbers of a pass differ, with or without its spare one
-pub own_once : (w : Who) → once (all_of w) ≡ true → once (own w) ≡ true
-own_once w h = go w.spare (own w) h
+pub own_distinct : (w : Numbers) → once (all_numbers w) ≡ true → once (own_numbers w) ≡ true
+own_distinct w h = go w.spare (own_numbers w) h
   where
     go : (s : Option ℕ) (l : List ℕ) → once (spares s ++ l) ≡ true → once l ≡ true
     go None l h = h
