@@ -1,9 +1,7 @@
 -- What follows for entries from what passes know.
-use Rattle.std.proofs.Common.{◌≡◌, ℕ, suc, Bool, true, false, not, cond, List, [], ◌∷◌, ◌++◌, sym, refl, ap, ◌∙◌, subst, ⊎_elim, true≢false, append_assoc}
-use mathlib.Core.Option.{some}
-use lib.ListN.{get_elem?}
+use Rattle.std.proofs.Common.{◌≡◌, ℕ, suc, true, false, not, List, [], ◌∷◌, ◌++◌, sym, refl, ap, ◌∙◌, subst, ⊎_elim, true≢false, append_assoc}
 use Rattle.std.proofs.lemmas.Bool.{and_parts, not-true, false_from_ne_true}
-use Rattle.viz_turn.specs.Tales.{has, once, clear, entries_of, GoesOn, HasNoOther}
+use Rattle.viz_turn.specs.Tales.{has, once, entries_of, GoesOn, HasNoOther}
 use Rattle.viz_turn.proofs.ListLemmas.{has_head, has_tail, has_cons}
 use Rattle.viz_turn.proofs.TaleLemmas.{clear_append, clear_one, entries_stay, entries_grow, further_still, all_of_it}
 

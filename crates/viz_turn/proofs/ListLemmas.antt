@@ -3,7 +3,7 @@ use Rattle.std.proofs.Common.{◌≡◌, ◌≢◌, ◌⊎◌, ℕ, zero, suc, �
 use mathlib.Core.Option.{some, some-injective, some-ne-none}
 use lib.ListN.{get_elem?}
 use Rattle.std.proofs.lemmas.Bool.{or_cases, or_left, or_right, eqb-true, eq-eqb, and_parts, and_from, not-true, not_from_false, or_from, false_from_ne_true}
-use Rattle.atomic_table.proofs.Lists.{at_set}
+use Rattle.atomic_table.proofs.Lists.{at_set, set_here, set_else}
 use Rattle.viz_turn.specs.Tales.{has, once}
 use Rattle.viz_turn.specs.Steps.Numbers.{spares, own_numbers, all_numbers}
 use Rattle.viz_turn.specs.declared.view.Numbers.{Numbers}
@@ -22,6 +22,13 @@ module _ {A : Type 0} where
 
   pub same_at : (l : List A) (i : ℕ) (a b : A) → get_elem? l i ≡ some a → get_elem? l i ≡ some b → a ≡ b
   same_at l i a b e f = some-injective a b (sym e ∙ f)
+
+  -- a seat that changed, and one beside it
+  pub at_here : (l : List A) (i : ℕ) (a b : A) → get_elem? l i ≡ some b → get_elem? (set l i a) i ≡ some a
+  at_here l i a b e = set_here l i a (at_within l i b e)
+
+  pub at_else : (l : List A) (i j : ℕ) (a b : A) → j ≢ i → get_elem? l j ≡ some b → get_elem? (set l i a) j ≡ some b
+  at_else l i j a b other e = set_else l i j a other ∙ e
 
   -- what holds of each seat, after one changed
   pub each_set : (l : List A) (id : ℕ) (w : A) (F : ℕ → A → Type 0) → F id w → ((j : ℕ) (u : A) → j ≢ id → get_elem? l j ≡ some u → F j u) → (j : ℕ) (u : A) → get_elem? (set l id w) j ≡ some u → F j u

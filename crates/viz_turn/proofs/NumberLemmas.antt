@@ -1,16 +1,16 @@
 -- Group 1: each step keeps the numbers.
-use Rattle.std.proofs.Common.{◌≡◌, ◌≢◌, ◌⊎◌, ℕ, zero, suc, ◌+◌, ◌<◌, ◌^◌, true, false, Some, None, List, [], ◌∷◌, ◌++◌, length, set, sym, refl, ap, ◌∙◌, subst, ⊎_elim, inl, inr, arith, true≢false, not}
+use Rattle.std.proofs.Common.{◌≡◌, ◌≢◌, ◌⊎◌, ℕ, zero, suc, ◌+◌, ◌<◌, ◌^◌, true, Some, None, List, [], ◌∷◌, ◌++◌, length, set, sym, refl, ap, ◌∙◌, subst, ⊎_elim, inl, inr, arith, true≢false, not}
 use mathlib.Core.Option.{some, some-injective, some-ne-none}
 use mathlib.Core.Logic.{dite}
 use native.Mathlib.Decide.{ℕ_discrete}
 use lib.ListN.{get_elem?}
 use Rattle.std.proofs.lemmas.Bool.{false_from_ne_true, both_ways, and_parts}
-use Rattle.atomic_table.proofs.Lists.{at_set, at_longer, set_here, set_else}
+use Rattle.atomic_table.proofs.Lists.{at_set, at_longer}
 use Rattle.viz_turn.specs.Tales.{has, once, IsWholeBy}
 use Rattle.viz_turn.specs.Steps.Numbers.{spares, own_numbers, all_numbers, needs_of, needs, Live, IsSpare, IsBorn, AreNumbers}
 use Rattle.viz_turn.specs.Steps.Kinds.{of_pass, of_none, or_zero}
 use Rattle.viz_turn.specs.declared.view.Numbers.{Numbers}
-use Rattle.viz_turn.proofs.ListLemmas.{at_end, at_within, same_at, has_either, has_left, has_right, has_head, has_tail, has_cons, once_cons, once_append}
+use Rattle.viz_turn.proofs.ListLemmas.{at_here, at_else, at_end, same_at, has_either, has_left, has_right, has_head, has_tail, has_cons, once_cons, once_append}
 
 abbrev Apart : List Numbers → Type 0
 Apart ws = (i j : ℕ) (v w : Numbers) → Live ws i v → Live ws j w → (x : ℕ) → has x (all_numbers v) ≡ true → has x (all_numbers w) ≡ true → i ≡ j
@@ -52,12 +52,12 @@ born_set ws id v w at live more_born more_own m b = let u : Numbers = b.parent i
       seat = id;
       parent = w;
       lesser = b.lesser;
-      live = (set_here ws id w (at_within ws id v at.0), live);
+      live = (at_here ws id w v at.0, live);
       born = more_born m (subst (λ (z : Numbers). has m z.born ≡ true) is b.born);
       own = more_own b.lesser (subst (λ (z : Numbers). has b.lesser (own_numbers z) ≡ true) is b.own);
       less = b.less;
     })
-    (λ not. record { seat = b.seat; parent = u; lesser = b.lesser; live = (set_else ws id b.seat w not ∙ b.live.0, b.live.1); born = b.born; own = b.own; less = b.less })
+    (λ not. record { seat = b.seat; parent = u; lesser = b.lesser; live = (at_else ws id b.seat w u not b.live.0, b.live.1); born = b.born; own = b.own; less = b.less })
 
 born_snoc : (ws : List Numbers) (w : Numbers) (m : ℕ) → IsBorn ws m → IsBorn (ws ++ w ∷ []) m
 born_snoc ws w m b = record { seat = b.seat; parent = b.parent; lesser = b.lesser; live = (at_longer ws (w ∷ []) b.seat b.parent b.live.0, b.live.1); born = b.born; own = b.own; less = b.less }
@@ -106,7 +106,7 @@ splits made ws id n s e b r at =
     let O1 : ℕ → Numbers → Type 0 = λ j u. (j ≢ id) × Live ws j u in
     let c1 = cases_set ws id w in
     let c2 = cases_snoc l1 y in
-    let here : Live l1 id w = (set_here ws id w (at_within ws id v at), refl) in
+    let here : Live l1 id w = (at_here ws id w v at, refl) in
     let apart1 = apart_by l1 id w O1 c1 (λ j k u u' x o o' h h'. r.apart j k u u' o.1 o'.1 x h h') (λ j u x o h h'. o.0 (r.apart j id u v o.1 mine x h' (has_tail x s (n ∷ e) h))) in
     let grown = λ (m : ℕ) (c : IsBorn ws m). born_snoc l1 y m (born_set ws id v w mine refl (λ x h. has_tail x s b h) (λ x h. h) m c) in
     record {
@@ -148,19 +148,22 @@ joins made ws id other n n' e e' b b' r at not at' =
     let l : List Numbers = set l1 other of_none in
     let mine : Live ws id v = (at, refl) in
     let its : Live ws other v' = (at', refl) in
-    let at1 : get_elem? l1 other ≡ some v' = set_else ws id other w not ∙ at' in
+    let at1 : get_elem? l1 other ≡ some v' = at_else ws id other w v' not at' in
     let O : ℕ → Numbers → Type 0 = λ j u. (j ≢ id) × (j ≢ other) × Live ws j u in
     let cases : (j : ℕ) (u : Numbers) → Live l j u → ((j ≡ id) × (w ≡ u)) ⊎ O j u = λ j u a. ⊎_elim
     (λ (x : (j ≡ other) × (of_none ≡ u)). absurd (true≢false (sym a.1 ∙ ap (λ (z : Numbers). z.live) (sym x.1))))
     (λ (x : (j ≢ other) × (get_elem? l1 j ≡ some u)). ⊎_elim inl (λ (y : (j ≢ id) × (get_elem? ws j ≡ some u)). inr (y.0, x.0, (y.1, a.1))) (at_set ws id j w u x.1))
     (at_set l1 other j of_none u a.0) in
-    let here : Live l id w = (set_else l1 other id of_none (λ same. not (sym same)) ∙ set_here ws id w (at_within ws id v at), refl) in
+    let here : Live l id w = (at_else l1 other id of_none w (λ same. not (sym same)) (at_here ws id w v at), refl) in
     let part : (x : ℕ) → has x (own_numbers w) ≡ true → (has x (own_numbers v) ≡ true) ⊎ (has x (own_numbers v') ≡ true) = λ x h. has_either x (n ∷ e) (n' ∷ e') h in
     let born : (x : ℕ) → has x (b ++ b') ≡ true → (has x b ≡ true) ⊎ (has x b' ≡ true) = λ x h. has_either x b b' h in
     let grown : (m : ℕ) → IsBorn ws m → IsBorn l m = λ m c. dite (ℕ_discrete c.seat id)
     (λ same. let is : c.parent ≡ v = same_at ws id c.parent v (subst (λ (z : ℕ). get_elem? ws z ≡ some c.parent) same c.live.0) at in
     record {
-      seat = id; parent = w; lesser = c.lesser; live = here;
+      seat = id;
+      parent = w;
+      lesser = c.lesser;
+      live = here;
       born = has_left m b b' (subst (λ (z : Numbers). has m z.born ≡ true) is c.born);
       own = has_left c.lesser (n ∷ e) (n' ∷ e') (subst (λ (z : Numbers). has c.lesser (own_numbers z) ≡ true) is c.own);
       less = c.less;
@@ -168,15 +171,22 @@ joins made ws id other n n' e e' b b' r at not at' =
     (λ apart. dite (ℕ_discrete c.seat other)
     (λ same. let is : c.parent ≡ v' = same_at ws other c.parent v' (subst (λ (z : ℕ). get_elem? ws z ≡ some c.parent) same c.live.0) at' in
     record {
-      seat = id; parent = w; lesser = c.lesser; live = here;
+      seat = id;
+      parent = w;
+      lesser = c.lesser;
+      live = here;
       born = has_right m b b' (subst (λ (z : Numbers). has m z.born ≡ true) is c.born);
       own = has_right c.lesser (n ∷ e) (n' ∷ e') (subst (λ (z : Numbers). has c.lesser (own_numbers z) ≡ true) is c.own);
       less = c.less;
     })
     (λ apart'. record {
-      seat = c.seat; parent = c.parent; lesser = c.lesser;
-      live = (set_else l1 other c.seat of_none apart' ∙ set_else ws id c.seat w apart ∙ c.live.0, c.live.1);
-      born = c.born; own = c.own; less = c.less;
+      seat = c.seat;
+      parent = c.parent;
+      lesser = c.lesser;
+      live = (at_else l1 other c.seat of_none c.parent apart' (at_else ws id c.seat w c.parent apart c.live.0), c.live.1);
+      born = c.born;
+      own = c.own;
+      less = c.less;
     })) in
     record {
       below = each_by l id w O cases (λ _ u. (x : ℕ) → has x (all_numbers u) ≡ true → x < made)

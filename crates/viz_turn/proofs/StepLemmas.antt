@@ -1,64 +1,49 @@
--- Each step keeps the rule.
-use Rattle.std.proofs.Common.{◌≡◌, ◌≢◌, ℕ, ◌+◌, ◌%◌, ◌<◌, ◌≤◌, ◌^◌, eqb, eq-eqb, ne_eqb, true, false, not, Option, Some, None, List, [], ◌∷◌, ◌++◌, map, length, get_or, set, sym, refl, ap, ◌∙◌, subst, ⊎_elim, inl, inr, arith, true≢false, length-append, mod-eq_of_lt, MatchBool}
-use mathlib.Core.Option.{some, some-injective, some-ne-none}
-use mathlib.Core.Option as maybe
+-- What the proofs of steps share.
+use Rattle.std.proofs.Common.{◌≡◌, ℕ, ◌+◌, ◌%◌, true, false, Option, List, [], ◌∷◌, map, get_or, set, sym, refl, ap, ◌∙◌, subst, arith, true≢false}
+use mathlib.Core.Option.{some}
 use mathlib.Core.Logic.{dite}
-use mathlib.Core.List.{map-append}
 use native.Mathlib.Decide.{ℕ_discrete}
 use lib.ListN.{get_elem?}
 use lib.Seq.{map-set}
-use prog.Atomic.{either}
-use Rattle.std.proofs.lemmas.Bool.{both_ways, false_from_ne_true}
-use Rattle.atomic_table.specs.Table.{State, Me, step, keeps, takes, gives, stepped, Allows, Splits, Joins, opening}
-use Rattle.atomic_table.proofs.Lists.{at_set, at_map, set_here, set_else, set_again}
-use Rattle.viz_turn.specs.Tales.{has, clear, GoesOn}
-use Rattle.viz_turn.specs.Steps.Numbers.{spares, own_numbers, needs, Live, AreNumbers}
-use Rattle.viz_turn.specs.Steps.Turns.{idle, at_ticket, in_turn, resting, waits, waiting, NoneOut, AreTurns}
+use Rattle.atomic_table.specs.Table.{State, keeps, stepped}
+use Rattle.atomic_table.proofs.Lists.{at_map, set_else, set_again}
+use Rattle.viz_turn.specs.Tales.{GoesOn}
+use Rattle.viz_turn.specs.Steps.Numbers.{own_numbers}
+use Rattle.viz_turn.specs.Steps.Turns.{waits, NoneOut}
 use Rattle.viz_turn.specs.Steps.Lists.{IsView}
-use Rattle.viz_turn.specs.Steps.Rule.{numbers_of, standing_of, IsHome, IsRuled}
-use Rattle.viz_turn.specs.Steps.Kinds.{view, of_pass, of_none, first_view, spent_view, elder_view, younger_view, one_of, joined, drew, appended, passed, rested, IsNew, numbered, learned, looked, Learns}
+use Rattle.viz_turn.specs.Steps.Rule.{numbers_of, standing_of, IsRuled}
+use Rattle.viz_turn.specs.Steps.Kinds.{view}
 use Rattle.viz_turn.specs.declared.view.Numbers.{Numbers}
 use Rattle.viz_turn.specs.declared.view.Standing.{Standing}
 use Rattle.viz_turn.specs.declared.view.View.{View}
-use Rattle.viz_turn.proofs.ListLemmas.{own_distinct, at_within, same_at, each_set, has_head, has_right, has_tail, has_cons}
-use Rattle.viz_turn.proofs.NumberLemmas as numbering
-use Rattle.viz_turn.proofs.TurnLemmas as queueing
-use Rattle.viz_turn.proofs.TaleLemmas as telling
+use Rattle.viz_turn.proofs.ListLemmas.{same_at}
 
 -- the words of the rule
-abbrev words4 : ℕ → ℕ → ℕ → ℕ → List ℕ
+abbrev pub words4 : ℕ → ℕ → ℕ → ℕ → List ℕ
 words4 n served waits made = n ∷ (served + waits) % 18446744073709551616 ∷ served % 18446744073709551616 ∷ made ∷ []
 
-up_mod : (t : ℕ) → (t % 18446744073709551616 + 1) % 18446744073709551616 ≡ (t + 1) % 18446744073709551616
+-- as many wait as before
+pub words_with : (ws : List ℕ) (n served made a b : ℕ) → ws ≡ words4 n served a made → a ≡ b → ws ≡ words4 n served b made
+words_with ws n served made a b is same = is ∙ ap (λ z. words4 n served z made) same
+
+pub up_mod : (t : ℕ) → (t % 18446744073709551616 + 1) % 18446744073709551616 ≡ (t + 1) % 18446744073709551616
 up_mod t = omega arith
 
-same_who : {E : Type 0} (vs : List (View E)) (id : ℕ) (v w : View E) → get_elem? vs id ≡ some v → w.numbers ≡ v.numbers → map numbers_of (set vs id w) ≡ map numbers_of vs
-same_who vs id v w at e = map-set numbers_of vs id w ∙ (ap (set (map numbers_of vs) id) e ∙ set_again (map numbers_of vs) id v.numbers (at_map numbers_of vs id v at))
+pub numbers_kept : {E : Type 0} (vs : List (View E)) (id : ℕ) (v w : View E) → get_elem? vs id ≡ some v → w.numbers ≡ v.numbers → map numbers_of (set vs id w) ≡ map numbers_of vs
+numbers_kept vs id v w at e = map-set numbers_of vs id w ∙ (ap (set (map numbers_of vs) id) e ∙ set_again (map numbers_of vs) id v.numbers (at_map numbers_of vs id v at))
 
-same_queue : {E : Type 0} (vs : List (View E)) (id : ℕ) (v w : View E) → get_elem? vs id ≡ some v → w.standing ≡ v.standing → map standing_of (set vs id w) ≡ map standing_of vs
-same_queue vs id v w at e = map-set standing_of vs id w ∙ (ap (set (map standing_of vs) id) e ∙ set_again (map standing_of vs) id v.standing (at_map standing_of vs id v at))
+pub standing_kept : {E : Type 0} (vs : List (View E)) (id : ℕ) (v w : View E) → get_elem? vs id ≡ some v → w.standing ≡ v.standing → map standing_of (set vs id w) ≡ map standing_of vs
+standing_kept vs id v w at e = map-set standing_of vs id w ∙ (ap (set (map standing_of vs) id) e ∙ set_again (map standing_of vs) id v.standing (at_map standing_of vs id v at))
 
 -- who gives up or draws a place had no turn
-no_turn_back : (qs : List Standing) (id : ℕ) (q r : Standing) → get_elem? qs id ≡ some q → q.out ≡ false → NoneOut (set qs id r) → NoneOut qs
+pub no_turn_back : (qs : List Standing) (id : ℕ) (q r : Standing) → get_elem? qs id ≡ some q → q.out ≡ false → NoneOut (set qs id r) → NoneOut qs
 no_turn_back qs id q r at off h i u at_u = dite (ℕ_discrete i id)
     (λ here. ap (λ (z : Standing). z.out) (same_at qs id u q (subst (λ (z : ℕ). get_elem? qs z ≡ some u) here at_u) at) ∙ off)
     (λ no. h i u (set_else qs id i r no ∙ at_u))
 
-module _ {S E : Type 0} (tale : S → List E) (by : E → ℕ) (mark : S → ℕ) (m : ℕ) where
-  abbrev St : Type 0
-  St = State (Option S) (View E)
-
-  abbrev M : Type 0
-  M = Me (Option S) (View E)
-
-  abbrev Rule : St → Type 0
-  Rule = IsRuled tale by mark m
-
-  -- nothing changes
-  unmoved : (s : St) (r : Rule s) (i id : ℕ) (c : List (ℕ × Option S)) (v : View E) → get_elem? s.views id ≡ some v → set s.words i (get_or s.words i 0) ≡ s.words → Rule (stepped s i (get_or s.words i 0) id c v keeps)
-  unmoved s r i id c v at same = subst (λ (z : List ℕ × List (View E)). Rule record { words = z.0; homes = s.homes; views = z.1 }) (λ k. (sym same k, sym (set_again s.views id v at) k)) r
-
-  abbrev view_free : (l : List E) (w0 : Numbers) (q : Standing) (seen : List E) → w0.live ≡ true → q.turn ≡ false → GoesOn by (own_numbers w0) seen l → IsView by m l (view w0 q m seen)
+module _ {E : Type 0} (by : E → ℕ) (m : ℕ) where
+  -- what a seat without the turn knows
+  abbrev pub view_free : (l : List E) (w0 : Numbers) (q : Standing) (seen : List E) → w0.live ≡ true → q.turn ≡ false → GoesOn by (own_numbers w0) seen l → IsView by m l (view w0 q m seen)
   view_free l w0 q seen live off g = record {
     marked = λ _. refl;
     known = λ _. g;
@@ -67,413 +52,7 @@ module _ {S E : Type 0} (tale : S → List E) (by : E → ℕ) (mark : S → ℕ
     spent = λ dead. absurd (true≢false (sym live ∙ dead));
   }
 
-  pub draws : (id : ℕ) (w0 : Numbers) (seen : List E) (c : List (ℕ × Option S)) → w0.live ≡ true
-      → Allows Rule 1 id (view w0 idle m seen, c) 1 (λ n. (n + 1) % 18446744073709551616) (λ r n. drew (view w0 idle m seen, c) r n)
-  draws id w0 seen c live s r wide at small =
-      let vs : List (View E) = s.views in
-      let qs : List Standing = map standing_of vs in
-      let v : View E = view w0 idle m seen in
-      let t : ℕ = r.served + waiting qs in
-      let w : View E = view w0 (at_ticket t) m seen in
-      let at_q = at_map standing_of vs id v at in
-      let whos = same_who vs id v w at refl in
-      let qset : map standing_of (set vs id w) ≡ set qs id (at_ticket t) = map-set standing_of vs id w in
-      let lists = telling.lists_set by m r.told vs id v w at live (λ x h. h) r.lists (view_free r.told w0 (at_ticket t) seen live refl ((r.lists.each id v at).known live)) in
-      let more : waiting (set qs id (at_ticket t)) + 0 ≡ waiting qs + 1 = queueing.waiting_set qs id idle (at_ticket t) at_q in
-      let below : waiting (map standing_of (set vs id w)) ≤ needs (map numbers_of (set vs id w)) = queueing.waits_below (set vs id w) (λ i u at_u. (lists.each i u at_u).spent) in
-      let below' : waiting (set qs id (at_ticket t)) ≤ needs (map numbers_of vs) = subst (λ (z : List Standing × List Numbers). waiting z.0 ≤ needs z.1) (λ k. (qset k, whos k)) below in
-      let room = r.numbers.room in
-      let few : r.made < 2 ^ 64 = r.numbers.small in
-      let turns = queueing.draws r.served qs id r.turns at_q (omega arith) in (
-        w,
-        keeps,
-        tt,
-        record {
-          told = r.told;
-          served = r.served;
-          made = r.made;
-          words_are = ap (λ ws. set ws 1 ((get_or ws 1 0 + 1) % 18446744073709551616)) r.words_are
-              ∙ (ap (λ z. length r.told ∷ z ∷ r.served % 18446744073709551616 ∷ r.made ∷ []) (up_mod t ∙ ap (λ (z : ℕ). z % 18446744073709551616) (let e = turns.0 in omega arith))
-              ∙ ap (λ z. words4 (length r.told) r.served (waiting z) r.made) (sym qset));
-          numbers = subst (AreNumbers r.made) (sym whos) r.numbers;
-          turns = subst (AreTurns r.served) (sym qset) turns.1;
-          home = λ none. r.home (no_turn_back qs id idle (at_ticket t) at_q refl (subst NoneOut qset none));
-          lists = lists;
-        },
-        (refl, (t, ap (λ ws. get_or ws 1 0) r.words_are, refl)),
-      )
-
-  pub looks : (id : ℕ) (w0 : Numbers) (t : ℕ) (seen : List E) → w0.live ≡ true
-      → Allows Rule 1 id (view w0 (at_ticket t) m seen, []) 2 (λ n. n) (λ r n. looked tale by mark (view w0 (at_ticket t) m seen, []) r n)
-  looks id w0 t seen live s r wide at small =
-      let vs : List (View E) = s.views in
-      let qs : List Standing = map standing_of vs in
-      let v : View E = view w0 (at_ticket t) m seen in
-      let at_q = at_map standing_of vs id v at in
-      let found : get_or s.words 2 0 ≡ r.served % 18446744073709551616 = ap (λ ws. get_or ws 2 0) r.words_are in
-      let stays : set s.words 2 (get_or s.words 2 0) ≡ s.words = ap (λ ws. set ws 2 (get_or ws 2 0)) r.words_are ∙ sym r.words_are in
-      dite (ℕ_discrete (get_or s.words 2 0) (t % 18446744073709551616))
-      (λ hit.
-      let next : r.served ≡ t = queueing.is_next r.served qs id t r.turns at_q (sym found ∙ hit) in
-      let at_d : get_elem? qs id ≡ some (at_ticket r.served) = at_q ∙ ap (λ (z : ℕ). some (at_ticket z)) (sym next) in
-      let h = r.home (queueing.none_yet r.served qs id r.turns at_d) in
-      let w : View E = view w0 (in_turn t) m r.told in
-      let qset : map standing_of (set vs id w) ≡ set qs id (in_turn r.served) = map-set standing_of vs id w ∙ ap (λ (z : ℕ). set qs id (in_turn z)) (sym next) in
-      let whos = same_who vs id v w at refl in
-      let turns = queueing.looks r.served qs id r.turns at_d in
-      let goes = (r.lists.each id v at).known live in
-      let f : IsView by m r.told w = record {
-        marked = λ _. refl;
-        known = λ _. telling.all_of_it by (own_numbers w0) r.told;
-        claimed = tt;
-        longest = λ _. refl;
-        spent = λ dead. absurd (true≢false (sym live ∙ dead));
-      } in (
-        w,
-        takes 0 (Some h.0),
-        h.1,
-        record {
-          told = r.told;
-          served = r.served;
-          made = r.made;
-          words_are = stays ∙ (r.words_are ∙ ap (λ z. words4 (length r.told) r.served z r.made) (sym turns.0 ∙ ap waiting (sym qset)));
-          numbers = subst (AreNumbers r.made) (sym whos) r.numbers;
-          turns = subst (AreTurns r.served) (sym qset) turns.1;
-          home = λ none. absurd (true≢false (none id (in_turn t) (at_map standing_of (set vs id w) id w (set_here vs id w (at_within vs id v at)))));
-          lists = telling.lists_set by m r.told vs id v w at live (λ x h. h) r.lists f;
-        },
-        inl (
-          record {
-            ticket = t;
-            state = h.0;
-            drawn = refl;
-            view_is = ap (λ l. view w0 (in_turn t) m l) (sym h.2);
-            slot_is = refl;
-            marked = h.3;
-            learns = subst (Learns by w0 seen) (sym h.2) (record {
-              further = goes;
-              whole = λ whole k e at_e. let n = r.lists.named k e at_e in
-                  numbering.whole_has r.made (map numbers_of vs) id w0 r.numbers (at_map numbers_of vs id v at, live) whole (by e) n.0 n.1.numbers (at_map numbers_of vs n.0 n.1 n.2, n.3) n.4;
-              distinct = own_distinct w0 (r.numbers.distinct id w0 (at_map numbers_of vs id v at, live));
-            });
-          },
-          hit,
-        ),
-      ))
-      (λ miss. (v, keeps, tt, unmoved s r 2 id [] v at stays, inr (refl, miss)))
-
-  pub passes : (id : ℕ) (w0 : Numbers) (t : ℕ) (seen : List E) (st : S) → w0.live ≡ true → tale st ≡ seen → mark st ≡ m
-      → Allows Rule 1 id (view w0 (in_turn t) m seen, (0, Some st) ∷ []) 2 (λ n. (n + 1) % 18446744073709551616) (λ r n. passed (view w0 (in_turn t) m seen, (0, Some st) ∷ []) n)
-  passes id w0 t seen st live told marked s r wide at small =
-      let vs : List (View E) = s.views in
-      let qs : List Standing = map standing_of vs in
-      let v : View E = view w0 (in_turn t) m seen in
-      let w : View E = view w0 idle m seen in
-      let at_q = at_map standing_of vs id v at in
-      let qset : map standing_of (set vs id w) ≡ set qs id idle = map-set standing_of vs id w in
-      let whos = same_who vs id v w at refl in
-      let turns = queueing.passes r.served qs id t r.turns at_q in
-      let fit = r.lists.each id v at in (
-        w,
-        gives,
-        tt,
-        record {
-          told = r.told;
-          served = r.served + 1;
-          made = r.made;
-          words_are = ap (λ ws. set ws 2 ((get_or ws 2 0 + 1) % 18446744073709551616)) r.words_are
-              ∙ (ap (λ (z : ℕ × ℕ). length r.told ∷ z.0 % 18446744073709551616 ∷ z.1 ∷ r.made ∷ []) (λ k. (sym turns.0 k, up_mod r.served k))
-              ∙ ap (λ z. words4 (length r.told) (r.served + 1) (waiting z) r.made) (sym qset));
-          numbers = subst (AreNumbers r.made) (sym whos) r.numbers;
-          turns = subst (AreTurns (r.served + 1)) (sym qset) turns.1;
-          home = λ _. (st, set_here s.homes 0 (some (Some st)) (let w1 = wide in omega arith), told ∙ fit.longest refl, marked);
-          lists = telling.lists_set by m r.told vs id v w at live (λ x h. h) r.lists (view_free r.told w0 idle seen live refl (fit.known live));
-        },
-        (refl, refl),
-      )
-
-  pub rests : (id : ℕ) (w0 : Numbers) (t : ℕ) (seen : List E) (st : S) → w0.live ≡ true → tale st ≡ seen → mark st ≡ m
-      → Allows Rule 1 id (view w0 (in_turn t) m seen, (0, Some st) ∷ []) 0 (λ n. n) (λ r n. rested (view w0 (in_turn t) m seen, (0, Some st) ∷ []) n)
-  rests id w0 t seen st live told marked s r wide at small =
-      let vs : List (View E) = s.views in
-      let qs : List Standing = map standing_of vs in
-      let v : View E = view w0 (in_turn t) m seen in
-      let w : View E = view w0 (resting t) m seen in
-      let at_q = at_map standing_of vs id v at in
-      let qset : map standing_of (set vs id w) ≡ set qs id (resting t) = map-set standing_of vs id w in
-      let whos = same_who vs id v w at refl in
-      let turns = queueing.rests r.served qs id t r.turns at_q in
-      let fit = r.lists.each id v at in
-      let f : IsView by m r.told w = record { marked = fit.marked; known = fit.known; claimed = tt; longest = fit.longest; spent = λ dead. absurd (true≢false (sym live ∙ dead)) } in (
-        w,
-        gives,
-        tt,
-        record {
-          told = r.told;
-          served = r.served;
-          made = r.made;
-          words_are = ap (λ ws. set ws 0 (get_or ws 0 0)) r.words_are ∙ ap (λ z. words4 (length r.told) r.served z r.made) (sym turns.0 ∙ ap waiting (sym qset));
-          numbers = subst (AreNumbers r.made) (sym whos) r.numbers;
-          turns = subst (AreTurns r.served) (sym qset) turns.1;
-          home = λ _. (st, set_here s.homes 0 (some (Some st)) (let w1 = wide in omega arith), told ∙ fit.longest refl, marked);
-          lists = telling.lists_set by m r.told vs id v w at live (λ x h. h) r.lists f;
-        },
-        (refl, refl),
-      )
-
-  -- who keeps the turn and has laid the slot back finds the state there
-  pub ends : (id : ℕ) (w0 : Numbers) (t : ℕ) (seen : List E) (s : St) → Rule s → get_elem? s.views id ≡ some (view w0 (resting t) m seen) → IsHome tale by mark m seen s.homes
-  ends id w0 t seen s r at =
-      let v : View E = view w0 (resting t) m seen in
-      let h = r.home (queueing.none_out r.served (map standing_of s.views) id t r.turns (at_map standing_of s.views id v at)) in
-      (h.0, h.1, h.2 ∙ sym ((r.lists.each id v at).longest refl), h.3)
-
-  pub appends : (id : ℕ) (w0 : Numbers) (t : ℕ) (seen : List E) (c : List (ℕ × Option S)) (e : E) → w0.live ≡ true → by e ≡ w0.number → length seen + 1 < 18446744073709551616
-      → Allows Rule 1 id (view w0 (in_turn t) m seen, c) 0 (λ n. (n + 1) % 18446744073709551616) (λ r n. appended (seen ++ e ∷ []) (view w0 (in_turn t) m seen, c) n)
-  appends id w0 t seen c e live is room s r wide at small =
-      let vs : List (View E) = s.views in
-      let qs : List Standing = map standing_of vs in
-      let v : View E = view w0 (in_turn t) m seen in
-      let w : View E = view w0 (in_turn t) m (seen ++ e ∷ []) in
-      let at_q = at_map standing_of vs id v at in
-      let qset = same_queue vs id v w at refl in
-      let whos = same_who vs id v w at refl in
-      let whole : seen ≡ r.told = (r.lists.each id v at).longest refl in
-      let mine : has (by e) (own_numbers w0) ≡ true = subst (λ (z : ℕ). has z (own_numbers w0) ≡ true) (sym is) (has_head w0.number w0.ended) in
-      let long : length (r.told ++ e ∷ []) ≡ length r.told + 1 = length-append r.told (e ∷ []) in
-      let fits_in : length r.told + 1 < 18446744073709551616 = subst (λ (l : List E). length l + 1 < 18446744073709551616) whole room in
-      let held = r.turns.holder id (in_turn t) at_q refl in
-      let f : IsView by m (r.told ++ e ∷ []) w = record {
-        marked = λ _. refl;
-        known = λ _. subst (λ (l : List E). GoesOn by (own_numbers w0) (l ++ e ∷ []) (r.told ++ e ∷ [])) (sym whole) (telling.all_of_it by (own_numbers w0) (r.told ++ e ∷ []));
-        claimed = tt;
-        longest = λ _. ap (λ l. l ++ e ∷ []) whole;
-        spent = λ dead. absurd (true≢false (sym live ∙ dead));
-      } in
-      let others : (j : ℕ) (u : View E) → j ≢ id → get_elem? vs j ≡ some u → (u.numbers.live ≡ true → has (by e) (own_numbers u.numbers) ≡ false) × (u.standing.turn ≡ false) = λ j u not at_u. (
-        (λ l. false_from_ne_true (has (by e) (own_numbers u.numbers)) (λ h. not (r.numbers.apart j id u.numbers w0 (at_map numbers_of vs j u at_u, l) (at_map numbers_of vs id v at, live) (by e)
-            (has_right (by e) (spares u.numbers.spare) (own_numbers u.numbers) h) (has_right (by e) (spares w0.spare) (own_numbers w0) mine)))),
-        false_from_ne_true u.standing.turn (λ yes. not (r.turns.apart j id u.standing (in_turn t) (at_map standing_of vs j u at_u) at_q r.served (r.turns.holder j u.standing (at_map standing_of vs j u at_u) yes) held)),
-      ) in (
-        w,
-        keeps,
-        tt,
-        record {
-          told = r.told ++ e ∷ [];
-          served = r.served;
-          made = r.made;
-          words_are = ap (λ ws. set ws 0 ((get_or ws 0 0 + 1) % 18446744073709551616)) r.words_are
-              ∙ (ap (λ z. words4 z r.served (waiting qs) r.made) (mod-eq_of_lt fits_in ∙ sym long)
-              ∙ ap (λ z. words4 (length (r.told ++ e ∷ [])) r.served (waiting z) r.made) (sym qset));
-          numbers = subst (AreNumbers r.made) (sym whos) r.numbers;
-          turns = subst (AreTurns r.served) (sym qset) r.turns;
-          home = λ none. absurd (true≢false (none id (in_turn t) (at_map standing_of (set vs id w) id w (set_here vs id w (at_within vs id v at)))));
-          lists = telling.lists_grow by m r.told vs id v w e at live refl mine others r.lists f;
-        },
-        (refl, refl),
-      )
-
-  -- every entry's number was drawn
-  drawn_below : (s : St) (r : Rule s) (k : ℕ) (e : E) → get_elem? r.told k ≡ some e → by e < r.made
-  drawn_below s r k e at_e = let n = r.lists.named k e at_e in
-      r.numbers.below n.0 n.1.numbers (at_map numbers_of s.views n.0 n.1 n.2, n.3) (by e) (has_right (by e) (spares n.1.numbers.spare) (own_numbers n.1.numbers) n.4)
-
-  pub numbers : (id n : ℕ) (e b : List ℕ) (q : Standing) (seen : List E) (c : List (ℕ × Option S)) (old : ℕ) → old + 1 < 18446744073709551616 → q.turn ≡ false
-      → Allows Rule 1 id (view (of_pass n None e b) q m seen, c) 3 (λ x. either (eqb x old) (old + 1) x) (numbered by (step 1 3 old (old + 1) maybe.none) (view (of_pass n None e b) q m seen, c))
-  numbers id n e b q seen c old room off s r wide at small =
-      let vs : List (View E) = s.views in
-      let qs : List Standing = map standing_of vs in
-      let w0 : Numbers = of_pass n None e b in
-      let v : View E = view w0 q m seen in
-      let x : ℕ = get_or s.words 3 0 in
-      let found : x ≡ r.made = ap (λ ws. get_or ws 3 0) r.words_are in
-      let stays : set s.words 3 (get_or s.words 3 0) ≡ s.words = ap (λ ws. set ws 3 (get_or ws 3 0)) r.words_are ∙ sym r.words_are in
-      let mine : Live (map numbers_of vs) id w0 = (at_map numbers_of vs id v at, refl) in
-      dite (ℕ_discrete x old)
-      (λ hit.
-      let w : View E = view (of_pass n (Some x) e b) q m seen in
-      let is : r.made ≡ old = sym found ∙ hit in
-      let qset = same_queue vs id v w at refl in
-      let whos : map numbers_of (set vs id w) ≡ set (map numbers_of vs) id (of_pass n (Some r.made) e b) = map-set numbers_of vs id w ∙ ap (λ (z : ℕ). set (map numbers_of vs) id (of_pass n (Some z) e b)) found in
-      let goes = (r.lists.each id v at).known refl in
-      let free : clear by (x ∷ []) r.told ≡ true = telling.clear_from by (x ∷ []) r.told (λ k y at_y h. ⊎_elim
-      (λ (same : by y ≡ x). let lt = drawn_below s r k y at_y in omega arith) (λ none. true≢false (sym none)) (has_cons (by y) x [] h)) in (
-        w,
-        keeps,
-        tt,
-        subst (λ t. Rule (stepped s 3 (either t (old + 1) x) id c w keeps)) (sym (eq-eqb x old hit)) (record {
-          told = r.told;
-          served = r.served;
-          made = r.made + 1;
-          words_are = ap (λ ws. set ws 3 (old + 1)) r.words_are
-              ∙ (ap (λ (z : ℕ). length r.told ∷ (r.served + waiting qs) % 18446744073709551616 ∷ r.served % 18446744073709551616 ∷ (z + 1) ∷ []) (sym is)
-              ∙ ap (λ z. words4 (length r.told) r.served (waiting z) (r.made + 1)) (sym qset));
-          numbers = subst (AreNumbers (r.made + 1)) (sym whos) (numbering.draws r.made (map numbers_of vs) id n e b r.numbers mine.0 (subst (λ (z : ℕ). z + 1 < 18446744073709551616) (sym is) room));
-          turns = subst (AreTurns r.served) (sym qset) r.turns;
-          home = λ none. r.home (subst NoneOut qset none);
-          lists = telling.lists_set by m r.told vs id v w at refl (λ x h. h) r.lists (view_free r.told (of_pass n (Some x) e b) q seen refl off goes);
-        }),
-        (
-          refl,
-          subst (λ t. MatchBool t ((w ≡ view (of_pass n (Some x) e b) q m seen) × IsNew by x v) (w ≡ v)) (sym (eq-eqb x old hit)) (
-            refl,
-            record {
-              own = false_from_ne_true (has x (n ∷ e)) (λ h. let lt = r.numbers.below id w0 mine x h in omega arith);
-              born = false_from_ne_true (has x b) (λ h. let lt = r.numbers.born_below id w0 mine x h in omega arith);
-              entries = telling.clear_left by (x ∷ []) seen goes.0 (subst (λ (l : List E). clear by (x ∷ []) l ≡ true) goes.1 free);
-            },
-          ),
-        ),
-      ))
-      (λ miss. (
-        v,
-        keeps,
-        tt,
-        subst (λ t. Rule (stepped s 3 (either t (old + 1) x) id c v keeps)) (sym (ne_eqb x old miss)) (unmoved s r 3 id c v at stays),
-        (refl, subst (λ t. MatchBool t ((v ≡ view (of_pass n (Some x) e b) q m seen) × IsNew by x v) (v ≡ v)) (sym (ne_eqb x old miss)) refl),
-      ))
-
-  pub splits : (id n k : ℕ) (e b : List ℕ) (seen : List E) → let v : View E = view (of_pass n (Some k) e b) idle m seen in Splits Rule id v (elder_view v) (younger_view v)
-  splits id n k e b seen s r at =
-      let vs : List (View E) = s.views in
-      let qs : List Standing = map standing_of vs in
-      let v : View E = view (of_pass n (Some k) e b) idle m seen in
-      let w : View E = view (of_pass n None e (k ∷ b)) idle m seen in
-      let y : View E = view (of_pass k None [] []) idle m seen in
-      let l1 : List (View E) = set vs id w in
-      let qset : map standing_of (l1 ++ y ∷ []) ≡ qs ++ idle ∷ [] = map-append standing_of l1 (y ∷ []) ∙ ap (λ z. z ++ idle ∷ []) (same_queue vs id v w at refl) in
-      let whos : map numbers_of (l1 ++ y ∷ []) ≡ set (map numbers_of vs) id (of_pass n None e (k ∷ b)) ++ of_pass k None [] [] ∷ [] = map-append numbers_of l1 (y ∷ []) ∙ ap (λ z. z ++ of_pass k None [] [] ∷ []) (map-set numbers_of vs id w) in
-      let mine : Live (map numbers_of vs) id (of_pass n (Some k) e b) = (at_map numbers_of vs id v at, refl) in
-      let over = r.numbers.spare id (of_pass n (Some k) e b) mine k refl in
-      let goes = (r.lists.each id v at).known refl in
-      let free : clear by (k ∷ []) r.told ≡ true = telling.clear_from by (k ∷ []) r.told (λ i x at_x h. ⊎_elim
-      (λ (same : by x ≡ k). let o = r.lists.named i x at_x in let u : Numbers = o.1.numbers in
-      let has_k : has k (own_numbers u) ≡ true = subst (λ (z : ℕ). has z (own_numbers u) ≡ true) same o.4 in
-      let here : o.0 ≡ id = r.numbers.apart o.0 id u (of_pass n (Some k) e b) (at_map numbers_of vs o.0 o.1 o.2, o.3) mine k (has_right k (spares u.spare) (own_numbers u) has_k) (has_head k (n ∷ e)) in
-      let is : o.1 ≡ v = same_at vs id o.1 v (subst (λ (z : ℕ). get_elem? vs z ≡ some o.1) here o.2) at in
-      ⊎_elim (λ (eq : k ≡ n). let lt = over.above in omega arith) (λ in_e. both_ways (has k e) over.new in_e) (has_cons k n e (subst (λ (z : View E). has k (own_numbers z.numbers) ≡ true) is has_k)))
-      (λ none. true≢false (sym none)) (has_cons (by x) k [] h)) in
-      let goes_y : GoesOn by (k ∷ []) seen r.told = (goes.0, goes.1, telling.clear_right by (k ∷ []) seen goes.0 (subst (λ (l : List E). clear by (k ∷ []) l ≡ true) goes.1 free)) in
-      record {
-        told = r.told;
-        served = r.served;
-        made = r.made;
-        words_are = r.words_are ∙ ap (λ z. words4 (length r.told) r.served z r.made) (sym (queueing.comes_waiting qs) ∙ ap waiting (sym qset));
-        numbers = subst (AreNumbers r.made) (sym whos) (numbering.splits r.made (map numbers_of vs) id n k e b r.numbers mine.0);
-        turns = subst (AreTurns r.served) (sym qset) (queueing.comes r.served qs r.turns);
-        home = λ none. r.home (λ i q at_i. none i q (ap (λ z. get_elem? z i) qset ∙ Rattle.atomic_table.proofs.Lists.at_longer qs (idle ∷ []) i q at_i));
-        lists = telling.lists_snoc by m r.told l1 y (telling.lists_set by m r.told vs id v w at refl (λ x h. h) r.lists (view_free r.told (of_pass n None e (k ∷ b)) idle seen refl refl goes))
-            (view_free r.told (of_pass k None [] []) idle seen refl refl goes_y);
-      }
-
-  spent_is_view : (l : List E) → IsView by m l spent_view
-  spent_is_view l = record {
-    marked = λ no. absurd (true≢false (sym no));
-    known = λ no. absurd (true≢false (sym no));
-    claimed = tt;
-    longest = λ no. absurd (true≢false (sym no));
-    spent = λ _. refl;
-  }
-
-  pub joins : (id other n n' : ℕ) (e e' b b' : List ℕ) (seen seen' : List E)
-      → let v : View E = view (of_pass n None e b) idle m seen in let v' : View E = view (of_pass n' None e' b') idle m seen' in Joins Rule id v other v' (joined v v') spent_view
-  joins id other n n' e e' b b' seen seen' s r at not at1 =
-      let vs : List (View E) = s.views in
-      let qs : List Standing = map standing_of vs in
-      let v : View E = view (of_pass n None e b) idle m seen in
-      let v' : View E = view (of_pass n' None e' b') idle m seen' in
-      let w : View E = joined v v' in
-      let l1 : List (View E) = set vs id w in
-      let l : List (View E) = set l1 other spent_view in
-      let at' : get_elem? vs other ≡ some v' = sym (set_else vs id other w not) ∙ at1 in
-      let q1 : map standing_of l1 ≡ qs = same_queue vs id v w at refl in
-      let qset : map standing_of l ≡ qs = same_queue l1 other v' spent_view at1 refl ∙ q1 in
-      let whos : map numbers_of l ≡ set (set (map numbers_of vs) id (one_of (of_pass n None e b) (of_pass n' None e' b'))) other of_none = map-set numbers_of l1 other spent_view ∙ ap (λ z. set z other of_none) (map-set numbers_of vs id w) in
-      let g = (r.lists.each id v at).known refl in
-      let g' = (r.lists.each other v' at').known refl in
-      let both = telling.longer_on by (n ∷ e) (n' ∷ e') seen seen' g.0 g'.0 (sym g.1 ∙ g'.1) g.2 g'.2 in
-      let f : IsView by m r.told w = record {
-        marked = λ _. refl;
-        known = λ _. (both.0, g.1 ∙ both.1, telling.clear_both by (n ∷ e) (n' ∷ e') both.0 both.2 both.3);
-        claimed = (both.4, (both.5, tt));
-        longest = λ no. absurd (true≢false (sym no));
-        spent = λ no. absurd (true≢false no);
-      } in
-      let part : (x : ℕ) → has x (own_numbers (of_pass n None e b)) ≡ true → has x (own_numbers w.numbers) ≡ true = λ x h. Rattle.viz_turn.proofs.ListLemmas.has_left x (n ∷ e) (n' ∷ e') h in
-      let lists1 = telling.lists_set by m r.told vs id v w at refl part r.lists f in
-      record {
-        told = r.told;
-        served = r.served;
-        made = r.made;
-        words_are = r.words_are ∙ ap (λ z. words4 (length r.told) r.served (waiting z) r.made) (sym qset);
-        numbers = subst (AreNumbers r.made) (sym whos) (numbering.joins r.made (map numbers_of vs) id other n n' e e' b b' r.numbers (at_map numbers_of vs id v at) not (at_map numbers_of vs other v' at'));
-        turns = subst (AreTurns r.served) (sym qset) r.turns;
-        home = λ none. r.home (subst NoneOut qset none);
-        lists = record {
-          each = each_set l1 other spent_view (λ _ u. IsView by m r.told u) (spent_is_view r.told) (λ j u _ at_u. lists1.each j u at_u);
-          named = λ k x at_x. let o = lists1.named k x at_x in dite (ℕ_discrete o.0 other)
-              (λ here. let is : o.1 ≡ v' = same_at l1 other o.1 v' (subst (λ (z : ℕ). get_elem? l1 z ≡ some o.1) here o.2) at1 in (
-                id,
-                w,
-                set_else l1 other id spent_view (λ same. not (sym same)) ∙ set_here vs id w (at_within vs id v at),
-                refl,
-                has_right (by x) (n ∷ e) (n' ∷ e') (subst (λ (z : View E). has (by x) (own_numbers z.numbers) ≡ true) is o.4),
-              ))
-              (λ no. (o.0, o.1, set_else l1 other o.0 spent_view no ∙ o.2, o.3, o.4));
-        };
-      }
-
-  pub learns : (id : ℕ) (v : View E) (c : List (ℕ × Option S)) → v.mark ≡ m → Allows Rule 1 id (v, c) 0 (λ n. n) (λ r n. learned by (v, c) n)
-  learns id v c is s r wide at small =
-      let vs : List (View E) = s.views in
-      let qs : List Standing = map standing_of vs in
-      let w : View E = view v.numbers v.standing v.mark v.seen in
-      let fit = r.lists.each id v at in
-      let qset = same_queue vs id v w at refl in
-      let whos = same_who vs id v w at refl in
-      let f : IsView by m r.told w = record { marked = fit.marked; known = fit.known; claimed = tt; longest = fit.longest; spent = fit.spent } in (
-        w,
-        keeps,
-        tt,
-        record {
-          told = r.told;
-          served = r.served;
-          made = r.made;
-          words_are = ap (λ ws. set ws 0 (get_or ws 0 0)) r.words_are ∙ ap (λ z. words4 (length r.told) r.served (waiting z) r.made) (sym qset);
-          numbers = subst (AreNumbers r.made) (sym whos) r.numbers;
-          turns = subst (AreTurns r.served) (sym qset) r.turns;
-          home = λ none. r.home (subst NoneOut qset none);
-          lists = record {
-            each = each_set vs id w (λ _ u. IsView by m r.told u) f (λ j u _ at_u. r.lists.each j u at_u);
-            named = λ k x at_x. let o = r.lists.named k x at_x in dite (ℕ_discrete o.0 id)
-                (λ here. let same : o.1 ≡ v = same_at vs id o.1 v (subst (λ (z : ℕ). get_elem? vs z ≡ some o.1) here o.2) at in
-                (id, w, set_here vs id w (at_within vs id v at), subst (λ (z : View E). z.numbers.live ≡ true) same o.3, subst (λ (z : View E). has (by x) (own_numbers z.numbers) ≡ true) same o.4))
-                (λ no. (o.0, o.1, set_else vs id o.0 w no ∙ o.2, o.3, o.4));
-          };
-        },
-        (refl, refl, fit.claimed),
-      )
-
-  pub opens : (st : S) → tale st ≡ [] → mark st ≡ m → Rule (opening (0 ∷ 0 ∷ 0 ∷ 1 ∷ []) (Some st ∷ []) (first_view m))
-  opens st none is =
-      let one : (F : ℕ → View E → Type 0) → F 0 (first_view m) → (i : ℕ) (v : View E) → get_elem? (first_view m ∷ []) i ≡ some v → F i v = λ F f i v at. Rattle.viz_turn.proofs.ListLemmas.each_snoc [] (first_view m) F f (λ j u at_u. absurd (some-ne-none u (sym at_u))) i v at in
-      let oneq : (F : ℕ → Standing → Type 0) → F 0 idle → (i : ℕ) (q : Standing) → get_elem? (idle ∷ []) i ≡ some q → F i q = λ F f i v at. Rattle.viz_turn.proofs.ListLemmas.each_snoc [] idle F f (λ j u at_u. absurd (some-ne-none u (sym at_u))) i v at in
-      record {
-        told = [];
-        served = 0;
-        made = 1;
-        words_are = refl;
-        numbers = numbering.begins;
-        turns = record {
-          few = omega arith;
-          within = oneq (λ _ q. (t : ℕ) → q.ticket ≡ Some t → (0 ≤ t) × (t < 0)) (λ t no. absurd (cc));
-          apart = λ i j q r at_i at_j t is_q is_r. oneq (λ i' q'. q'.ticket ≡ Some t → i' ≡ j) (λ no. absurd (cc)) i q at_i is_q;
-          holder = oneq (λ _ q. q.turn ≡ true → q.ticket ≡ Some 0) (λ no. absurd (true≢false (sym no)));
-          outs = oneq (λ _ q. q.out ≡ true → q.turn ≡ true) (λ no. absurd (true≢false (sym no)));
-        };
-        home = λ _. (st, refl, none, is);
-        lists = record {
-          each = one (λ _ v. IsView by m [] v) (view_free [] (of_pass 0 None [] []) idle [] refl refl (telling.all_of_it by (0 ∷ []) []));
-          named = λ k e at_e. absurd (some-ne-none e (sym at_e));
-        };
-      }
+module _ {S E : Type 0} (tale : S → List E) (by : E → ℕ) (mark : S → ℕ) (m : ℕ) where
+  -- nothing changes
+  pub unmoved : (s : State (Option S) (View E)) (r : IsRuled tale by mark m s) (i id : ℕ) (c : List (ℕ × Option S)) (v : View E) → get_elem? s.views id ≡ some v → set s.words i (get_or s.words i 0) ≡ s.words → IsRuled tale by mark m (stepped s i (get_or s.words i 0) id c v keeps)
+  unmoved s r i id c v at same = subst (λ (z : List ℕ × List (View E)). IsRuled tale by mark m record { words = z.0; homes = s.homes; views = z.1 }) (λ k. (sym same k, sym (set_again s.views id v at) k)) r

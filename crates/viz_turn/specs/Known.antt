@@ -1,7 +1,7 @@
 -- What a pass of a turn knows, and what the calls make of it (docs/ARCHITECTURE.md, "A turn").
 use Rattle.std.specs.Prelude.{◌≡◌, ℕ, List, [], ◌∷◌, ◌++◌, true, false}
 use Rattle.atomic_table.specs.Seated.{TableId}
-use Rattle.viz_turn.specs.Tales.{has, IsWholeBy, longer, clear, GoesOn, HasNoOther}
+use Rattle.viz_turn.specs.Tales.{has, IsWholeBy, longer, clear, GoesOn}
 
 -- which turn it is, and the mark of each of its states
 pub record Identity : Type 0 where

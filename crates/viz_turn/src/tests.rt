@@ -64,8 +64,8 @@ fn split<R: Wait>(
 }
 
 fn join(turn: &Turn<Diary>, kept: TurnPass<Diary>, ended: TurnPass<Diary>) -> TurnPass<Diary>
-    requires kept { IsPassOf turn.now kept }
-    requires ended { IsPassOf turn.now ended }
+    requires kept_belongs { IsPassOf turn.now kept }
+    requires ended_belongs { IsPassOf turn.now ended }
     ensures pass { IsPassOf turn.now result }
 {
     turn.join(kept, ended)
@@ -201,6 +201,21 @@ fn each_note_stands_once(rt: HostRuntime) -> Result<(), Fail> {
         assert_eq!(rt; diary.limit, 7);
         assert_eq!(rt; tally(&diary.notes), Some(want), "{counts}");
     }
+    Ok(())
+}
+
+#[test]
+fn each_turn_has_numbers_of_its_own(rt: HostRuntime) -> Result<(), Fail> {
+    let (Ok((one, mine)), Ok((other, its))) = (begin(rt.alloc()), begin(rt.alloc())) else {
+        return Err("memory")?;
+    };
+    let (mine, child) = split(&rt, &one, mine);
+    assert_eq!(rt; (mine.number(), child.number(), its.number()), (0, 1, 0));
+    let held = one.take(&rt, mine);
+    let its = make_note(&rt, &other, its, 3);
+    let mine = one.give(held);
+    assert_eq!(rt; one.close(&rt, mine).notes.len(), 0);
+    assert_eq!(rt; other.close(&rt, its).notes.len(), 1);
     Ok(())
 }
 

@@ -19,6 +19,7 @@ use std::thread::yield_now;
 
 // How often a thread looks before it lets others run, and before it sleeps.
 const SPINS: u32 = 100;
+
 const YIELDS: u32 = 120;
 
 impl<S: Story> Turn<S> {

@@ -1,6 +1,6 @@
 -- The rule of a turn, third group: the lists. It speaks of the tale, which is the longest list, and of what each seat knows of it.
 -- `append` makes the tale longer; `look` shows it whole; `split` and `join` hand on what was known.
-use Rattle.std.specs.Prelude.{◌≡◌, ℕ, List, [], ◌∷◌, Option, None, true, false}
+use Rattle.std.specs.Prelude.{◌≡◌, ℕ, List, [], ◌∷◌, None, true, false}
 use mathlib.Core.Option.{some}
 use lib.ListN.{get_elem?}
 use Rattle.viz_turn.specs.declared.view.Claim.{Claim}
