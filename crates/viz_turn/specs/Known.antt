@@ -8,7 +8,8 @@ pub record Identity : Type 0 where
   pub which : TableId
   pub mark : ℕ
 
--- the turn that a pass belongs to, its number, the numbers of the passes that were joined into it, those that were split off from it or from these, and the tale as far as it knows it
+-- the turn that a pass belongs to, its number, the numbers of passes joined into it and of those
+-- split off from it or from these, and the tale as far as it knows it
 pub record Known (E : Type 0) : Type 0 where
   pub turn : Identity
   pub number : ℕ
@@ -43,7 +44,14 @@ module _ {E : Type 0} where
 
   -- the pass of two, which keeps the number of the first
   abbrev pub one : Known E → Known E → Known E
-  one p q = record { turn = p.turn; number = p.number; ended = p.ended ++ numbers q; born = p.born ++ q.born; seen = longer p.seen q.seen }
+  one p q =
+      record {
+        turn = p.turn;
+        number = p.number;
+        ended = p.ended ++ numbers q;
+        born = p.born ++ q.born;
+        seen = longer p.seen q.seen;
+      }
 
 module _ {E : Type 0} (by : E → ℕ) where
   -- the tale goes further than the pass knows it, without an entry of its numbers

@@ -1,4 +1,4 @@
--- A tale by the numbers of the passes that made its entries (an append-only log, of which each reader knows a prefix; docs/ARCHITECTURE.md, "A turn").
+-- A tale by the numbers of the passes that made its entries (docs/ARCHITECTURE.md, "A turn").
 use Rattle.std.specs.Prelude.{◌≡◌, ℕ, List, [], ◌∷◌, ◌++◌, Bool, true, false, not, cond, ◌&&◌, ◌||◌, ◌==◌}
 use mathlib.Core.Option.{some}
 use lib.ListN.{get_elem?}
@@ -13,7 +13,7 @@ abbrev pub once : List ℕ → Bool
 once [] = true
 once (x ∷ xs) = not (has x xs) && once xs
 
--- a pass with these numbers, from which those were split off, is whole: the first pass and all passes that came of it are among its numbers
+-- the first pass, and each that was split off, is among these numbers
 pub record IsWholeBy (ns born : List ℕ) : Type 0 where
   pub first : has 0 ns ≡ true
   pub all : (n : ℕ) → has n born ≡ true → has n ns ≡ true

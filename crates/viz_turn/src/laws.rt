@@ -22,7 +22,8 @@ pub fn own_entries_stay<S: Story>()
 pub fn append_adds_one_entry<S: Story>()
     ensures own { (p : Known S.Entry) (tale new : List S.Entry) → GoesFurther S.by p tale
         → (one : AddsOne S.by (at_seen p tale) new)
-        → entries_of S.by (p.number ∷ []) new ≡ entries_of S.by (p.number ∷ []) p.seen ++ one.0 ∷ [] }
+        → entries_of S.by (p.number ∷ []) new
+        ≡ entries_of S.by (p.number ∷ []) p.seen ++ one.0 ∷ [] }
     ensures ended { (p : Known S.Entry) (tale new : List S.Entry) (n : ℕ) → once (numbers p) ≡ true
         → has n p.ended ≡ true → GoesFurther S.by p tale → AddsOne S.by (at_seen p tale) new
         → entries_of S.by (n ∷ []) new ≡ entries_of S.by (n ∷ []) p.seen }

@@ -1,10 +1,11 @@
-//! The steps that are tried until they succeed, how a thread waits between two tries, and the step of
-//! `append`.
+//! The steps that are tried until they succeed, and how a thread waits between two tries; the step of
+//! `append`, and the end of the table.
 
 ghost use Rattle.std.specs.Prelude.{◌≡◌, ◌+◌, ◌<◌, ◌^◌, ◌%◌, length};
 ghost use Rattle.viz_turn.specs.Known.{AddsOne};
 ghost use Rattle.viz_turn.specs.Passes.{shown};
-ghost use Rattle.viz_turn.specs.Steps.Kinds.{view, Got, IsNew};
+ghost use Rattle.viz_turn.specs.Steps.Kinds.{appended, Got, IsNew};
+ghost use Rattle.viz_turn.specs.Steps.Turns.{wrapped};
 ghost use Rattle.viz_turn.specs.Steps.Seats.{IsAtRest, IsInTurn, IsWaiting, IsResting, HasSpare};
 ghost use Rattle.viz_turn.specs.Steps.Belongs.{IsSeatOf};
 
@@ -58,7 +59,7 @@ impl<S: Story> Turn<S> {
         ticket: u64,
     )
         requires seat { IsSeatOf S.mark self.now seat.old }
-        requires waiting { (t : _) × IsWaiting t seat.old.me × (ticket ≡ t % 18446744073709551616) }
+        requires waiting { (t : _) × IsWaiting t seat.old.me × (ticket ≡ wrapped t) }
         ensures table { seat.new.table_id ≡ seat.old.table_id }
         ensures got { Got S.tale S.by S.mark seat.old.me seat.new.me }
     {
@@ -106,8 +107,7 @@ impl<S: Story> Turn<S> {
         requires entry { AddsOne S.by (shown seat.old.table_id seat.old.me.0) (S.tale state.now) }
         requires room { length seat.old.me.0.seen + 1 < 2 ^ 64 }
         ensures table { seat.new.table_id ≡ seat.old.table_id }
-        ensures slots { seat.new.me.1 ≡ seat.old.me.1 }
-        ensures view { seat.new.me.0 ≡ view seat.old.me.0.numbers seat.old.me.0.standing seat.old.me.0.mark (S.tale state.now) }
+        ensures view { appended (S.tale state.now) seat.old.me seat.new.me }
     {
         self.table.shared.fetch_add::<Append<P>>(seat, 0, 1);
     }

@@ -1,5 +1,6 @@
--- What each kind of step does to the view of its seat. `number` and `split`, `join` and `learn` come in pairs; a turn is `draw`, `look`, `append` and `pass on`; `rest` ends the last one.
-use Rattle.std.specs.Prelude.{◌≡◌, ◌≢◌, ◌⊎◌, ℕ, ◌%◌, List, [], ◌∷◌, ◌++◌, Option, Some, None, true, false, ◌==◌, MatchBool}
+-- What each kind of step does to the view of its seat. `number` and `split`, `join` and `learn` come in pairs.
+-- A turn is `draw`, `look`, `append` and `pass on`; the last one ends by `rest`.
+use Rattle.std.specs.Prelude.{◌≡◌, ◌≢◌, ◌⊎◌, ℕ, List, [], ◌∷◌, ◌++◌, Option, Some, None, true, false, ◌==◌, MatchBool}
 use Rattle.atomic_table.specs.Table.{Me, Step}
 use Rattle.viz_turn.specs.declared.view.Numbers.{Numbers}
 use Rattle.viz_turn.specs.declared.view.Standing.{Standing}
@@ -7,7 +8,7 @@ use Rattle.viz_turn.specs.declared.view.Claim.{Claim}
 use Rattle.viz_turn.specs.declared.view.View.{View}
 use Rattle.viz_turn.specs.Tales.{has, once, clear, IsWholeBy, longer, GoesOn, HasNoOther}
 use Rattle.viz_turn.specs.Steps.Numbers.{own_numbers}
-use Rattle.viz_turn.specs.Steps.Turns.{idle, at_ticket, in_turn, resting}
+use Rattle.viz_turn.specs.Steps.Turns.{wrapped, idle, at_ticket, in_turn, resting}
 use Rattle.viz_turn.specs.Steps.Lists.{AreTrueOf}
 
 -- a view without claims
@@ -17,6 +18,10 @@ view w q m seen = record { numbers = w; standing = q; mark = m; seen = seen; cla
 -- the numbers of a live pass
 abbrev pub of_pass : ℕ → Option ℕ → List ℕ → List ℕ → Numbers
 of_pass n s ended born = record { live = true; number = n; spare = s; ended = ended; born = born }
+
+-- with this spare number
+abbrev pub with_spare : ℕ → Numbers → Numbers
+with_spare n w = of_pass w.number (Some n) w.ended w.born
 
 -- those of a seat that was joined into another
 abbrev pub of_none : Numbers
@@ -36,7 +41,7 @@ or_zero (Some n) = n
 
 -- split: the spare number goes to a new seat
 abbrev pub elder_view : {E : Type 0} → View E → View E
-elder_view v = view (of_pass v.numbers.number None v.numbers.ended (or_zero v.numbers.spare ∷ v.numbers.born)) v.standing v.mark v.seen
+elder_view v = let w = v.numbers in view (of_pass w.number None w.ended (or_zero w.spare ∷ w.born)) v.standing v.mark v.seen
 
 abbrev pub younger_view : {E : Type 0} → View E → View E
 younger_view v = view (of_pass (or_zero v.numbers.spare) None [] []) idle v.mark v.seen
@@ -49,13 +54,20 @@ abbrev pub claim : {E : Type 0} → View E → Claim E
 claim v = record { numbers = own_numbers v.numbers; seen = v.seen }
 
 abbrev pub joined : {E : Type 0} → View E → View E → View E
-joined v w = record { numbers = one_of v.numbers w.numbers; standing = v.standing; mark = v.mark; seen = longer v.seen w.seen; claims = claim v ∷ claim w ∷ [] }
+joined v w =
+    record {
+      numbers = one_of v.numbers w.numbers;
+      standing = v.standing;
+      mark = v.mark;
+      seen = longer v.seen w.seen;
+      claims = claim v ∷ claim w ∷ [];
+    }
 
 -- m and n: the seat before and after, its view and the slots that are out with it; r: the word that was found
 module _ {T E : Type 0} where
   -- draw: the seat has the ticket that was found
   abbrev pub drew : Me T (View E) → ℕ → Me T (View E) → Type 0
-  drew m r n = (n.1 ≡ m.1) × ((t : ℕ) × (r ≡ t % 18446744073709551616) × (n.0 ≡ view m.0.numbers (at_ticket t) m.0.mark m.0.seen))
+  drew m r n = (n.1 ≡ m.1) × ((t : ℕ) × (r ≡ wrapped t) × (n.0 ≡ view m.0.numbers (at_ticket t) m.0.mark m.0.seen))
 
   -- append: the list is this tale
   abbrev pub appended : List E → Me T (View E) → Me T (View E) → Type 0
@@ -79,7 +91,7 @@ module _ {E : Type 0} (by : E → ℕ) where
   -- number: where the word was the one expected, it is the seat's spare number, which is new; else nothing changes
   abbrev pub numbered : {T : Type 0} → Step T → Me T (View E) → ℕ → Me T (View E) → Type 0
   numbered s m r n = (n.1 ≡ m.1) × MatchBool (r == s.first)
-      ((n.0 ≡ view (of_pass m.0.numbers.number (Some r) m.0.numbers.ended m.0.numbers.born) m.0.standing m.0.mark m.0.seen) × IsNew r m.0)
+      ((n.0 ≡ view (with_spare r m.0.numbers) m.0.standing m.0.mark m.0.seen) × IsNew r m.0)
       (n.0 ≡ m.0)
 
   -- learn: the claims are true, and are dropped
@@ -105,4 +117,4 @@ module _ {S E : Type 0} (tale : S → List E) (by : E → ℕ) (mark : S → ℕ
 
   -- look: where the word is the seat's ticket, the slot goes out to the seat; else nothing changes
   abbrev pub looked : Me (Option S) (View E) → ℕ → Me (Option S) (View E) → Type 0
-  looked m r n = (Got m n × (r ≡ or_zero m.0.standing.ticket % 18446744073709551616)) ⊎ ((n ≡ m) × (r ≢ or_zero m.0.standing.ticket % 18446744073709551616))
+  looked m r n = let t = wrapped (or_zero m.0.standing.ticket) in (Got m n × (r ≡ t)) ⊎ ((n ≡ m) × (r ≢ t))

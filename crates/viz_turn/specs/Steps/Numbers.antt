@@ -1,4 +1,4 @@
--- The rule of a turn, first group: the numbers of passes. It speaks of the number that the next pass gets, and of each seat's numbers.
+-- The rule of a turn, first group: the numbers of passes. It speaks of the next number, and of each seat's numbers.
 -- `draw`, `look`, `append` and `pass on` leave this group as it is; `number`, `split` and `join` change it.
 use Rattle.std.specs.Prelude.{◌≡◌, ℕ, ◌+◌, ◌^◌, ◌<◌, ◌≤◌, List, [], ◌∷◌, ◌++◌, Option, Some, None, Bool, true, false}
 use mathlib.Core.Option.{some}
@@ -34,7 +34,7 @@ needs (w ∷ ws) = needs_of w.live w.spare + needs ws
 abbrev pub Live : List Numbers → ℕ → Numbers → Type 0
 Live ws i w = (get_elem? ws i ≡ some w) × (w.live ≡ true)
 
--- where a seat has a spare number, it is greater than its own number and than those split off from it, and none of its ended ones
+-- a seat's spare number is above its own and those split off from it, and none of its ended ones
 pub record IsSpare (w : Numbers) (n : ℕ) : Type 0 where
   pub above : w.number < n
   pub new : has n w.ended ≡ false
@@ -56,7 +56,8 @@ pub record AreNumbers (made : ℕ) (ws : List Numbers) : Type 0 where
   pub below : (i : ℕ) (w : Numbers) → Live ws i w → (x : ℕ) → has x (all_numbers w) ≡ true → x < made
   pub born_below : (i : ℕ) (w : Numbers) → Live ws i w → (x : ℕ) → has x w.born ≡ true → x < made
   -- no two seats share one, and no seat has one twice
-  pub apart : (i j : ℕ) (v w : Numbers) → Live ws i v → Live ws j w → (x : ℕ) → has x (all_numbers v) ≡ true → has x (all_numbers w) ≡ true → i ≡ j
+  pub apart : (i j : ℕ) (v w : Numbers) → Live ws i v → Live ws j w
+      → (x : ℕ) → has x (all_numbers v) ≡ true → has x (all_numbers w) ≡ true → i ≡ j
   pub distinct : (i : ℕ) (w : Numbers) → Live ws i w → once (all_numbers w) ≡ true
   -- a spare number is a new one
   pub spare : (i : ℕ) (w : Numbers) → Live ws i w → (n : ℕ) → w.spare ≡ Some n → IsSpare w n

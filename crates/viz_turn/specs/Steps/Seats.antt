@@ -1,9 +1,9 @@
 -- The seat of a pass between its calls, and within them.
-use Rattle.std.specs.Prelude.{◌≡◌, ℕ, [], ◌∷◌, Option, Some, None, true}
+use Rattle.std.specs.Prelude.{◌≡◌, ℕ, [], ◌∷◌, Option, None, true}
 use Rattle.atomic_table.specs.Table.{Me}
 use Rattle.viz_turn.specs.declared.view.View.{View}
 use Rattle.viz_turn.specs.Steps.Turns.{idle, at_ticket, in_turn, resting}
-use Rattle.viz_turn.specs.Steps.Kinds.{view, of_pass, or_zero}
+use Rattle.viz_turn.specs.Steps.Kinds.{view, with_spare, or_zero}
 
 -- the pass has the turn, and the slot is home
 pub record IsResting {E : Type 0} (t : ℕ) (v : View E) : Type 0 where
@@ -36,4 +36,4 @@ module _ {S E : Type 0} where
 
   -- the seat has the spare number n, and is else as before
   abbrev pub HasSpare : ℕ → Me S (View E) → Me S (View E) → Type 0
-  HasSpare n old new = (new.1 ≡ old.1) × (new.0 ≡ view (of_pass old.0.numbers.number (Some n) old.0.numbers.ended old.0.numbers.born) old.0.standing old.0.mark old.0.seen)
+  HasSpare n old new = (new.1 ≡ old.1) × (new.0 ≡ view (with_spare n old.0.numbers) old.0.standing old.0.mark old.0.seen)
