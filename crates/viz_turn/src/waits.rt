@@ -1,7 +1,7 @@
 //! The steps that are tried until they succeed, and how a thread waits between two tries; the step of
 //! `append`, and the end of the table.
 
-ghost use Rattle.std.specs.Prelude.{◌≡◌, ◌+◌, ◌<◌, ◌^◌, ◌%◌, length};
+ghost use Rattle.std.specs.Prelude.{◌≡◌, ◌+◌, ◌<◌, ◌≤◌, ◌^◌, ◌%◌, length};
 ghost use Rattle.viz_turn.specs.Known.{AddsOne};
 ghost use Rattle.viz_turn.specs.Passes.{shown};
 ghost use Rattle.viz_turn.specs.Steps.Kinds.{appended, Got, IsNew};
@@ -16,12 +16,9 @@ use crate::view::View;
 use atomic_table::Seat;
 use std::hint::spin_loop;
 use std::sync::Wait;
-use std::thread::yield_now;
 
-// How often a thread looks before it lets others run, and before it sleeps.
-const SPINS: u32 = 100;
-
-const YIELDS: u32 = 120;
+// How often the next in line looks before it sleeps.
+const LOOKS: u32 = 1000;
 
 impl<S: Story> Turn<S> {
     // The new number, which is the seat's spare one.
@@ -63,28 +60,28 @@ impl<S: Story> Turn<S> {
         ensures table { seat.new.table_id ≡ seat.old.table_id }
         ensures got { Got S.tale S.by S.mark seat.old.me seat.new.me }
     {
-        let mut looks = 0;
+        let mut left = LOOKS;
         for _ in rt.forever() {
             let served = self.table.shared.load::<Look>(seat, 2);
             if served == ticket {
                 return;
             }
-            self.pause(rt, looks, served);
-            looks += (looks < YIELDS) as u32;
+            left = self.pause(rt, left, served, ticket);
         }
         unreachable!()
     }
 
-    // A turn is mostly short: so a thread spins for a while, then lets others run, and then sleeps
-    // until a turn ends.
-    fn pause<R: Wait>(&self, rt: &R, looks: u32, served: u64) {
-        if looks < SPINS {
+    // A turn is mostly short: so the next in line spins for a while. All others sleep until a turn
+    // ends. Gives how often it may still spin.
+    fn pause<R: Wait>(&self, rt: &R, left: u32, served: u64, ticket: u64) -> u32
+        ensures value { result ≤ left }
+    {
+        if left > 0 && served.wrapping_add(1) == ticket {
             spin_loop();
-        } else if looks < YIELDS {
-            yield_now();
-        } else {
-            self.table.shared.park(rt, 2, low_half(served));
+            return left - 1;
         }
+        self.table.shared.park(rt, 2, low_half(served));
+        left
     }
 
     // Wakes who sleeps after a turn. Where no ticket was drawn behind it there is nobody; who draws
