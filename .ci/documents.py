@@ -103,7 +103,7 @@ def check_names(page, known):
             left, word = (part.strip() for part in token.split("·"))
             if left.endswith(".antt"):
                 path = resolve(left)
-                kinds = r"^(?:abbrev pub|unfoldable pub|pub record|pub data|pub) %s\b"
+                kinds = r"^ *(?:abbrev pub|unfoldable pub|pub record|pub data|pub) %s\b"
                 if not path or not re.search(kinds % re.escape(word), text(path), re.M):
                     errors.append("%s: no definition `%s`" % (page, token))
             elif not known.has(left, word):

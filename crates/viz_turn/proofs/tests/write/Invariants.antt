@@ -1,0 +1,5 @@
+use Rattle.viz_turn.specs.Passes.{IsPassOf}
+use Rattle.viz_turn.proofs.tests.write.Given as goal
+
+abbrev pub invariant-loop-count : goal.invariant-loop-count
+invariant-loop-count g l = IsPassOf l.turn l.pass
