@@ -1,0 +1,16 @@
+//! Filters of images, each on any part of its output.
+//!
+//! Contract: a call gives the part `out` of what its filter makes of the whole image, from inputs
+//! that contain what `out` asks for, and refuses nothing but for want of memory.
+//! Definitions: `viz_meaning`'s `specs/ImageFilters.antt` and `specs/WholeImages.antt`; the rules are
+//! those of docs/FORMATS.md, "Filters".
+#![tactic(auto)]
+
+
+mod cropping;
+mod lane;
+mod thresholding;
+
+
+pub use cropping::crop;
+pub use thresholding::threshold;
