@@ -109,8 +109,8 @@ pub record PointOf (b : Bounds) (index : ℕ) : Type 0 where
   pub has : Has b i j k
   pub number : index_at b i j k ≡ index
 
-pub point_of : (b : Bounds) (index : ℕ) → index < count_of b → PointOf b index
-point_of b index below =
+pub point_of : (b : Bounds) (index : ℕ) → IsExtent b → index < count_of b → PointOf b index
+point_of b index valid below =
     let w = size_x b in
     let h = size_y b in
     let in_row : index % w < w = mod_below index w (omega arith) in
@@ -121,9 +121,9 @@ point_of b index below =
       j = b.y0 + index / w % h;
       k = b.z0 + index / w / h;
       has = record {
-        x = record { at_least = omega arith; at_most = omega arith };
-        y = record { at_least = omega arith; at_most = omega arith };
-        z = record { at_least = omega arith; at_most = omega arith };
+        x = record { at_least = omega arith; at_most = omega (arith, valid.x.order) };
+        y = record { at_least = omega arith; at_most = omega (arith, valid.y.order) };
+        z = record { at_least = omega arith; at_most = omega (arith, valid.z.order) };
       };
       number =
           let x : b.x0 + index % w - b.x0 ≡ index % w = omega arith in
@@ -134,11 +134,11 @@ point_of b index below =
     }
 
 -- two lists of numbers for the points of an extent are the same where they are at each point
-same_items : (b : Bounds) (xs ys : List ℤ) → length xs ≡ count_of b → length ys ≡ count_of b
+same_items : (b : Bounds) (xs ys : List ℤ) → IsExtent b → length xs ≡ count_of b → length ys ≡ count_of b
     → ((i j k : ℕ) → Has b i j k → get_or xs (index_at b i j k) (pos 0) ≡ get_or ys (index_at b i j k) (pos 0)) → xs ≡ ys
-same_items b xs ys long_x long_y each =
+same_items b xs ys valid long_x long_y each =
     ext_get_or (pos 0) xs ys (long_x ∙ sym long_y) (λ p below.
-      let at = point_of b p (rw (← long_x) below) in
+      let at = point_of b p valid (rw (← long_x) below) in
       ap (λ (n : ℕ). get_or xs n (pos 0)) (sym at.number) ∙ each at.i at.j at.k at.has ∙ ap (λ (n : ℕ). get_or ys n (pos 0)) at.number)
 
 abbrev with_parts : Bounds → Vector → Vector → Kind8 → List ℤ → ImageData
@@ -161,7 +161,7 @@ part_is_determined w part a b on_a on_b =
     let same : a.extent ≡ b.extent = on_a.extent ∙ sym on_b.extent in
     let long : length b.values.items ≡ count_of a.extent = on_b.valid.count ∙ ap count_of (sym same) in
     same_image a b same (on_a.origin ∙ sym on_b.origin) (on_a.spacing ∙ sym on_b.spacing) (on_a.kind ∙ sym on_b.kind)
-    (same_items a.extent a.values.items b.values.items on_a.valid.count long (λ i j k has.
+    (same_items a.extent a.values.items b.values.items on_a.valid.extent on_a.valid.count long (λ i j k has.
       let here : Has part i j k = subst (λ (e : Bounds). Has e i j k) on_a.extent has in
       on_a.numbers i j k here ∙ sym (on_b.numbers i j k here) ∙ ap (λ (e : Bounds). get_or b.values.items (index_at e i j k) (pos 0)) (sym same)))
 

@@ -48,30 +48,40 @@ fits_between I64 a b n = signed_between 63 a b n
 fits_between U64 a b n = unsigned_between 64 a b n
 
 -- bounds that are brought to the ends of a type
-pub low_fits : (kind : Kind8) (lo hi l m : ℤ) → IsLeast kind l → IsMost kind m → int_max lo l ≤ℤ int_min hi m → fits kind (int_max lo l) ≡ true
-low_fits kind lo hi l m least most order =
-    let from : l ≤ℤ int_max lo l = grind (arith, ints) in
-    let to : int_max lo l ≤ℤ m = grind (arith, ints) in
-    fits_between kind l m (int_max lo l) least.fit most.fit from to
+pub record AreBrought (kind : Kind8) (lo hi a b : ℤ) : Type 0 where
+  pub least : ℤ
+  pub most : ℤ
+  pub is_least : IsLeast kind least
+  pub is_most : IsMost kind most
+  pub low : a ≡ int_max lo least
+  pub high : b ≡ int_min hi most
 
-pub high_fits : (kind : Kind8) (lo hi l m : ℤ) → IsLeast kind l → IsMost kind m → int_max lo l ≤ℤ int_min hi m → fits kind (int_min hi m) ≡ true
-high_fits kind lo hi l m least most order =
-    let from : l ≤ℤ int_min hi m = grind (arith, ints) in
-    let to : int_min hi m ≤ℤ m = grind (arith, ints) in
-    fits_between kind l m (int_min hi m) least.fit most.fit from to
+-- in order, they lie in the range of the type
+in_order : (lo hi l m a b : ℤ) → a ≡ int_max lo l → b ≡ int_min hi m → a ≤ℤ b → (l ≤ℤ a) × (a ≤ℤ m) × (l ≤ℤ b) × (b ≤ℤ m)
+in_order lo hi l m a b low high order = (grind (arith, ints), grind (arith, ints), grind (arith, ints), grind (arith, ints))
 
--- of the numbers from l to m they select the same
+pub low_fits : (kind : Kind8) (lo hi a b : ℤ) → AreBrought kind lo hi a b → a ≤ℤ b → fits kind a ≡ true
+low_fits kind lo hi a b is order =
+    let places = in_order lo hi is.least is.most a b is.low is.high order in
+    fits_between kind is.least is.most a is.is_least.fit is.is_most.fit places.0 places.1
+
+pub high_fits : (kind : Kind8) (lo hi a b : ℤ) → AreBrought kind lo hi a b → a ≤ℤ b → fits kind b ≡ true
+high_fits kind lo hi a b is order =
+    let places = in_order lo hi is.least is.most a b is.low is.high order in
+    fits_between kind is.least is.most b is.is_least.fit is.is_most.fit places.2 places.3
+
+-- of the numbers of the type they select the same
 same_selected : (lo hi l m n : ℤ) → l ≤ℤ n → n ≤ℤ m → is_within (int_max lo l) (int_min hi m) n ≡ is_within lo hi n
 same_selected lo hi l m n from to = grind (arith, ints)
 
-pub select_same : (kind : Kind8) (lo hi l m : ℤ) → IsLeast kind l → IsMost kind m → SelectSame kind lo hi (int_max lo l) (int_min hi m)
-select_same kind lo hi l m least most n fit =
-    same_selected lo hi l m n (least.below n fit) (most.above n fit)
+pub select_same : (kind : Kind8) (lo hi a b : ℤ) → AreBrought kind lo hi a b → SelectSame kind lo hi a b
+select_same kind lo hi a b is n fit =
+    rw (is.low, is.high) (same_selected lo hi is.least is.most n (is.is_least.below n fit) (is.is_most.above n fit))
 
--- where they are out of order, no number
+-- out of order, none
 none_selected : (lo hi l m n : ℤ) → int_min hi m <ℤ int_max lo l → l ≤ℤ n → n ≤ℤ m → is_within lo hi n ≡ false
 none_selected lo hi l m n past from to = grind (arith, ints)
 
-pub select_none : (kind : Kind8) (lo hi l m : ℤ) → IsLeast kind l → IsMost kind m → int_min hi m <ℤ int_max lo l → SelectNone kind lo hi
-select_none kind lo hi l m least most past n fit =
-    none_selected lo hi l m n past (least.below n fit) (most.above n fit)
+pub select_none : (kind : Kind8) (lo hi a b : ℤ) → AreBrought kind lo hi a b → b <ℤ a → SelectNone kind lo hi
+select_none kind lo hi a b is past n fit =
+    none_selected lo hi is.least is.most n (rw (is.low, is.high) at past) (is.is_least.below n fit) (is.is_most.above n fit)

@@ -6,11 +6,13 @@
 //! those of docs/FORMATS.md, "Filters".
 #![tactic(auto)]
 
-
+mod arithmetic;
 mod cropping;
 mod lane;
+mod sampling;
 mod thresholding;
 
-
+pub use arithmetic::arith;
 pub use cropping::crop;
+pub use sampling::sample;
 pub use thresholding::threshold;

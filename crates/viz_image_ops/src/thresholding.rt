@@ -67,11 +67,10 @@ fn keep<T: Lane>(alloc: Global, numbers: &[T], lo: &i64, hi: &i64) -> Result<Col
     ensures { IfOk result (λ c. c ≡ kept_numbers lo.now hi.now
         (record { kind = T.kind; items = map T.value numbers.now })) }
 {
-    let kept = match bounds_of::<T>(lo, hi) {
-        Some((lo, hi)) => keep_within(alloc, numbers, lo, hi)?,
-        None => zeros(alloc, numbers.len())?,
-    };
-    Ok(Column::of(kept))
+    match bounds_of::<T>(lo, hi) {
+        Some(own) => Ok(Column::of(keep_within(alloc, numbers, own.0, own.1)?)),
+        None => Ok(Column::of(zeros::<T>(alloc, numbers.len())?)),
+    }
 }
 
 /// Each number between bounds of its own type, and 0 for every other.
