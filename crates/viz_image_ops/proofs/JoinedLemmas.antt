@@ -1,7 +1,7 @@
 -- Lists that are joined by index, their lengths and their items.
-use Rattle.std.proofs.Common.{◌≡◌, ℕ, zero, suc, ◌+◌, ◌-◌, ◌*◌, ◌<◌, ℤ, pos, List, [], ◌∷◌, ◌++◌, length, get_or, refl, sym, ap, ◌∙◌, inl, inr, arith, add-one}
+use Rattle.std.proofs.Common.{◌≡◌, ℕ, zero, suc, ◌+◌, ◌-◌, ◌*◌, ◌<◌, ◌≤◌, ℤ, pos, List, [], ◌∷◌, ◌++◌, length, map, get_or, refl, sym, ap, ap₂, ◌∙◌, inl, inr, arith, add-one, append_assoc}
 use Rattle.std.proofs.lemmas.Bool.{cases_lt}
-use Rattle.std.proofs.lemmas.List.{length-append, get_or_append_left, get_or-append_right}
+use Rattle.std.proofs.lemmas.List.{length-append, get_or_append_left, get_or-append_right, map-append}
 use Rattle.std.proofs.lemmas.Nat.{mul-add-lt}
 use Rattle.viz_extent.specs.Extent.{Bounds, size_x, size_y, size_z, plane_size, count_of, Has}
 use Rattle.viz_extent.specs.Numbering.{index_at}
@@ -10,6 +10,34 @@ use Rattle.viz_image_ops.specs.Joined.{joined, run_of, values_on}
 -- one list more
 pub joined_more : {X : Type 0} (f : ℕ → List X) (first n : ℕ) → joined f first n ++ f (first + n) ≡ joined f first (n + 1)
 joined_more f first n = rw (add-one n) refl
+
+-- lists behind others, one list more
+pub lists_more : {X : Type 0} (f : ℕ → List X) (first n : ℕ) (xs ys zs : List X) → first ≤ n → ys ≡ xs ++ joined f first (n - first)
+    → zs ≡ ys ++ f n → zs ≡ xs ++ joined f first (n + 1 - first)
+lists_more f first n xs ys zs from so_far more =
+    let at : n ≡ first + (n - first) = omega arith in
+    let next : n - first + 1 ≡ n + 1 - first = omega arith in
+    more ∙ ap (λ (t : List _). t ++ f n) so_far ∙ append_assoc xs (joined f first (n - first)) (f n)
+    ∙ ap (λ (m : ℕ). xs ++ (joined f first (n - first) ++ f m)) at ∙ ap (λ (t : List _). xs ++ t) (joined_more f first (n - first))
+    ∙ ap (λ (m : ℕ). xs ++ joined f first m) next
+
+-- values behind others, one value more
+pub run_more : {X : Type 0} (value : X → ℤ) (f : ℕ → ℤ) (first n : ℕ) (xs : List ℤ) (ys zs : List X) (x : X) → first ≤ n
+    → map value ys ≡ xs ++ run_of f first (n - first) → zs ≡ ys ++ x ∷ [] → value x ≡ f n → map value zs ≡ xs ++ run_of f first (n + 1 - first)
+run_more value f first n xs ys zs x from so_far more is =
+    lists_more (λ i. f i ∷ []) first n xs (map value ys) (map value zs) from so_far
+    (ap (map value) more ∙ map-append value ys (x ∷ []) ∙ ap (λ (y : ℤ). map value ys ++ y ∷ []) is)
+
+-- lists that are the same one by one
+pub joined_same : {X : Type 0} (f g : ℕ → List X) (a b n : ℕ) → ((m : ℕ) → m < n → f (a + m) ≡ g (b + m)) → joined f a n ≡ joined g b n
+joined_same f g a b zero same = refl
+joined_same f g a b (suc n) same =
+    ap₂ (λ (s t : List _). s ++ t) (joined_same f g a b n (λ m below. same m (omega arith))) (same n (omega arith))
+
+-- values that are the same one by one
+pub run_same : {X : Type 0} (f g : ℕ → X) (a b n : ℕ) → ((m : ℕ) → m < n → f (a + m) ≡ g (b + m)) → run_of f a n ≡ run_of g b n
+run_same f g a b n same =
+    joined_same (λ i. f i ∷ []) (λ i. g i ∷ []) a b n (λ m below. ap (λ (x : _). x ∷ []) (same m below))
 
 -- lists of one length have together that length times their number
 pub length-joined : {X : Type 0} (f : ℕ → List X) (first w n : ℕ) → ((m : ℕ) → length (f m) ≡ w) → length (joined f first n) ≡ n * w

@@ -2,3 +2,5 @@ pub mod JoinedLemmas
 pub mod PartLemmas
 pub mod RangeLemmas
 pub mod KeptLemmas
+pub mod SampleLemmas
+pub mod ArithLemmas

@@ -43,6 +43,28 @@ on_part w input output part within restricted valid on =
       valid = valid;
     }
 
+-- an image is the part on its own extent
+pub at_extent : (w : WholeImage) (part : Bounds) (image : ImageData) → IsOn w part image → IsOn w image.extent image
+at_extent w part image on = subst (λ (b : Bounds). IsOn w b image) (sym on.extent) on
+
+-- what a filter gives of a part of its input, it gives of the input
+pub through_part : (filter : WholeImage → WholeImage) (input part output : ImageData) (own out : Bounds) → IsPart input.extent own
+    → IsRestricted input own part → IsImage part → GivesOn filter part out output → GivesOn filter input out output
+through_part filter input part output own out within restricted valid gives w on =
+    gives w (at_extent w own part (on_part w input part own within restricted valid on))
+
+-- the same of the first of two inputs
+pub through_first : (filter : WholeImage → WholeImage → WholeImage) (first part second output : ImageData) (own out : Bounds) → IsPart first.extent own
+    → IsRestricted first own part → IsImage part → GivesOnBoth filter part second out output → GivesOnBoth filter first second out output
+through_first filter first part second output own out within restricted valid gives v w on_v on_w =
+    gives v w (at_extent v own part (on_part v first part own within restricted valid on_v)) on_w
+
+-- and of the second
+pub through_second : (filter : WholeImage → WholeImage → WholeImage) (first second part output : ImageData) (own out : Bounds) → IsPart second.extent own
+    → IsRestricted second own part → IsImage part → GivesOnBoth filter first part out output → GivesOnBoth filter first second out output
+through_second filter first second part output own out within restricted valid gives v w on_v on_w =
+    gives v w on_v (at_extent w own part (on_part w second part own within restricted valid on_w))
+
 -- the part that an image is of a whole is the part of its crop
 pub cropped : (input output : ImageData) (part : Bounds) → IsPart input.extent part → IsRestricted input part output → IsImage output
     → (box : Bounds) → GivesOn (crop_of box) input part output
@@ -100,6 +122,12 @@ reckoned-on op v w part a b image on_a on_b is =
           ∙ ap (λ (n : ℤ). clamped (reckoned op (v.number i j k) n)) second;
       valid = is.valid;
     }
+
+-- the same of images on one extent
+pub reckoned_both : (op : Op) (a b image : ImageData) (out : Bounds) → a.extent ≡ out → b.extent ≡ out → IsReckoned op a b image
+    → GivesOnBoth (arith_of op) a b out image
+reckoned_both op a b image out same_a same_b is v w on_a on_b =
+    reckoned-on op v w out a b image (subst (λ (e : Bounds). IsOn v e a) same_a on_a) (subst (λ (e : Bounds). IsOn w e b) same_b on_b) is
 
 -- a number below the count is that of a point
 pub record PointOf (b : Bounds) (index : ℕ) : Type 0 where

@@ -1,7 +1,8 @@
 //! Every so many points of an image.
 
 ghost use Rattle.std.specs.Prelude.{◌≡◌, ℕ, ◌+◌, ◌-◌, ◌*◌, ◌<◌, ◌≤◌, pos, ◌*ℤ◌, ◌++◌, length, map, slice_index_or, IfOk, OnOk};
-ghost use Rattle.viz_extent.specs.Extent.{size_x, size_y, count_of, IsOnAxis};
+ghost use Rattle.viz_extent.specs.Extent.{size_x, size_y, count_of, IsOnAxis, Has};
+ghost use Rattle.viz_extent.specs.Numbering.{index_at};
 ghost use Rattle.viz_extent.specs.Parts.{IsPart, rate_of, IsRate, spread};
 ghost use Rattle.viz_dataset.specs.Images.{vector_of, IsStep, IsSpacing};
 ghost use Rattle.viz_meaning.specs.ImageFilters.{wider_steps, sample_of};
@@ -147,9 +148,21 @@ fn push_row<T: Number>(
             out.now.x0 (size_x out.now)) }
 {
     let [x0, x1, _, _, _, _] = out.bounds();
+    let start = index_of_multiple(whole, rate, x0, j, k) as usize;
+    push_every(kept, numbers, start, rate[0] as usize, (x1 - x0) as usize + 1)
+}
+
+/// The number of the point at the multiples of three indices.
+fn index_of_multiple(whole: &Extent, rate: [u32; 3], i: u32, j: u32, k: u32) -> u64
+    requires { Has whole.now (i * (rate_of rate).x) (j * (rate_of rate).y) (k * (rate_of rate).z) }
+    ensures value { result ≡ index_at whole.now (i * (rate_of rate).x) (j * (rate_of rate).y)
+        (k * (rate_of rate).z) }
+    ensures below { result < count_of whole.now }
+{
+    // What the extent keeps by itself.
+    let _bounds = whole.bounds();
     let [x, y, z] = rate;
-    let start = whole.index_of(x0 * x, j * y, k * z);
-    push_every(kept, numbers, start as usize, x as usize, (x1 - x0) as usize + 1)
+    whole.index_of(i * x, j * y, k * z)
 }
 
 /// Adds so many numbers, from an index on, one at every step.

@@ -7,7 +7,7 @@ ghost use Rattle.viz_column.specs.Kinds.{fits};
 ghost use Rattle.viz_column.specs.Numbers.{AreInRange};
 ghost use Rattle.viz_lanes.specs.Planes.{within};
 ghost use Rattle.viz_meaning.specs.ImageFilters.{threshold_of};
-ghost use Rattle.viz_meaning.specs.Threshold.{kept_numbers, thresholded};
+ghost use Rattle.viz_meaning.specs.Threshold.{kept_numbers};
 ghost use Rattle.viz_meaning.specs.WholeImages.{GivesOn};
 ghost use Rattle.viz_image_ops.specs.Steps.{IsLeast, IsMost, SelectSame, SelectNone, AreKept};
 
@@ -39,7 +39,7 @@ pub fn threshold(
 
 /// The threshold of an image on its own extent.
 fn thresholded(alloc: Global, image: &Image, lo: &i64, hi: &i64) -> Result<Image, AllocError>
-    ensures { IfOk result (λ i. i ≡ thresholded lo.now hi.now image.now) }
+    ensures { IfOk result (GivesOn (threshold_of lo.now hi.now) image.now image.now.extent) }
 {
     let column = keep_column(alloc, image.column(), lo, hi)?;
     Ok(image.with_column(column))
