@@ -1,9 +1,9 @@
 -- Lists that are joined by index, their lengths and their items.
-use Rattle.std.proofs.Common.{◌≡◌, ℕ, zero, suc, ◌+◌, ◌-◌, ◌*◌, ◌<◌, ◌≤◌, ℤ, pos, List, [], ◌∷◌, ◌++◌, length, map, get_or, refl, sym, ap, ap₂, ◌∙◌, inl, inr, arith, add-one, append_assoc}
+use Rattle.std.proofs.Common.{◌≡◌, ℕ, zero, suc, ◌+◌, ◌-◌, ◌*◌, ◌<◌, ◌≤◌, ℤ, List, [], ◌∷◌, ◌++◌, length, map, get_or, refl, sym, ap, ap₂, ◌∙◌, inl, inr, arith, add-one, append_assoc}
 use Rattle.std.proofs.lemmas.Bool.{cases_lt}
 use Rattle.std.proofs.lemmas.List.{length-append, get_or_append_left, get_or-append_right, map-append}
 use Rattle.std.proofs.lemmas.Nat.{mul-add-lt}
-use Rattle.viz_extent.specs.Extent.{Bounds, size_x, size_y, size_z, plane_size, count_of, Has}
+use Rattle.viz_extent.specs.Extent.{Bounds, size_x, size_y, size_z, count_of, Has}
 use Rattle.viz_extent.specs.Numbering.{index_at}
 use Rattle.viz_image_ops.specs.Joined.{joined, run_of, values_on}
 

@@ -1,22 +1,20 @@
 -- Images on parts of a whole.
-use Rattle.std.proofs.Common.{◌≡◌, ℕ, ◌+◌, ◌-◌, ◌*◌, ◌/◌, ◌%◌, ◌<◌, ℤ, pos, true, Bool, ◌&&◌, List, [], ◌∷◌, length, map, get_or, refl, sym, ap, ◌∙◌, subst, arith, suc, zero}
-use Rattle.std.proofs.lemmas.Bool.{cases_lt}
+use Rattle.std.proofs.Common.{◌≡◌, ℕ, ◌+◌, ◌-◌, ◌/◌, ◌%◌, ◌<◌, ℤ, pos, List, length, map, get_or, refl, sym, ap, ◌∙◌, subst, arith}
 use Rattle.std.proofs.lemmas.List.{ext_get_or, get_or-map, length-map}
-use Rattle.std.proofs.lemmas.Nat.{mod_below, rows}
+use Rattle.std.proofs.lemmas.Nat.{mod_below}
 use Rattle.viz_column.specs.declared.kind.Kind8.{Kind8}
-use Rattle.viz_column.specs.Numbers.{Numbers}
-use Rattle.viz_extent.specs.Extent.{Bounds, size_x, size_y, size_z, plane_size, count_of, IsExtent, Has}
+use Rattle.viz_extent.specs.Extent.{Bounds, size_x, size_y, size_z, count_of, IsExtent, Has}
 use Rattle.viz_extent.specs.Numbering.{index_at}
 use Rattle.viz_extent.specs.Parts.{IsPart}
 use Rattle.viz_extent.proofs.NumberingLemmas.{index_at-by_rows, index_at_below, number-of_parts, plane_below}
 use Rattle.viz_extent.proofs.PartLemmas.{points_of_part}
-use Rattle.viz_dataset.specs.Images.{Vector, ImageData, IsImage, IsRestricted, number_at}
+use Rattle.viz_dataset.specs.Images.{Vector, ImageData, IsImage, IsRestricted}
 use Rattle.viz_meaning.specs.ImageFilters.{crop_of, threshold_of, arith_of, reckoned, clamped}
-use Rattle.viz_meaning.specs.Threshold.{kept_value, kept_numbers, thresholded}
+use Rattle.viz_meaning.specs.Threshold.{kept_value, thresholded}
 use Rattle.viz_meaning.specs.WholeImages.{WholeImage, whole_of, IsOn, GivesOn, GivesOnBoth}
 use Rattle.viz_meaning.specs.declared.op.Op.{Op}
 use Rattle.viz_image_ops.specs.Determined.{PartIsDetermined, WholeThreshold}
-use Rattle.viz_image_ops.specs.Steps.{AreReckoned, IsReckoned}
+use Rattle.viz_image_ops.specs.Steps.{IsReckoned}
 
 -- an image is that of itself as a whole
 pub on_itself : (image : ImageData) → IsImage image → IsOn (whole_of image) image.extent image
@@ -193,3 +191,17 @@ part_is_determined w part a b on_a on_b =
       let here : Has part i j k = subst (λ (e : Bounds). Has e i j k) on_a.extent has in
       on_a.numbers i j k here ∙ sym (on_b.numbers i j k here) ∙ ap (λ (e : Bounds). get_or b.values.items (index_at e i j k) (pos 0)) (sym same)))
 
+
+-- a threshold on the whole extent of its input has each number of the input, kept or 0
+pub whole_threshold : WholeThreshold
+whole_threshold lo hi input output valid gives =
+    let on = gives (whole_of input) (on_itself input valid) in
+    let kept = map (kept_value lo hi) input.values.items in
+    let long : length kept ≡ count_of output.extent =
+    length-map input.values.items (kept_value lo hi) ∙ valid.count ∙ ap count_of (sym on.extent) in
+    same_image output (thresholded lo hi input) on.extent on.origin on.spacing on.kind
+    (same_items output.extent output.values.items kept on.valid.extent on.valid.count long (λ i j k has.
+      let here : Has input.extent i j k = subst (λ (e : Bounds). Has e i j k) on.extent has in
+      on.numbers i j k here
+      ∙ sym (get_or-map (kept_value lo hi) input.values.items (index_at input.extent i j k) (pos 0) (pos 0) (place_below input input.extent i j k refl valid here))
+      ∙ ap (λ (e : Bounds). get_or kept (index_at e i j k) (pos 0)) (sym on.extent)))

@@ -1,14 +1,14 @@
 -- The points of a sample, and their numbers.
-use Rattle.std.proofs.Common.{◌≡◌, ℕ, ◌+◌, ◌-◌, ◌*◌, ◌<◌, ◌≤◌, ℤ, pos, List, length, map, get_or, refl, sym, ap, ◌∙◌, subst, arith}
+use Rattle.std.proofs.Common.{◌≡◌, ℕ, ◌+◌, ◌-◌, ◌*◌, ◌<◌, ◌≤◌, ℤ, pos, List, length, map, get_or, sym, ap, ◌∙◌, arith}
 use Rattle.std.proofs.lemmas.List.{get_or-map}
-use Rattle.viz_extent.specs.Extent.{Bounds, size_x, plane_size, count_of, IsExtent, Has}
+use Rattle.viz_extent.specs.Extent.{Bounds, size_x, plane_size, count_of, Has}
 use Rattle.viz_extent.specs.Numbering.{index_at}
 use Rattle.viz_extent.specs.Parts.{IsPart, Rate, IsRate, spread}
 use Rattle.viz_extent.proofs.NumberingLemmas.{index_at_below}
 use Rattle.viz_extent.proofs.PartLemmas.{points_of_part, spread_points}
-use Rattle.viz_dataset.specs.Images.{ImageData, IsImage, number_at}
+use Rattle.viz_dataset.specs.Images.{ImageData, IsImage}
 use Rattle.viz_meaning.specs.ImageFilters.{sample_of, wider_steps}
-use Rattle.viz_meaning.specs.WholeImages.{WholeImage, IsOn, GivesOn}
+use Rattle.viz_meaning.specs.WholeImages.{GivesOn}
 use Rattle.viz_image_ops.specs.Joined.{values_on}
 use Rattle.viz_image_ops.specs.Steps.{sampled_at}
 use Rattle.viz_image_ops.proofs.JoinedLemmas.{get_or-values_on}

@@ -9,10 +9,12 @@
 mod arithmetic;
 mod cropping;
 mod lane;
+mod laws;
 mod sampling;
 mod thresholding;
 
 pub use arithmetic::arith;
 pub use cropping::crop;
+pub use laws::{parts_are_determined, whole_thresholds_keep_each};
 pub use sampling::sample;
 pub use thresholding::threshold;

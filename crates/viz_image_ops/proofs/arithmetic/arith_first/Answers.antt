@@ -1,4 +1,4 @@
-use Rattle.std.proofs.Common.{◌≡◌, sym, ◌∙◌, rules}
+use Rattle.std.proofs.Common.{◌≡◌, rules}
 use Rattle.std.proofs.lemmas.Result.{IfOk-weaker}
 use Rattle.viz_meaning.specs.ImageFilters.{arith_of}
 use Rattle.viz_meaning.specs.WholeImages.{GivesOnBoth}

@@ -1,4 +1,4 @@
-use Rattle.std.proofs.Common.{◌≡◌, ℤ, map, length, pos, get_or, to_z, of_z, ap, ap₂, ◌∙◌, arith, ◌<◌}
+use Rattle.std.proofs.Common.{◌≡◌, map, length, to_z, of_z, ap, ap₂, ◌∙◌, arith, ◌<◌}
 use Rattle.std.specs.Int.{w64, w128}
 use Rattle.std.proofs.lemmas.Int.{ints}
 use Rattle.std.proofs.lemmas.List.{length-map}

@@ -1,4 +1,4 @@
-use Rattle.std.proofs.Common.{◌≡◌, ℕ, ◌+◌, ◌-◌, ◌*◌, ◌++◌, ◌≤◌, map, pos, get_or, ap, ◌∙◌, sym, arith}
+use Rattle.std.proofs.Common.{◌≡◌, ℕ, ◌+◌, ◌-◌, ◌*◌, ◌++◌, map, pos, get_or, ap, ◌∙◌, sym, arith}
 use Rattle.viz_image_ops.specs.Joined.{run_of}
 use Rattle.viz_image_ops.proofs.JoinedLemmas.{run_more}
 use Rattle.viz_image_ops.proofs.SampleLemmas.{value_read}

@@ -1,4 +1,4 @@
-use Rattle.std.proofs.Common.{◌≡◌, ℕ, ◌+◌, ◌*◌, ◌++◌, map, get_or, pos}
+use Rattle.std.proofs.Common.{◌≡◌, ◌+◌, ◌*◌, ◌++◌, map, get_or, pos}
 use Rattle.viz_image_ops.specs.Joined.{run_of}
 use Rattle.viz_image_ops.proofs.sampling.push_every.Given as goal
 

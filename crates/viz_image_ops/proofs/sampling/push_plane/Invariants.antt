@@ -1,4 +1,4 @@
-use Rattle.std.proofs.Common.{◌≡◌, ℕ, ◌-◌, ◌≤◌, ◌++◌, map}
+use Rattle.std.proofs.Common.{◌≡◌, ◌-◌, ◌++◌, map}
 use Rattle.viz_extent.specs.Extent.{size_x}
 use Rattle.viz_extent.specs.Parts.{rate_of}
 use Rattle.viz_image_ops.specs.Joined.{joined, run_of}

@@ -1,4 +1,4 @@
-use Rattle.std.proofs.Common.{◌≡◌, length, ap, ◌∙◌}
+use Rattle.std.proofs.Common.{length, ap, ◌∙◌}
 use Rattle.viz_column.specs.Numbers.{Numbers}
 use Rattle.viz_extent.specs.Extent.{Bounds}
 use Rattle.viz_extent.specs.Parts.{rate_of}

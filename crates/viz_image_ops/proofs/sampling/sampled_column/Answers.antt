@@ -1,4 +1,4 @@
-use Rattle.std.proofs.Common.{◌≡◌, ℕ, ◌≤◌, [], map, arith}
+use Rattle.std.proofs.Common.{ℕ, ◌≤◌, [], map, arith}
 use Rattle.viz_extent.specs.Extent.{size_x, size_y}
 use Rattle.viz_extent.specs.Parts.{rate_of}
 use Rattle.viz_extent.proofs.PartLemmas.{numbers-read}

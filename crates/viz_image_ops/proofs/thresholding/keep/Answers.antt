@@ -1,4 +1,4 @@
-use Rattle.std.proofs.Common.{◌≡◌, ℕ, pos, replicate, map, length, ap, ◌∙◌, sym}
+use Rattle.std.proofs.Common.{ℕ, pos, replicate, map, ap, ◌∙◌, sym}
 use Rattle.std.proofs.lemmas.List.{length-map}
 use Rattle.viz_image_ops.proofs.KeptLemmas.{column_within, column_none}
 use Rattle.viz_image_ops.proofs.thresholding.keep.Goals as goal

@@ -1,8 +1,7 @@
-use Rattle.std.proofs.Common.{◌≡◌, ℤ, to_z, of_z, ap, ap₂, ◌∙◌, rules, arith, true, ◌<ℤ◌, ◌≤ℤ◌}
-use Rattle.std.specs.Int.{w64, w128, int_max, int_min}
-use Rattle.std.proofs.lemmas.Int.{ints, to_z-of_z}
+use Rattle.std.proofs.Common.{◌≡◌, to_z, of_z, ap, ap₂, ◌∙◌, arith, ◌<ℤ◌, ◌≤ℤ◌}
+use Rattle.std.specs.Int.{w128, int_max, int_min}
+use Rattle.std.proofs.lemmas.Int.{ints}
 use Rattle.viz_column.specs.Kinds.{fits}
-use Rattle.viz_image_ops.specs.Steps.{SelectSame}
 use Rattle.viz_image_ops.proofs.RangeLemmas.{AreBrought, low_fits, high_fits, select_same, select_none}
 use Rattle.viz_image_ops.proofs.thresholding.own_bounds.Goals as goal
 

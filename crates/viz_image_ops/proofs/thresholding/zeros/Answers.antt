@@ -1,4 +1,4 @@
-use Rattle.std.proofs.Common.{◌≡◌, ℤ, pos, map, replicate, List, ap, ◌∙◌, rules, arith}
+use Rattle.std.proofs.Common.{rules}
 use Rattle.viz_image_ops.proofs.KeptLemmas.{map-zeros}
 use Rattle.viz_image_ops.proofs.thresholding.zeros.Goals as goal
 
