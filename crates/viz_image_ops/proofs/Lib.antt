@@ -4,3 +4,5 @@ pub mod RangeLemmas
 pub mod KeptLemmas
 pub mod SampleLemmas
 pub mod ArithLemmas
+pub mod SumLemmas
+pub mod MeanLemmas

@@ -1,6 +1,7 @@
-//! The eight types whose numbers are compared in lanes, as one to a generic function.
+//! The eight types of numbers, as one to a generic function.
 
-ghost use Rattle.std.specs.Prelude.{◌≡◌, map, IfOk};
+ghost use Rattle.std.specs.Prelude.{◌≡◌, true, map, IfOk};
+ghost use Rattle.viz_column.specs.Kinds.{fits};
 ghost use Rattle.viz_lanes.specs.Planes.{within};
 
 use std::alloc::{AllocError, Global};
@@ -16,6 +17,17 @@ pub(crate) trait Lane: Number {
     fn within(alloc: Global, numbers: &[Self], lo: Self, hi: Self) -> Result<Bits, AllocError>
         ensures { IfOk result (λ bits.
             bits ≡ within (Self.value lo) (Self.value hi) (map Self.value numbers.now)) };
+}
+
+/// The number of a type that a number in its range is.
+pub(crate) fn own<T: Number>(n: &i128) -> T
+    requires { fits T.kind n.now ≡ true }
+    ensures { T.value result ≡ n.now }
+{
+    match T::of_whole(*n) {
+        Some(number) => number,
+        None => unreachable!(),
+    }
 }
 
 impl Lane for i8 {

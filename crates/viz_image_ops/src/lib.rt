@@ -10,11 +10,16 @@ mod arithmetic;
 mod cropping;
 mod lane;
 mod laws;
+mod means;
 mod sampling;
+mod smoothing;
+mod sums;
 mod thresholding;
+mod window;
 
 pub use arithmetic::arith;
 pub use cropping::crop;
 pub use laws::{parts_are_determined, whole_thresholds_keep_each};
 pub use sampling::sample;
+pub use smoothing::smooth;
 pub use thresholding::threshold;

@@ -11,7 +11,7 @@ ghost use Rattle.viz_meaning.specs.Threshold.{kept_numbers};
 ghost use Rattle.viz_meaning.specs.WholeImages.{GivesOn};
 ghost use Rattle.viz_image_ops.specs.Steps.{IsLeast, IsMost, SelectSame, SelectNone, AreKept};
 
-use crate::lane::Lane;
+use crate::lane::{Lane, own};
 use std::alloc::{AllocError, Global};
 use viz_column::{Column, Kind8, Lent, Number};
 use viz_dataset::Image;
@@ -124,17 +124,6 @@ fn bounds_of<T: Number>(lo: &i64, hi: &i64) -> Option<(T, T)>
 {
     let (lo, hi) = own_bounds(T::kind(), lo, hi)?;
     Some((own(&lo), own(&hi)))
-}
-
-/// The number of a type that a number in its range is.
-fn own<T: Number>(n: &i128) -> T
-    requires { fits T.kind n.now ≡ true }
-    ensures { T.value result ≡ n.now }
-{
-    match T::of_whole(*n) {
-        Some(number) => number,
-        None => unreachable!(),
-    }
 }
 
 /// Two bounds, each brought to the nearer end of a type where it lies outside, or `None` where no
