@@ -1,5 +1,5 @@
 -- Sums of values at indices that follow each other.
-use Rattle.std.proofs.Common.{◌≡◌, ℕ, zero, suc, ◌+◌, ◌-◌, ◌*◌, ◌^◌, ◌<◌, ◌≤◌, ℤ, pos, negsuc, ◌+ℤ◌, ◌-ℤ◌, ◌≤ℤ◌, ◌≢◌, List, length, map, get_or, set, take, drop, to_z, of_z, refl, sym, ap, ap₂, ◌∙◌, arith, inl, inr}
+use Rattle.std.proofs.Common.{◌≡◌, ℕ, zero, suc, ◌+◌, ◌-◌, ◌*◌, ◌^◌, ◌<◌, ◌≤◌, ℤ, pos, negsuc, ◌+ℤ◌, ◌-ℤ◌, ◌≤ℤ◌, ◌≢◌, List, length, map, get_or, set, take, drop, to_z, of_z, FitsSigned, refl, sym, ap, ap₂, ◌∙◌, arith, inl, inr}
 use Rattle.std.specs.Prelude.{neg_ℤ}
 use Rattle.std.specs.Int.{w128}
 use Rattle.std.proofs.lemmas.Bool.{cases_lt}
@@ -180,3 +180,52 @@ place_sums_less xs sums new c behind long before are each p below =
   where
     taken : (new old first rest : ℤ) → new ≡ old -ℤ first → old ≡ first +ℤ rest → new ≡ rest
     taken new old first rest is was = omega (arith, ints, is, was)
+
+-- a number of a list that has room
+pub item_within : (xs : List ℤ) (count p : ℕ) → HasRoom count xs → 0 < count → p < length xs → IsWithin (2 ^ 96) (2 ^ 96) (get_or xs p (pos 0))
+item_within xs count p room some below =
+    let once : 1 * room.bound ≤ count * room.bound = mul-le 1 room.bound count room.bound some (omega arith) in
+    wider room.bound (2 ^ 96) (get_or xs p (pos 0)) (room.within p below) (omega (arith, once, room.most))
+
+-- the sum of some that follow each other
+pub run_within : (xs : List ℤ) (count first n : ℕ) → HasRoom count xs → n ≤ count → first + n ≤ length xs
+    → IsWithin (2 ^ 96) (2 ^ 96) (sum_of (λ p. get_or xs p (pos 0)) first n)
+run_within xs count first n room few inside =
+    let value = λ (p : ℕ). get_or xs p (pos 0) in
+    let sum = sum_within room.bound room.bound value first n (λ m below. room.within (first + m) (omega (arith, inside))) in
+    let most : n * room.bound ≤ count * room.bound = mul-le n room.bound count room.bound few (omega arith) in
+    wider (n * room.bound) (2 ^ 96) (sum_of value first n) sum (omega (arith, most, room.most))
+
+-- such a sum and one number more, or one less, fit 128 bits
+pub sum_fits : (s n : ℤ) → IsWithin (2 ^ 96) (2 ^ 96) s → IsWithin (2 ^ 96) (2 ^ 96) n → FitsSigned w128 (s +ℤ to_z w128 (of_z w128 n))
+sum_fits s n first second = search (arith, ints, first.at_least, first.at_most, second.at_least, second.at_most)
+
+pub difference_fits : (s n : ℤ) → IsWithin (2 ^ 96) (2 ^ 96) s → IsWithin (2 ^ 96) (2 ^ 96) n → FitsSigned w128 (s -ℤ to_z w128 (of_z w128 n))
+difference_fits s n first second = search (arith, ints, first.at_least, first.at_most, second.at_least, second.at_most)
+
+-- the same with the numbers as they are kept
+pub sum_is : (s n : ℤ) → IsWithin (2 ^ 96) (2 ^ 96) s → IsWithin (2 ^ 96) (2 ^ 96) n
+    → to_z w128 (of_z w128 (s +ℤ to_z w128 (of_z w128 n))) ≡ s +ℤ n
+sum_is s n first second = omega (arith, ints, first.at_least, first.at_most, second.at_least, second.at_most)
+
+pub difference_is : (s n : ℤ) → IsWithin (2 ^ 96) (2 ^ 96) s → IsWithin (2 ^ 96) (2 ^ 96) n
+    → to_z w128 (of_z w128 (s -ℤ to_z w128 (of_z w128 n))) ≡ s -ℤ n
+difference_is s n first second = omega (arith, ints, first.at_least, first.at_most, second.at_least, second.at_most)
+
+-- a sum up to an index, one number more
+pub run_more : (f : ℕ → ℤ) (first p : ℕ) (s : ℤ) → first ≤ p → s ≡ sum_of f first (p - first) → s +ℤ f p ≡ sum_of f first (p + 1 - first)
+run_more f first p s from is =
+    let at : p ≡ first + (p - first) = omega arith in
+    let next : p - first + 1 ≡ p + 1 - first = omega arith in
+    ap (λ (t : ℤ). t +ℤ f p) is ∙ ap (λ (m : ℕ). sum_of f first (p - first) +ℤ f m) at ∙ sym (sum_more f first (p - first)) ∙ ap (sum_of f first) next
+
+-- a sum from an index, one number less
+pub run_less : (f : ℕ → ℤ) (p behind : ℕ) (s : ℤ) → p < behind → s ≡ sum_of f p (behind - p) → s -ℤ f p ≡ sum_of f (p + 1) (behind - (p + 1))
+run_less f p behind s before is =
+    let left = behind - (p + 1) in
+    let one : behind - p ≡ left + 1 = omega arith in
+    let all : s ≡ f p +ℤ sum_of f (p + 1) left = is ∙ ap (sum_of f p) one ∙ sum_less f p left in
+    taken s (f p) (sum_of f (p + 1) left) all
+  where
+    taken : (s first rest : ℤ) → s ≡ first +ℤ rest → s -ℤ first ≡ rest
+    taken s first rest was = omega (arith, ints, was)
