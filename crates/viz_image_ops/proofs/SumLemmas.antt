@@ -123,7 +123,7 @@ value_in_list value xs c long p below =
     ∙ number_in_list (map value xs) c long p below
 
 -- a place of a list before the last is a place of all
-place_below : (c long p count all : ℕ) → p < long → c < count → count * long ≤ all → c * long + p < all
+pub place_below : (c long p count all : ℕ) → p < long → c < count → count * long ≤ all → c * long + p < all
 place_below c long p count all below before long_enough = omega (arith, mul-add-lt c long p count before below, long_enough)
 
 -- a wider range
