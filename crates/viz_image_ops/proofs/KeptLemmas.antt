@@ -29,7 +29,7 @@ both_true : (a b : Bool) → (a && b) ≡ true → (a ≡ true) × (b ≡ true)
 both_true true b h = (refl, h)
 both_true false b h = cc
 
-passes_at : (p : ℤ → Bool) (xs : List ℤ) (i : ℕ) → list_all p xs ≡ true → i < length xs → p (get_or xs i (pos 0)) ≡ true
+pub passes_at : (p : ℤ → Bool) (xs : List ℤ) (i : ℕ) → list_all p xs ≡ true → i < length xs → p (get_or xs i (pos 0)) ≡ true
 passes_at p [] i all below = absurd (omega arith)
 passes_at p (x ∷ xs) zero all below = (both_true (p x) (list_all p xs) all).0
 passes_at p (x ∷ xs) (suc i) all below =
@@ -59,7 +59,7 @@ kept_none kind lo hi xs ys own none is = is ∙ zeros_are xs own
         let zero_is : pos 0 ≡ kept_value lo hi x = sym (ap (λ (bit : Bool). cond bit x (pos 0)) (none x parts.0)) in
         ap₂ (λ (y : ℤ) (ys : List ℤ). y ∷ ys) zero_is (zeros_are xs parts.1)
 
-abbrev with_kind : Kind8 → List ℤ → Numbers
+abbrev pub with_kind : Kind8 → List ℤ → Numbers
 with_kind kind items = record { kind = kind; items = items }
 
 -- the same of columns

@@ -6,3 +6,4 @@ pub mod SampleLemmas
 pub mod ArithLemmas
 pub mod SumLemmas
 pub mod MeanLemmas
+pub mod SmoothLemmas

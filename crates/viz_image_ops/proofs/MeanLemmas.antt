@@ -247,3 +247,10 @@ planes_are xs plane axes out k first behind reaches valid long sums is_first is_
             sums (b * width + p) here ∙ ap (λ (n : ℕ). place_sum xs n first (behind - first) (b * width + p)) long
             ∙ ap₂ (λ (a n : ℕ). place_sum xs (width * axes.y.places) a n (b * width + p)) is_first size)))
         (ap (λ (n : ℕ). n * window_size axes.y j * window_size axes.x i) size)))
+
+-- few planes
+pub few_planes : (x y z n : ℕ) → 0 < x → 0 < y → n ≤ z → x * y * z < 2 ^ 31 → 1 * n < 2 ^ 31
+few_planes x y z n some_x some_y below few =
+    let some : 0 < x * y = some_product x y some_x some_y in
+    let all : 1 * n ≤ x * y * z = mul-le 1 n (x * y) z some below in
+    omega (arith, all, few)

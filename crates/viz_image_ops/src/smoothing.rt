@@ -1,7 +1,7 @@
 //! Means over the points round each point of an image.
 
 ghost use Rattle.std.specs.Prelude.{◌≡◌, ℕ, ◌≤◌, pos, length, map, slice_index_or, IfOk};
-ghost use Rattle.viz_extent.specs.Extent.{size_of, count_of};
+ghost use Rattle.viz_extent.specs.Extent.{size_of, count_of, IsExtent};
 ghost use Rattle.viz_extent.specs.Parts.{IsPart, grown};
 ghost use Rattle.viz_column.specs.Numbers.{AreInRange};
 ghost use Rattle.viz_meaning.specs.ImageFilters.{smooth_within};
@@ -105,8 +105,10 @@ fn axes_of(radius: u32, whole: &Extent, out: &Extent) -> Axes
     requires whole { IsPart whole.now out.now }
     ensures value { result ≡ round_axes radius whole.now out.now }
     ensures reaches { AreReaches result out.now }
+    ensures valid { IsExtent out.now }
 {
     let round = out.grow(radius, whole);
+    // What the extents keep by themselves.
     let _count = round.count();
     let _points = out.bounds();
     let [wx0, wx1, wy0, wy1, wz0, wz1] = whole.bounds();
