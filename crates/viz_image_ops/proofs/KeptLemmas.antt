@@ -41,11 +41,11 @@ pub kept_within : (kind : Kind8) (lo hi a b : ℤ) (xs ys : List ℤ) → list_a
 kept_within kind lo hi a b xs ys own same kept =
     let long : length ys ≡ length (map (kept_value lo hi) xs) = kept.long ∙ sym (length-map xs (kept_value lo hi)) in
     ext_get_or (pos 0) ys (map (kept_value lo hi) xs) long (λ i below.
-      let here : i < length xs = omega (arith, kept.long) in
-      let x = get_or xs i (pos 0) in
-      let chosen : get_or (within a b xs) i false ≡ is_within lo hi x =
-      get_or-map (is_within a b) xs i (pos 0) false here ∙ same x (passes_at (fits kind) xs i own here) in
-      kept.each i here ∙ ap (λ (bit : Bool). cond bit x (pos 0)) chosen ∙ sym (get_or-map (kept_value lo hi) xs i (pos 0) (pos 0) here))
+    let here : i < length xs = omega (arith, kept.long) in
+    let x = get_or xs i (pos 0) in
+    let chosen : get_or (within a b xs) i false ≡ is_within lo hi x =
+    get_or-map (is_within a b) xs i (pos 0) false here ∙ same x (passes_at (fits kind) xs i own here) in
+    kept.each i here ∙ ap (λ (bit : Bool). cond bit x (pos 0)) chosen ∙ sym (get_or-map (kept_value lo hi) xs i (pos 0) (pos 0) here))
 
 -- where none is selected, all are 0
 pub kept_none : (kind : Kind8) (lo hi : ℤ) (xs ys : List ℤ) → list_all (fits kind) xs ≡ true → SelectNone kind lo hi

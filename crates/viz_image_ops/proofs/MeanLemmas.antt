@@ -128,6 +128,7 @@ room_of kind xs count places are few =
     below_most U32 = omega arith
     below_most I64 = omega arith
     below_most U64 = omega arith
+
     above_most : (kind : Kind8) → reach_above kind ≤ 2 ^ 64
     above_most I8 = omega arith
     above_most U8 = omega arith
@@ -137,6 +138,7 @@ room_of kind xs count places are few =
     above_most U32 = omega arith
     above_most I64 = omega arith
     above_most U64 = omega arith
+
     widened : (b a d : ℕ) (z : ℤ) → IsWithin b a z → b ≤ d → a ≤ d → IsWithin d d z
     widened b a d z within low high = record {
       at_least = omega (arith, ints, within.at_least, low);
@@ -151,7 +153,7 @@ sum_of_sums kind count first n f each =
     let high : n * (count * reach_above kind) ≡ count * n * reach_above kind = omega arith in
     subst (λ (b : ℕ). IsWithin b (count * n * reach_above kind) (sum_of f first n)) low
     (subst (λ (a : ℕ). IsWithin (n * (count * reach_below kind)) a (sum_of f first n)) high
-      (sum_within (count * reach_below kind) (count * reach_above kind) f first n each))
+    (sum_within (count * reach_below kind) (count * reach_above kind) f first n each))
 
 -- the sum of a row in a window
 pub row_sum_within : (kind : Kind8) (row : List ℤ) (rows first n : ℕ) → AreSumsOf kind rows row → first + n ≤ length row
@@ -167,7 +169,7 @@ place_sums_within kind xs sums count first behind lists are sums_are few enough 
     let value = λ (c : ℕ). get_or xs (c * long + p) (pos 0) in
     subst (λ (z : ℤ). IsWithin (count * (behind - first) * reach_below kind) (count * (behind - first) * reach_above kind) z) (sym (sums_are p below))
     (sum_of_sums kind count first (behind - first) value (λ m lt.
-      are ((first + m) * long + p) (place_below (first + m) long p lists (length xs) below (omega arith) enough)))
+    are ((first + m) * long + p) (place_below (first + m) long p lists (length xs) below (omega arith) enough)))
 
 -- room for fewer
 pub less_room : (xs : List ℤ) (m n : ℕ) → HasRoom n xs → m ≤ n → HasRoom m xs
@@ -210,15 +212,15 @@ pub rows_are : (plane row : List ℤ) (planes : ℕ) (axes : Axes) (j first behi
 rows_are plane row planes axes j first behind x0 x1 reach order long sums is_first is_behind =
     let size : behind - first ≡ window_size axes.y j = ap₂ (λ (a b : ℕ). a - b) is_behind is_first in
     run_same (row_mean row (planes * (behind - first)) axes.x) (λ i. plane_mean plane planes axes i j) x0 x0 (size_of x0 x1) (λ m below.
-      let i = x0 + m in
-      let places = window_places axes.x x0 x1 i reach (omega arith) (omega (arith, below, order)) in
-      ap₂ floor_of
-      (sum_same (λ p. get_or row p (pos 0)) (λ p. place_sum plane axes.x.places (window_first axes.y j) (window_size axes.y j) p) (window_first axes.x i) (window_first axes.x i) (window_size axes.x i) (λ q lt.
-        let p = window_first axes.x i + q in
-        let here : p < length row = omega (arith, lt, places, long) in
-        sums p here ∙ ap (λ (n : ℕ). place_sum plane n first (behind - first) p) long
-        ∙ ap₂ (λ (a n : ℕ). place_sum plane axes.x.places a n p) is_first size))
-      (ap (λ (n : ℕ). planes * n * window_size axes.x i) size))
+    let i = x0 + m in
+    let places = window_places axes.x x0 x1 i reach (omega arith) (omega (arith, below, order)) in
+    ap₂ floor_of
+    (sum_same (λ p. get_or row p (pos 0)) (λ p. place_sum plane axes.x.places (window_first axes.y j) (window_size axes.y j) p) (window_first axes.x i) (window_first axes.x i) (window_size axes.x i) (λ q lt.
+    let p = window_first axes.x i + q in
+    let here : p < length row = omega (arith, lt, places, long) in
+    sums p here ∙ ap (λ (n : ℕ). place_sum plane n first (behind - first) p) long
+    ∙ ap₂ (λ (a n : ℕ). place_sum plane axes.x.places a n p) is_first size))
+    (ap (λ (n : ℕ). planes * n * window_size axes.x i) size))
 
 -- in a plane of sums of all numbers there are the means of all
 pub planes_are : (xs plane : List ℤ) (axes : Axes) (out : Bounds) (k first behind : ℕ) → AreReaches axes out → IsExtent out
@@ -230,23 +232,23 @@ planes_are xs plane axes out k first behind reaches valid long sums is_first is_
     let width = axes.x.places in
     let sum = λ (p : ℕ). place_sum xs (width * axes.y.places) (window_first axes.z k) (window_size axes.z k) p in
     joined_same (λ j. run_of (λ i. plane_mean plane (behind - first) axes i j) out.x0 (size_x out)) (λ j. run_of (λ i. place_mean xs axes i j k) out.x0 (size_x out)) out.y0 out.y0 (size_y out) (λ n lt_y.
-      let j = out.y0 + n in
-      let rows = window_places axes.y out.y0 out.y1 j reaches.y (omega arith) (omega (arith, lt_y, valid.y.order)) in
-      run_same (λ i. plane_mean plane (behind - first) axes i j) (λ i. place_mean xs axes i j k) out.x0 out.x0 (size_x out) (λ m lt_x.
-        let i = out.x0 + m in
-        let places = window_places axes.x out.x0 out.x1 i reaches.x (omega arith) (omega (arith, lt_x, valid.x.order)) in
-        ap₂ floor_of
-        (sum_same (λ p. place_sum plane width (window_first axes.y j) (window_size axes.y j) p) (λ p. sum_of (λ b. sum (b * width + p)) (window_first axes.y j) (window_size axes.y j)) (window_first axes.x i) (window_first axes.x i) (window_size axes.x i) (λ q lt.
-          let p = window_first axes.x i + q in
-          let in_row : p < width = omega (arith, lt, places) in
-          sum_same (λ b. get_or plane (b * width + p) (pos 0)) (λ b. sum (b * width + p)) (window_first axes.y j) (window_first axes.y j) (window_size axes.y j) (λ s lt_s.
-            let b = window_first axes.y j + s in
-            let row : b < axes.y.places = omega (arith, lt_s, rows) in
-            let product : axes.y.places * width ≡ width * axes.y.places = omega arith in
-            let here : b * width + p < length plane = place_below b width p axes.y.places (length plane) in_row row (omega (arith, product, long)) in
-            sums (b * width + p) here ∙ ap (λ (n : ℕ). place_sum xs n first (behind - first) (b * width + p)) long
-            ∙ ap₂ (λ (a n : ℕ). place_sum xs (width * axes.y.places) a n (b * width + p)) is_first size)))
-        (ap (λ (n : ℕ). n * window_size axes.y j * window_size axes.x i) size)))
+    let j = out.y0 + n in
+    let rows = window_places axes.y out.y0 out.y1 j reaches.y (omega arith) (omega (arith, lt_y, valid.y.order)) in
+    run_same (λ i. plane_mean plane (behind - first) axes i j) (λ i. place_mean xs axes i j k) out.x0 out.x0 (size_x out) (λ m lt_x.
+    let i = out.x0 + m in
+    let places = window_places axes.x out.x0 out.x1 i reaches.x (omega arith) (omega (arith, lt_x, valid.x.order)) in
+    ap₂ floor_of
+    (sum_same (λ p. place_sum plane width (window_first axes.y j) (window_size axes.y j) p) (λ p. sum_of (λ b. sum (b * width + p)) (window_first axes.y j) (window_size axes.y j)) (window_first axes.x i) (window_first axes.x i) (window_size axes.x i) (λ q lt.
+    let p = window_first axes.x i + q in
+    let in_row : p < width = omega (arith, lt, places) in
+    sum_same (λ b. get_or plane (b * width + p) (pos 0)) (λ b. sum (b * width + p)) (window_first axes.y j) (window_first axes.y j) (window_size axes.y j) (λ s lt_s.
+    let b = window_first axes.y j + s in
+    let row : b < axes.y.places = omega (arith, lt_s, rows) in
+    let product : axes.y.places * width ≡ width * axes.y.places = omega arith in
+    let here : b * width + p < length plane = place_below b width p axes.y.places (length plane) in_row row (omega (arith, product, long)) in
+    sums (b * width + p) here ∙ ap (λ (n : ℕ). place_sum xs n first (behind - first) (b * width + p)) long
+    ∙ ap₂ (λ (a n : ℕ). place_sum xs (width * axes.y.places) a n (b * width + p)) is_first size)))
+    (ap (λ (n : ℕ). n * window_size axes.y j * window_size axes.x i) size)))
 
 -- few planes
 pub few_planes : (x y z n : ℕ) → 0 < x → 0 < y → n ≤ z → x * y * z < 2 ^ 31 → 1 * n < 2 ^ 31

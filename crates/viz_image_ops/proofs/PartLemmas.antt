@@ -164,8 +164,8 @@ same_items : (b : Bounds) (xs ys : List ℤ) → IsExtent b → length xs ≡ co
     → ((i j k : ℕ) → Has b i j k → get_or xs (index_at b i j k) (pos 0) ≡ get_or ys (index_at b i j k) (pos 0)) → xs ≡ ys
 same_items b xs ys valid long_x long_y each =
     ext_get_or (pos 0) xs ys (long_x ∙ sym long_y) (λ p below.
-      let at = point_of b p valid (rw (← long_x) below) in
-      ap (λ (n : ℕ). get_or xs n (pos 0)) (sym at.number) ∙ each at.i at.j at.k at.has ∙ ap (λ (n : ℕ). get_or ys n (pos 0)) at.number)
+    let at = point_of b p valid (rw (← long_x) below) in
+    ap (λ (n : ℕ). get_or xs n (pos 0)) (sym at.number) ∙ each at.i at.j at.k at.has ∙ ap (λ (n : ℕ). get_or ys n (pos 0)) at.number)
 
 abbrev with_parts : Bounds → Vector → Vector → Kind8 → List ℤ → ImageData
 with_parts e o s k xs =
@@ -188,9 +188,8 @@ part_is_determined w part a b on_a on_b =
     let long : length b.values.items ≡ count_of a.extent = on_b.valid.count ∙ ap count_of (sym same) in
     same_image a b same (on_a.origin ∙ sym on_b.origin) (on_a.spacing ∙ sym on_b.spacing) (on_a.kind ∙ sym on_b.kind)
     (same_items a.extent a.values.items b.values.items on_a.valid.extent on_a.valid.count long (λ i j k has.
-      let here : Has part i j k = subst (λ (e : Bounds). Has e i j k) on_a.extent has in
-      on_a.numbers i j k here ∙ sym (on_b.numbers i j k here) ∙ ap (λ (e : Bounds). get_or b.values.items (index_at e i j k) (pos 0)) (sym same)))
-
+    let here : Has part i j k = subst (λ (e : Bounds). Has e i j k) on_a.extent has in
+    on_a.numbers i j k here ∙ sym (on_b.numbers i j k here) ∙ ap (λ (e : Bounds). get_or b.values.items (index_at e i j k) (pos 0)) (sym same)))
 
 -- a threshold on the whole extent of its input has each number of the input, kept or 0
 pub whole_threshold : WholeThreshold
@@ -201,7 +200,7 @@ whole_threshold lo hi input output valid gives =
     length-map input.values.items (kept_value lo hi) ∙ valid.count ∙ ap count_of (sym on.extent) in
     same_image output (thresholded lo hi input) on.extent on.origin on.spacing on.kind
     (same_items output.extent output.values.items kept on.valid.extent on.valid.count long (λ i j k has.
-      let here : Has input.extent i j k = subst (λ (e : Bounds). Has e i j k) on.extent has in
-      on.numbers i j k here
-      ∙ sym (get_or-map (kept_value lo hi) input.values.items (index_at input.extent i j k) (pos 0) (pos 0) (place_below input input.extent i j k refl valid here))
-      ∙ ap (λ (e : Bounds). get_or kept (index_at e i j k) (pos 0)) (sym on.extent)))
+    let here : Has input.extent i j k = subst (λ (e : Bounds). Has e i j k) on.extent has in
+    on.numbers i j k here
+    ∙ sym (get_or-map (kept_value lo hi) input.values.items (index_at input.extent i j k) (pos 0) (pos 0) (place_below input input.extent i j k refl valid here))
+    ∙ ap (λ (e : Bounds). get_or kept (index_at e i j k) (pos 0)) (sym on.extent)))

@@ -16,13 +16,13 @@ use Rattle.viz_image_ops.proofs.SumLemmas.{sum_same, sum_swap}
 pub values_same : (f g : ℕ → ℕ → ℕ → ℤ) (b : Bounds) → IsExtent b → ((i j k : ℕ) → Has b i j k → f i j k ≡ g i j k) → values_on f b ≡ values_on g b
 values_same f g b valid same =
     joined_same (λ k. joined (λ j. run_of (λ i. f i j k) b.x0 (size_x b)) b.y0 (size_y b)) (λ k. joined (λ j. run_of (λ i. g i j k) b.x0 (size_x b)) b.y0 (size_y b)) b.z0 b.z0 (size_z b) (λ n lt_z.
-      joined_same (λ j. run_of (λ i. f i j (b.z0 + n)) b.x0 (size_x b)) (λ j. run_of (λ i. g i j (b.z0 + n)) b.x0 (size_x b)) b.y0 b.y0 (size_y b) (λ m lt_y.
-        run_same (λ i. f i (b.y0 + m) (b.z0 + n)) (λ i. g i (b.y0 + m) (b.z0 + n)) b.x0 b.x0 (size_x b) (λ l lt_x.
-          same (b.x0 + l) (b.y0 + m) (b.z0 + n) (record {
-            x = record { at_least = omega arith; at_most = omega (arith, lt_x, valid.x.order) };
-            y = record { at_least = omega arith; at_most = omega (arith, lt_y, valid.y.order) };
-            z = record { at_least = omega arith; at_most = omega (arith, lt_z, valid.z.order) };
-          }))))
+    joined_same (λ j. run_of (λ i. f i j (b.z0 + n)) b.x0 (size_x b)) (λ j. run_of (λ i. g i j (b.z0 + n)) b.x0 (size_x b)) b.y0 b.y0 (size_y b) (λ m lt_y.
+    run_same (λ i. f i (b.y0 + m) (b.z0 + n)) (λ i. g i (b.y0 + m) (b.z0 + n)) b.x0 b.x0 (size_x b) (λ l lt_x.
+    same (b.x0 + l) (b.y0 + m) (b.z0 + n) (record {
+      x = record { at_least = omega arith; at_most = omega (arith, lt_x, valid.x.order) };
+      y = record { at_least = omega arith; at_most = omega (arith, lt_y, valid.y.order) };
+      z = record { at_least = omega arith; at_most = omega (arith, lt_z, valid.z.order) };
+    }))))
 
 -- sums over three axes in the order of the definition
 three_sums : (f : ℕ → ℕ → ℕ → ℤ) (a l b m c n : ℕ)
@@ -62,14 +62,14 @@ window_sums xs r box x lx y ly z lz in_x in_y in_z =
     let number = λ (i j k : ℕ). get_or xs (index_at r i j k) (pos 0) in
     let at = λ (p b c : ℕ). get_or xs (c * (w * h) + (b * w + p)) (pos 0) in
     sum_same (λ p. sum_of (λ b. sum_of (λ c. at p b c) z lz) y ly) (λ i. sum_of (λ j. sum_of (λ k. number i j k) box.z0 lz) box.y0 ly) x box.x0 lx (λ l lt_x.
-      sum_same (λ b. sum_of (λ c. at (x + l) b c) z lz) (λ j. sum_of (λ k. number (box.x0 + l) j k) box.z0 lz) y box.y0 ly (λ m lt_y.
-        sum_same (λ c. at (x + l) (y + m) c) (λ k. number (box.x0 + l) (box.y0 + m) k) z box.z0 lz (λ n lt_z.
-          let i : x + l ≡ box.x0 + l - r.x0 = omega (arith, in_x.place, in_x.from) in
-          let j : y + m ≡ box.y0 + m - r.y0 = omega (arith, in_y.place, in_y.from) in
-          let k : z + n ≡ box.z0 + n - r.z0 = omega (arith, in_z.place, in_z.from) in
-          ap (λ (t : ℕ). get_or xs t (pos 0))
-          (place_is w h (x + l) (y + m) (z + n) ∙ ap (λ (t : ℕ). t + (y + m) * w + (z + n) * (w * h)) i
-          ∙ ap₂ (λ (s t : ℕ). (box.x0 + l - r.x0) + s * w + t * (w * h)) j k))))
+    sum_same (λ b. sum_of (λ c. at (x + l) b c) z lz) (λ j. sum_of (λ k. number (box.x0 + l) j k) box.z0 lz) y box.y0 ly (λ m lt_y.
+    sum_same (λ c. at (x + l) (y + m) c) (λ k. number (box.x0 + l) (box.y0 + m) k) z box.z0 lz (λ n lt_z.
+    let i : x + l ≡ box.x0 + l - r.x0 = omega (arith, in_x.place, in_x.from) in
+    let j : y + m ≡ box.y0 + m - r.y0 = omega (arith, in_y.place, in_y.from) in
+    let k : z + n ≡ box.z0 + n - r.z0 = omega (arith, in_z.place, in_z.from) in
+    ap (λ (t : ℕ). get_or xs t (pos 0))
+    (place_is w h (x + l) (y + m) (z + n) ∙ ap (λ (t : ℕ). t + (y + m) * w + (z + n) * (w * h)) i
+    ∙ ap₂ (λ (s t : ℕ). (box.x0 + l - r.x0) + s * w + t * (w * h)) j k))))
     ∙ three_sums number box.x0 lx box.y0 ly box.z0 lz ∙ sizes number lx ly lz in_x.long in_y.long in_z.long
   where
     sizes : (number : ℕ → ℕ → ℕ → ℤ) (lx ly lz : ℕ) → lx ≡ size_x box → ly ≡ size_y box → lz ≡ size_z box
@@ -106,13 +106,13 @@ record IsOrdered (b : Bounds) : Type 0 where
 box_same : (f g : ℕ → ℕ → ℕ → ℤ) (b : Bounds) → IsOrdered b → ((i j k : ℕ) → Has b i j k → f i j k ≡ g i j k) → box_sum f b ≡ box_sum g b
 box_same f g b order same =
     sum_same (λ k. sum_of (λ j. sum_of (λ i. f i j k) b.x0 (size_x b)) b.y0 (size_y b)) (λ k. sum_of (λ j. sum_of (λ i. g i j k) b.x0 (size_x b)) b.y0 (size_y b)) b.z0 b.z0 (size_z b) (λ n lt_z.
-      sum_same (λ j. sum_of (λ i. f i j (b.z0 + n)) b.x0 (size_x b)) (λ j. sum_of (λ i. g i j (b.z0 + n)) b.x0 (size_x b)) b.y0 b.y0 (size_y b) (λ m lt_y.
-        sum_same (λ i. f i (b.y0 + m) (b.z0 + n)) (λ i. g i (b.y0 + m) (b.z0 + n)) b.x0 b.x0 (size_x b) (λ l lt_x.
-          same (b.x0 + l) (b.y0 + m) (b.z0 + n) (record {
-            x = record { at_least = omega arith; at_most = omega (arith, lt_x, order.x) };
-            y = record { at_least = omega arith; at_most = omega (arith, lt_y, order.y) };
-            z = record { at_least = omega arith; at_most = omega (arith, lt_z, order.z) };
-          }))))
+    sum_same (λ j. sum_of (λ i. f i j (b.z0 + n)) b.x0 (size_x b)) (λ j. sum_of (λ i. g i j (b.z0 + n)) b.x0 (size_x b)) b.y0 b.y0 (size_y b) (λ m lt_y.
+    sum_same (λ i. f i (b.y0 + m) (b.z0 + n)) (λ i. g i (b.y0 + m) (b.z0 + n)) b.x0 b.x0 (size_x b) (λ l lt_x.
+    same (b.x0 + l) (b.y0 + m) (b.z0 + n) (record {
+      x = record { at_least = omega arith; at_most = omega (arith, lt_x, order.x) };
+      y = record { at_least = omega arith; at_most = omega (arith, lt_y, order.y) };
+      z = record { at_least = omega arith; at_most = omega (arith, lt_z, order.z) };
+    }))))
 
 -- the box round a point of a part
 box_ordered : (radius : ℕ) (whole out : Bounds) (i j k : ℕ) → IsPart whole out → Has out i j k → IsOrdered (box_round radius whole i j k)
@@ -152,7 +152,7 @@ means-on radius whole out input output part same extent origin spacing kind item
           ∙ ap (λ (xs : List ℤ). get_or xs (index_at out i j k) (pos 0)) items
           ∙ get_or-values_on (λ i j k. mean_on number (box_round radius whole i j k)) out i j k (pos 0) has
           ∙ ap (λ (s : ℤ). floor_of s (count_of box)) (box_same number w.number box (box_ordered radius whole out i j k part has) (λ l m n in_box.
-            let there : Has input.extent l m n = subst (λ (e : Bounds). Has e l m n) (sym same) (box_within radius whole out i j k l m n has in_box) in
-            ap (λ (e : Bounds). get_or input.values.items (index_at e l m n) (pos 0)) (sym same) ∙ on.numbers l m n there));
+          let there : Has input.extent l m n = subst (λ (e : Bounds). Has e l m n) (sym same) (box_within radius whole out i j k l m n has in_box) in
+          ap (λ (e : Bounds). get_or input.values.items (index_at e l m n) (pos 0)) (sym same) ∙ on.numbers l m n there));
       valid = valid;
     }

@@ -151,7 +151,7 @@ sums_within xs sums first behind count room order few long_enough are p below =
     let long = length sums in
     let value = λ (c : ℕ). get_or xs (c * long + p) (pos 0) in
     let sum = sum_within room.bound room.bound value first (behind - first) (λ m lt.
-      room.within ((first + m) * long + p) (place_below (first + m) long p count (length xs) below (omega arith) long_enough)) in
+    room.within ((first + m) * long + p) (place_below (first + m) long p count (length xs) below (omega arith) long_enough)) in
     let most : (behind - first) * room.bound ≤ count * room.bound = mul-le (behind - first) room.bound count room.bound (omega arith) (omega arith) in
     rw (are p below) (wider ((behind - first) * room.bound) (2 ^ 96) (sum_of value first (behind - first)) sum (omega (arith, most, room.most)))
 

@@ -15,13 +15,7 @@ use viz_meaning::Op;
 /// The sum, the difference, the lesser or the greater of the numbers of two images at each point
 /// of `out`, which both contain: of 64 bits with a sign, and the nearer end of these where they
 /// don't hold it. The positions are those of the first image.
-pub fn arith(
-    alloc: Global,
-    a: &Image,
-    b: &Image,
-    op: Op,
-    out: &Extent,
-) -> Result<Image, AllocError>
+pub fn arith(alloc: Global, a: &Image, b: &Image, op: Op, out: &Extent) -> Result<Image, AllocError>
     requires first { IsPart a.now.extent out.now }
     requires second { IsPart b.now.extent out.now }
     ensures value { IfOk result (GivesOnBoth (arith_of op) a.now b.now out.now) }
@@ -79,12 +73,7 @@ fn reckon(alloc: Global, a: &Column, b: &Column, op: Op) -> Result<Column, Alloc
 }
 
 /// The same where the first numbers are of a type.
-fn reckon_with<T: Number>(
-    alloc: Global,
-    xs: &[T],
-    b: &Column,
-    op: Op,
-) -> Result<Column, AllocError>
+fn reckon_with<T: Number>(alloc: Global, xs: &[T], b: &Column, op: Op) -> Result<Column, AllocError>
     requires same { length (map T.value xs.now) ≡ length b.now.items }
     ensures { IfOk result (AreReckoned op
         (record { kind = T.kind; items = map T.value xs.now }) b.now) }

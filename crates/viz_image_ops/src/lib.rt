@@ -23,3 +23,10 @@ pub use laws::{parts_are_determined, whole_thresholds_keep_each};
 pub use sampling::sample;
 pub use smoothing::smooth;
 pub use thresholding::threshold;
+
+#[cfg(test)]
+mod smooth_tests;
+#[cfg(test)]
+mod test_images;
+#[cfg(test)]
+mod tests;

@@ -62,7 +62,7 @@ fn push_plane<T: Number>(
     requires range { AreSumsOf T.kind planes plane.now }
     ensures { OnOk result (map T.value means.new.items ≡ map T.value means.old.items
         ++ joined (λ j. run_of (λ i. plane_mean plane.now planes axes.now i j)
-            out.now.x0 (size_x out.now)) out.now.y0 (size_y out.now)) }
+        out.now.x0 (size_x out.now)) out.now.y0 (size_y out.now)) }
 {
     let [x0, x1, y0, y1, _, _] = out.bounds();
     clear(row);
@@ -73,7 +73,14 @@ fn push_plane<T: Number>(
         move_terms(row, plane, first, behind, next, next_behind);
         first = next;
         behind = next_behind;
-        push_row(means, row, planes * (behind - first) as u64, &axes.x, x0, x1)?;
+        push_row(
+            means,
+            row,
+            planes * (behind - first) as u64,
+            &axes.x,
+            x0,
+            x1,
+        )?;
     }
     Ok(())
 }
@@ -104,7 +111,7 @@ fn push_row<T: Number>(
     requires range { AreSumsOf T.kind rows row.now }
     ensures { OnOk result (map T.value means.new.items ≡ map T.value means.old.items
         ++ run_of (row_mean row.now rows axis.now) first_index
-            (size_of first_index last_index)) }
+        (size_of first_index last_index)) }
 {
     let mut sum = 0;
     let mut first = 0;

@@ -35,7 +35,7 @@ pub fn sample(
 }
 
 /// Steps between points that are longer by a rate.
-fn wider(spacing: &[i128; 3], rate: [u32; 3]) -> [i128; 3]
+pub(crate) fn wider(spacing: &[i128; 3], rate: [u32; 3]) -> [i128; 3]
     requires rate { IsRate (rate_of rate) }
     requires steps { IsSpacing (vector_of spacing.now) }
     ensures { vector_of result ≡ wider_steps (rate_of rate) (vector_of spacing.now) }
@@ -119,7 +119,7 @@ fn push_plane<T: Number>(
     requires z { IsOnAxis out.now.z0 out.now.z1 k }
     ensures { OnOk result (map T.value kept.new.items ≡ map T.value kept.old.items
         ++ joined (λ j. run_of (λ i. sampled_at (map T.value numbers.now) whole.now (rate_of rate)
-            i j k) out.now.x0 (size_x out.now)) out.now.y0 (size_y out.now)) }
+        i j k) out.now.x0 (size_x out.now)) out.now.y0 (size_y out.now)) }
 {
     let [_, _, y0, y1, _, _] = out.bounds();
     for j in y0..y1 + 1 {
@@ -145,11 +145,17 @@ fn push_row<T: Number>(
     requires z { IsOnAxis out.now.z0 out.now.z1 k }
     ensures { OnOk result (map T.value kept.new.items ≡ map T.value kept.old.items
         ++ run_of (λ i. sampled_at (map T.value numbers.now) whole.now (rate_of rate) i j k)
-            out.now.x0 (size_x out.now)) }
+        out.now.x0 (size_x out.now)) }
 {
     let [x0, x1, _, _, _, _] = out.bounds();
     let start = index_of_multiple(whole, rate, x0, j, k) as usize;
-    push_every(kept, numbers, start, rate[0] as usize, (x1 - x0) as usize + 1)
+    push_every(
+        kept,
+        numbers,
+        start,
+        rate[0] as usize,
+        (x1 - x0) as usize + 1,
+    )
 }
 
 /// The number of the point at the multiples of three indices.
@@ -176,7 +182,7 @@ fn push_every<T: Number>(
     requires within { (m : ℕ) → m < count → start + m * step < length numbers.now }
     ensures { OnOk result (map T.value kept.new.items ≡ map T.value kept.old.items
         ++ run_of (λ m. slice_index_or (map T.value numbers.now) (start + m * step) (pos 0))
-            0 count) }
+        0 count) }
 {
     for m in 0..count {
         kept.push(numbers[start + m * step])?;

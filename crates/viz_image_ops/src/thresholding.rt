@@ -74,12 +74,7 @@ fn keep<T: Lane>(alloc: Global, numbers: &[T], lo: &i64, hi: &i64) -> Result<Col
 }
 
 /// Each number between bounds of its own type, and 0 for every other.
-fn keep_within<T: Lane>(
-    alloc: Global,
-    numbers: &[T],
-    lo: T,
-    hi: T,
-) -> Result<Vec<T>, AllocError>
+fn keep_within<T: Lane>(alloc: Global, numbers: &[T], lo: T, hi: T) -> Result<Vec<T>, AllocError>
     ensures { IfOk result (λ v. AreKept (within (T.value lo) (T.value hi) (map T.value numbers.now))
         (map T.value numbers.now) (map T.value v.items)) }
 {
@@ -100,7 +95,11 @@ fn keep_selected<T: Number>(
     let zero = T::zero();
     let mut kept = Vec::with_capacity(alloc, numbers.len())?;
     for (i, number) in numbers.iter().enumerate() {
-        let number = if selected.get(i as u64) { *number } else { zero };
+        let number = if selected.get(i as u64) {
+            *number
+        } else {
+            zero
+        };
         kept.push(number)?;
     }
     Ok(kept)

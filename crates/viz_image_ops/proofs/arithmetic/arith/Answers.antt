@@ -14,6 +14,6 @@ returns c =
     record {
       value =
           IfOk-weaker c.arith_first-2.result (GivesOnBoth filter part b out) (GivesOnBoth filter a b out) (λ output gives.
-            through_first filter a part b output out out c.requires.first c.in_ok-part.ensures.value c.in_ok-part.ensures.valid gives)
+          through_first filter a part b output out out c.requires.first c.in_ok-part.ensures.value c.in_ok-part.ensures.valid gives)
           c.arith_first-2.ensures.value;
     }

@@ -29,6 +29,6 @@ returns c =
     record {
       value =
           IfOk-weaker c.arith_both-2.result (IsReckoned op a part) (GivesOnBoth (arith_of op) a b out) (λ output is.
-            through_second (arith_of op) a b part output out out c.requires.second c.in_ok-part.ensures.value c.in_ok-part.ensures.valid
-            (reckoned_both op a part output out c.requires.first c.in_ok-part.ensures.value.extent is)) c.arith_both-2.ensures;
+          through_second (arith_of op) a b part output out out c.requires.second c.in_ok-part.ensures.value c.in_ok-part.ensures.valid
+          (reckoned_both op a part output out c.requires.first c.in_ok-part.ensures.value.extent is)) c.arith_both-2.ensures;
     }

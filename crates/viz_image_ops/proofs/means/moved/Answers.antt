@@ -13,7 +13,7 @@ added_within : (c : goal.After-moved-in-loop-p-1) → IsWithin (2 ^ 96) (2 ^ 96)
 added_within c =
     subst (λ (z : ℤ). IsWithin (2 ^ 96) (2 ^ 96) z) (sym (so_far c))
     (run_within c.args.row.now c.args.next_behind c.args.first (c.loop-p.p - c.args.first) c.requires.room (omega (arith, c.loop-p-test.true))
-      (omega (arith, c.loop-p-test.true, c.loop-p.auto.p, c.requires.order, c.requires.within)))
+    (omega (arith, c.loop-p-test.true, c.loop-p.auto.p, c.requires.order, c.requires.within)))
 
 added_item : (c : goal.After-moved-in-loop-p-1) → IsWithin (2 ^ 96) (2 ^ 96) (get_or c.args.row.now c.loop-p.p (pos 0))
 added_item c =
@@ -34,7 +34,7 @@ left_within : (c : goal.After-moved-in-loop-p-2-1) → IsWithin (2 ^ 96) (2 ^ 96
 left_within c =
     subst (λ (z : ℤ). IsWithin (2 ^ 96) (2 ^ 96) z) (sym (left c))
     (run_within c.args.row.now c.args.next_behind c.loop-p-2.p (c.args.next_behind - c.loop-p-2.p) c.requires.room (omega arith)
-      (omega (arith, c.loop-p-2-test.true, c.requires.some, c.requires.within)))
+    (omega (arith, c.loop-p-2-test.true, c.requires.some, c.requires.within)))
 
 left_item : (c : goal.After-moved-in-loop-p-2-1) → IsWithin (2 ^ 96) (2 ^ 96) (get_or c.args.row.now c.loop-p-2.p (pos 0))
 left_item c =

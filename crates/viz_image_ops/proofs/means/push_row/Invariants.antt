@@ -10,5 +10,5 @@ abbrev pub invariant-loop-i : goal.invariant-loop-i
 invariant-loop-i g l = record {
   means : map g.T.Number.value l.means.items ≡ map g.T.Number.value l.fn.means.items ++ run_of (row_mean l.row l.rows l.axis) l.first_index (l.i - l.first_index);
   sum : l.sum ≡ sum_of (λ p. get_or l.row p (pos 0)) l.first (l.behind - l.first);
-  window : IsBehind l.axis l.i l.first l.behind
+  window : IsBehind l.axis l.i l.first l.behind;
 }

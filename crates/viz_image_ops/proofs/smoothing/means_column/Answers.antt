@@ -19,7 +19,7 @@ push_planes-requires-clause-range g c = λ p below.
     let high : reach_above kind ≡ 1 * reach_above kind = omega arith in
     subst (λ (b : ℕ). IsWithin b (1 * reach_above kind) (get_or xs p (pos 0))) low
     (subst (λ (a : ℕ). IsWithin (reach_below kind) a (get_or xs p (pos 0))) high
-      (within_fits kind (get_or xs p (pos 0)) (passes_at (fits kind) xs p c.requires.own below)))
+    (within_fits kind (get_or xs p (pos 0)) (passes_at (fits kind) xs p c.requires.own below)))
 
 pub returns : goal.returns
 returns g c =

@@ -14,6 +14,6 @@ returns c =
     record {
       value =
           IfOk-weaker c.smoothed-2.result (GivesOn filter part out) (GivesOn filter input out) (λ output gives.
-            through_part filter input part output c.grow-round.result out (rw c.grow-round.ensures.value c.requires.within) c.in_ok-part.ensures.value c.in_ok-part.ensures.valid gives)
+          through_part filter input part output c.grow-round.result out (rw c.grow-round.ensures.value c.requires.within) c.in_ok-part.ensures.value c.in_ok-part.ensures.valid gives)
           c.smoothed-2.ensures;
     }

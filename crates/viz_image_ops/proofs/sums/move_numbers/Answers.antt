@@ -13,8 +13,8 @@ add_numbers-requires-clause-terms g c =
     let enough : count * long ≤ length (map value ns) = omega (arith, c.requires.long, length-map ns value) in
     let before : c.loop-c.c < count = c.loop-c-test.true in
     λ p below.
-        let here : p < long = omega (arith, below, length-map (take (((c.loop-c.c) + 1) * long - c.loop-c.c * long) (drop (c.loop-c.c * long) ns)) value, length-list ns c.loop-c.c count long before c.requires.long) in
-        subst (λ (z : ℤ). IsWithin (2 ^ 96) (2 ^ 96) z) (sym (value_in_list value ns c.loop-c.c long p here)) (place_within (map value ns) c.loop-c.c long p count c.requires.room here before enough)
+    let here : p < long = omega (arith, below, length-map (take (((c.loop-c.c) + 1) * long - c.loop-c.c * long) (drop (c.loop-c.c * long) ns)) value, length-list ns c.loop-c.c count long before c.requires.long) in
+    subst (λ (z : ℤ). IsWithin (2 ^ 96) (2 ^ 96) z) (sym (value_in_list value ns c.loop-c.c long p here)) (place_within (map value ns) c.loop-c.c long p count c.requires.room here before enough)
 
 pub add_numbers-requires-clause-room : goal.add_numbers-requires-clause-room
 add_numbers-requires-clause-room g c =
@@ -39,9 +39,9 @@ loop-c-preserved g c =
     let new = c.add_numbers.new.sums in
     let same : length sums ≡ long = c.loop-c.auto.sums in
     place_sums_more (map value ns) sums new c.args.first c.loop-c.c c.add_numbers.auto.sums (omega (arith, c.requires.order, c.loop-c.auto.c)) c.loop-c.invariant (λ p below.
-      let here : p < long = omega (arith, below, same) in
-      c.add_numbers.ensures p below ∙ ap (◌+ℤ◌ (get_or sums p (pos 0))) (value_in_list value ns c.loop-c.c long p here)
-      ∙ ap (λ (n : ℕ). ◌+ℤ◌ (get_or sums p (pos 0)) (get_or (map value ns) (c.loop-c.c * n + p) (pos 0))) (sym same))
+    let here : p < long = omega (arith, below, same) in
+    c.add_numbers.ensures p below ∙ ap (◌+ℤ◌ (get_or sums p (pos 0))) (value_in_list value ns c.loop-c.c long p here)
+    ∙ ap (λ (n : ℕ). ◌+ℤ◌ (get_or sums p (pos 0)) (get_or (map value ns) (c.loop-c.c * n + p) (pos 0))) (sym same))
 
 pub take_numbers-requires-clause-terms : goal.take_numbers-requires-clause-terms
 take_numbers-requires-clause-terms g c =
@@ -52,8 +52,8 @@ take_numbers-requires-clause-terms g c =
     let enough : count * long ≤ length (map value ns) = omega (arith, c.requires.long, length-map ns value) in
     let before : c.loop-c-2.c < count = omega (arith, c.loop-c-2-test.true, c.requires.some) in
     λ p below.
-        let here : p < long = omega (arith, below, length-map (take (((c.loop-c-2.c) + 1) * long - c.loop-c-2.c * long) (drop (c.loop-c-2.c * long) ns)) value, length-list ns c.loop-c-2.c count long before c.requires.long) in
-        subst (λ (z : ℤ). IsWithin (2 ^ 96) (2 ^ 96) z) (sym (value_in_list value ns c.loop-c-2.c long p here)) (place_within (map value ns) c.loop-c-2.c long p count c.requires.room here before enough)
+    let here : p < long = omega (arith, below, length-map (take (((c.loop-c-2.c) + 1) * long - c.loop-c-2.c * long) (drop (c.loop-c-2.c * long) ns)) value, length-list ns c.loop-c-2.c count long before c.requires.long) in
+    subst (λ (z : ℤ). IsWithin (2 ^ 96) (2 ^ 96) z) (sym (value_in_list value ns c.loop-c-2.c long p here)) (place_within (map value ns) c.loop-c-2.c long p count c.requires.room here before enough)
 
 pub take_numbers-requires-clause-room : goal.take_numbers-requires-clause-room
 take_numbers-requires-clause-room g c =
@@ -78,6 +78,6 @@ loop-c-2-preserved g c =
     let new = c.take_numbers.new.sums in
     let same : length sums ≡ long = c.loop-c-2.auto.sums ∙ c.loop-c.auto.sums in
     place_sums_less (map value ns) sums new c.loop-c-2.c count c.take_numbers.auto.sums before c.loop-c-2.invariant (λ p below.
-      let here : p < long = omega (arith, below, same) in
-      c.take_numbers.ensures p below ∙ ap (◌-ℤ◌ (get_or sums p (pos 0))) (value_in_list value ns c.loop-c-2.c long p here)
-      ∙ ap (λ (n : ℕ). ◌-ℤ◌ (get_or sums p (pos 0)) (get_or (map value ns) (c.loop-c-2.c * n + p) (pos 0))) (sym same))
+    let here : p < long = omega (arith, below, same) in
+    c.take_numbers.ensures p below ∙ ap (◌-ℤ◌ (get_or sums p (pos 0))) (value_in_list value ns c.loop-c-2.c long p here)
+    ∙ ap (λ (n : ℕ). ◌-ℤ◌ (get_or sums p (pos 0)) (get_or (map value ns) (c.loop-c-2.c * n + p) (pos 0))) (sym same))

@@ -25,9 +25,9 @@ loop-c-preserved c =
     let new = c.add_terms.new.sums in
     let same : length sums ≡ long = c.loop-c.auto.sums in
     place_sums_more ns sums new c.args.first c.loop-c.c c.add_terms.auto.sums (omega (arith, c.requires.order, c.loop-c.auto.c)) c.loop-c.invariant (λ p below.
-      let here : p < long = omega (arith, below, same) in
-      c.add_terms.ensures p below ∙ ap (◌+ℤ◌ (get_or sums p (pos 0))) (number_in_list ns c.loop-c.c long p here)
-      ∙ ap (λ (n : ℕ). ◌+ℤ◌ (get_or sums p (pos 0)) (get_or ns (c.loop-c.c * n + p) (pos 0))) (sym same))
+    let here : p < long = omega (arith, below, same) in
+    c.add_terms.ensures p below ∙ ap (◌+ℤ◌ (get_or sums p (pos 0))) (number_in_list ns c.loop-c.c long p here)
+    ∙ ap (λ (n : ℕ). ◌+ℤ◌ (get_or sums p (pos 0)) (get_or ns (c.loop-c.c * n + p) (pos 0))) (sym same))
 
 pub take_terms-requires-clause-room : goal.take_terms-requires-clause-room
 take_terms-requires-clause-room c =
@@ -50,6 +50,6 @@ loop-c-2-preserved c =
     let new = c.take_terms.new.sums in
     let same : length sums ≡ long = c.loop-c-2.auto.sums ∙ c.loop-c.auto.sums in
     place_sums_less ns sums new c.loop-c-2.c count c.take_terms.auto.sums before c.loop-c-2.invariant (λ p below.
-      let here : p < long = omega (arith, below, same) in
-      c.take_terms.ensures p below ∙ ap (◌-ℤ◌ (get_or sums p (pos 0))) (number_in_list ns c.loop-c-2.c long p here)
-      ∙ ap (λ (n : ℕ). ◌-ℤ◌ (get_or sums p (pos 0)) (get_or ns (c.loop-c-2.c * n + p) (pos 0))) (sym same))
+    let here : p < long = omega (arith, below, same) in
+    c.take_terms.ensures p below ∙ ap (◌-ℤ◌ (get_or sums p (pos 0))) (number_in_list ns c.loop-c-2.c long p here)
+    ∙ ap (λ (n : ℕ). ◌-ℤ◌ (get_or sums p (pos 0)) (get_or ns (c.loop-c-2.c * n + p) (pos 0))) (sym same))

@@ -15,8 +15,8 @@ returns c =
     record {
       value =
           IfOk-weaker c.thresholded-2.result (GivesOn filter part part.extent) (GivesOn filter input out) (λ output gives.
-            through_part filter input part output out out c.requires.within c.in_ok-part.ensures.value c.in_ok-part.ensures.valid
-            (rw (← c.in_ok-part.ensures.value.extent) gives)) c.thresholded-2.ensures;
+          through_part filter input part output out out c.requires.within c.in_ok-part.ensures.value c.in_ok-part.ensures.valid
+          (rw (← c.in_ok-part.ensures.value.extent) gives)) c.thresholded-2.ensures;
     }
 
 pub returns-then-eq : goal.returns-then-eq
