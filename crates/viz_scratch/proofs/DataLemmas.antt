@@ -70,7 +70,7 @@ made_of_contour forms inputs r h =
     subst (λ o. IsMadeWith (and_then (either_in 1 o) (λ i. Ok OfMesh)) (IsSectionOf forms (fed_at 1 inputs)) r) (sym (informed_at 1 inputs)) (contoured forms (fed_at 1 inputs) r h)
 
 -- a writer
-Passes : Option Dataset → Result Dataset Cause → Type 0
+abbrev Passes : Option Dataset → Result Dataset Cause → Type 0
 Passes d r = (e : Dataset) × (d ≡ Some e) × (r ≡ Ok e)
 
 passed : (d : Option Dataset) (r : Result Dataset Cause) → IsPassed d r → IsMadeWith (either_in 1 (option_map information_of d)) (Passes d) r
