@@ -110,7 +110,7 @@ text_in _ word = named_in is_node_name word
 -- a value of the words
 abbrev pub value_in : Param → Option Range → List (List ℕ) → Result Value ScriptRefusal
 value_in param None words = one words >>= λ word. text_in param word >>= λ text. Ok (Text text)
-value_in param (Some range) words = numbers_in words >>= λ ns. Ok (Numbers (length ns) (padded ns))
+value_in param (Some range) words = padded_in words >>= λ items. Ok (Numbers (length words) items)
 
 -- the node and the value that the words of a set tell, from the node on
 unfoldable pub set_in : Param → List (List ℕ) → Result (List ℕ × Value) ScriptRefusal

@@ -1,6 +1,6 @@
 //! The value that a command gives a parameter.
 
-ghost use Rattle.std.specs.Prelude.{◌≡◌, ◌≤◌, length};
+ghost use Rattle.std.specs.Prelude.{◌≡◌, ◌<◌, ◌≤◌, length, slice_set};
 ghost use Rattle.viz_words.specs.Words.{words_of};
 ghost use Rattle.viz_words.specs.Gives.{Gives};
 ghost use Rattle.viz_words.specs.Commands.{fits_count, padded_in, text_in, value_in, set_in};
@@ -44,6 +44,14 @@ fn number_in(word: &[u8]) -> Result<i64, ScriptRefusal>
     number(word).ok_or(ScriptRefusal::Number)
 }
 
+/// A number that is passed by value isn't known to be the one that is put.
+fn put(items: &mut [i64; 8], i: usize, n: &i64)
+    requires { i < 8 }
+    ensures { items.new ≡ slice_set items.old i n.now }
+{
+    items[i] = *n;
+}
+
 /// The numbers of the words, and zeros behind them.
 fn padded_in(text: &[u8], count: usize) -> Result<[i64; 8], ScriptRefusal>
     requires few { count ≤ 8 }
@@ -54,7 +62,8 @@ fn padded_in(text: &[u8], count: usize) -> Result<[i64; 8], ScriptRefusal>
     let mut rest = text;
     for i in 0..count {
         let (word, behind) = due(rest)?;
-        items[i] = number_in(word)?;
+        let n = number_in(word)?;
+        put(&mut items, i, &n);
         rest = behind;
     }
     Ok(items)
