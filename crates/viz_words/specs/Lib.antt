@@ -5,4 +5,5 @@ pub mod Names
 pub mod Tables
 pub mod Gives
 pub mod Commands
+pub mod Edits
 pub mod Steps

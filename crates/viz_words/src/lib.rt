@@ -8,6 +8,7 @@
 
 mod arity;
 mod command;
+mod edits;
 mod lines;
 mod names;
 mod numbers;
@@ -19,6 +20,7 @@ mod verbs;
 
 pub use arity::{due, four, one, three, two};
 pub use command::{Command, Verb};
+pub use edits::edit_in;
 pub use lines::{is_plain, is_skipped, next_line};
 pub use names::{array_name, file_name, node_name};
 pub use numbers::{natural, number};

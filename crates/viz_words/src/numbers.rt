@@ -1,6 +1,6 @@
 //! Numbers of words.
 
-ghost use Rattle.std.specs.Prelude.{◌≡◌, ◌-◌, ◌^◌, ◌≤◌, pos, neg_ℤ, min, length, option_map, Result};
+ghost use Rattle.std.specs.Prelude.{◌≡◌, ◌-◌, ◌^◌, ◌≤◌, pos, neg_ℤ, min, length, option_map, IfOk};
 ghost use Rattle.viz_words.specs.Numbers.{is_digit, digits_value, natural_of, within, number_of, number_in, natural_in};
 
 use crate::refusal::ScriptRefusal;
@@ -65,7 +65,9 @@ pub fn number(word: &[u8]) -> Option<i64>
 /// The number of a word that is due, from `least` to `greatest`.
 #[tactic(auto, unfolding(crate::specs::Numbers::natural_in))]
 pub fn natural(word: &[u8], least: u32, greatest: u32) -> Result<u32, ScriptRefusal>
-    ensures { result ≡ natural_in least greatest word.now }
+    ensures value { result ≡ natural_in least greatest word.now }
+    ensures at_least { IfOk result (λ n. least ≤ n) }
+    ensures at_most { IfOk result (λ n. n ≤ greatest) }
 {
     match number(word) {
         Some(n) if i64::from(least) <= n && n <= i64::from(greatest) => Ok(n as u32),
