@@ -2,7 +2,9 @@
 
 ghost use Rattle.std.specs.Prelude.{◌≡◌, codes};
 ghost use Rattle.viz_words.specs.Words.{words_of};
-ghost use Rattle.viz_script.specs.Orders.{load_in, update_in, audit_in, order_in};
+ghost use Rattle.viz_words.specs.Gives.{Gives};
+ghost use Rattle.viz_script.specs.Orders.{seen, load_in, update_in, audit_in, order_in};
+ghost use Rattle.viz_script.specs.Steps.Loop.{heard, heard_result};
 ghost use Rattle.viz_script.specs.Script.{is_actor, phase_in, actor_in, words_in, line_in};
 
 use crate::order::Order;
@@ -25,7 +27,7 @@ pub enum Said {
 
 #[tactic(auto, unfolding(crate::specs::Orders::load_in))]
 fn load_in(text: &[u8]) -> Result<Order, ScriptRefusal>
-    ensures { result ≡ load_in (words_of text.now) }
+    ensures { Gives seen result (load_in (words_of text.now)) }
 {
     let (node, file) = two(text)?;
     let node = node_name(node)?;
@@ -33,39 +35,34 @@ fn load_in(text: &[u8]) -> Result<Order, ScriptRefusal>
     Ok(Order::Load { node, file })
 }
 
-#[tactic(auto, unfolding(crate::specs::Orders::shape_in))]
-fn shape_in(pieces: &[u8], workers: &[u8]) -> Result<Shape, ScriptRefusal>
-    ensures { result ≡ shape_in pieces.now workers.now }
-{
-    let pieces = natural(pieces, 1, 64)?;
-    let workers = natural(workers, 1, 64)?;
-    Ok(Shape { pieces, workers })
-}
-
 #[tactic(auto, unfolding(crate::specs::Orders::update_in))]
 fn update_in(text: &[u8]) -> Result<Order, ScriptRefusal>
-    ensures { result ≡ update_in (words_of text.now) }
+    ensures { Gives seen result (update_in (words_of text.now)) }
 {
     let (node, file, pieces, workers) = four(text)?;
     let node = node_name(node)?;
     let file = file_name(file)?;
-    let shape = shape_in(pieces, workers)?;
+    let pieces = natural(pieces, 1, 64)?;
+    let workers = natural(workers, 1, 64)?;
+    let shape = Shape { pieces, workers };
     Ok(Order::Update { node, file, shape })
 }
 
 #[tactic(auto, unfolding(crate::specs::Orders::audit_in))]
 fn audit_in(text: &[u8]) -> Result<Order, ScriptRefusal>
-    ensures { result ≡ audit_in (words_of text.now) }
+    ensures { Gives seen result (audit_in (words_of text.now)) }
 {
     let (node, pieces, workers) = three(text)?;
     let node = node_name(node)?;
-    let shape = shape_in(pieces, workers)?;
+    let pieces = natural(pieces, 1, 64)?;
+    let workers = natural(workers, 1, 64)?;
+    let shape = Shape { pieces, workers };
     Ok(Order::Audit { node, shape })
 }
 
 /// The order of a command with the words behind it.
 fn order_in(verb: Verb, text: &[u8]) -> Result<Order, ScriptRefusal>
-    ensures { result ≡ order_in verb (words_of text.now) }
+    ensures { Gives seen result (order_in verb (words_of text.now)) }
 {
     match verb {
         Verb::Load => load_in(text),
@@ -82,7 +79,7 @@ fn is_actor(actor: &i64, actors: u32) -> bool
 }
 
 fn phase_in(text: &[u8]) -> Result<Said, ScriptRefusal>
-    ensures { result ≡ phase_in (words_of text.now) }
+    ensures { Gives heard result (phase_in (words_of text.now)) }
 {
     match next_word(text) {
         None => Ok(Said::Phase),
@@ -91,7 +88,7 @@ fn phase_in(text: &[u8]) -> Result<Said, ScriptRefusal>
 }
 
 fn actor_in(actor: &i64, actors: u32, text: &[u8]) -> Result<Said, ScriptRefusal>
-    ensures { result ≡ actor_in actor.now actors (words_of text.now) }
+    ensures { Gives heard result (actor_in actor.now actors (words_of text.now)) }
 {
     let verb = verb_of(text)?;
     if !is_actor(actor, actors) {
@@ -106,7 +103,7 @@ fn actor_in(actor: &i64, actors: u32, text: &[u8]) -> Result<Said, ScriptRefusal
 }
 
 fn words_in(text: &[u8], actors: u32) -> Result<Said, ScriptRefusal>
-    ensures { result ≡ words_in actors (words_of text.now) }
+    ensures { Gives heard result (words_in actors (words_of text.now)) }
 {
     let Some((word, rest)) = next_word(text) else {
         return Ok(Said::Nothing);
@@ -122,7 +119,7 @@ fn words_in(text: &[u8], actors: u32) -> Result<Said, ScriptRefusal>
 
 /// What the line says, where there are so many actors.
 pub(crate) fn line_in(text: &[u8], actors: u32) -> Result<Said, ScriptRefusal>
-    ensures { result ≡ line_in actors text.now }
+    ensures { heard_result result ≡ line_in actors text.now }
 {
     if is_skipped(text) {
         return Ok(Said::Nothing);

@@ -1,9 +1,9 @@
 //! The steps of a script.
 
-ghost use Rattle.std.specs.Prelude.{◌≡◌, ◌≤◌, length};
+ghost use Rattle.std.specs.Prelude.{◌≡◌, ◌≤◌, map, length};
 ghost use Rattle.viz_words.specs.Lines.{lines_of};
-ghost use Rattle.viz_script.specs.Script.{steps_from, script_of, Reads};
-ghost use Rattle.viz_script.specs.Steps.Loop.{Goes, ReadsSteps};
+ghost use Rattle.viz_script.specs.Script.{stepped, steps_from, script_of, Reads};
+ghost use Rattle.viz_script.specs.Steps.Loop.{heard_result, Goes, ReadsSteps};
 
 use crate::line::{Said, line_in};
 use crate::order::{Script, Step};
@@ -40,7 +40,9 @@ fn take(
     said: Result<Said, ScriptRefusal>,
 ) -> Result<(), ScriptStop>
     requires few { phase.old ≤ PHASES }
-    ensures goes { Goes result steps.old.items phase.old line said steps.new.items phase.new }
+    ensures goes { Goes result
+        (map stepped steps.old.items) phase.old line
+        (heard_result said) (map stepped steps.new.items) phase.new }
     ensures within { phase.new ≤ PHASES }
 {
     match said {
@@ -77,7 +79,7 @@ fn steps_of(
 ) -> Result<Vec<Step>, ScriptStop>
     requires count { lines ≡ length (lines_of text.now) }
     requires few { lines ≤ LINES }
-    ensures { ReadsSteps (λ steps. steps.items) result (steps_from actors 1 1 (lines_of text.now)) }
+    ensures { ReadsSteps (λ steps. map stepped steps.items) result (steps_from actors 1 1 (lines_of text.now)) }
 {
     let mut steps = Vec::with_capacity(alloc, lines)?;
     let mut phase = 1;
