@@ -1,22 +1,10 @@
 -- Numbers of scripts: an optional minus sign and one or more digits, within 64 bits (docs/FORMATS.md, "Scripts").
-use Rattle.std.specs.Prelude.{ℕ, ℤ, pos, neg_ℤ, int_le, unsigned_abs, ◌+◌, ◌-◌, ◌*◌, Bool, ◌&&◌, ◌==◌, nat_le, List, [], ◌∷◌, fold, length, Option, Some, None, option_map, ok_or, Result, Ok, Err, if◌then◌else◌}
-use Rattle.std.specs.List.{list_all}
+use Rattle.std.specs.Prelude.{ℕ, ℤ, pos, neg_ℤ, int_le, unsigned_abs, ◌&&◌, ◌==◌, List, [], ◌∷◌, Option, Some, None, option_map, ok_or, Result, Ok, Err, if◌then◌else◌}
+use Rattle.viz_lex.specs.Numbers.{natural_of}
 use Rattle.viz_kinds.specs.Values.{first_number, last_number}
 use Rattle.viz_words.specs.declared.refusal.ScriptRefusal.{ScriptRefusal}
 use Rattle.viz_words.specs.declared.refusal.ScriptRefusal.TheVariants.{Number}
 use Rattle.viz_words.specs.Gives.{◌>>=◌}
-
--- 0 to 9
-abbrev pub is_digit : ℕ → Bool
-is_digit b = nat_le 48 b && nat_le b 57
-
--- the number that digits represent
-abbrev pub digits_value : List ℕ → ℕ
-digits_value digits = fold (λ n b. n * 10 + (b - 48)) 0 digits
-
--- the number that a text represents, if it is one or more digits
-abbrev pub natural_of : List ℕ → Option ℕ
-natural_of text = if length text == 0 then None else (if list_all is_digit text then Some (digits_value text) else None)
 
 -- a number from the least to the greatest of 64 bits
 abbrev pub within : Option ℤ → Option ℤ

@@ -1,7 +1,8 @@
 //! Numbers of words.
 
 ghost use Rattle.std.specs.Prelude.{◌≡◌, ◌-◌, ◌^◌, ◌≤◌, pos, neg_ℤ, min, length, option_map, IfOk};
-ghost use Rattle.viz_words.specs.Numbers.{is_digit, digits_value, natural_of, within, number_of, number_in, natural_in};
+ghost use Rattle.viz_lex.specs.Numbers.{is_digit, natural_of};
+ghost use Rattle.viz_words.specs.Numbers.{within, number_of, natural_in};
 
 use crate::refusal::ScriptRefusal;
 

@@ -1,6 +1,6 @@
 use Rattle.std.proofs.Common.{◌≡◌, ◌-◌, ◌^◌, true, min, take}
 use Rattle.std.specs.List.{list_all}
-use Rattle.viz_words.specs.Numbers.{is_digit, digits_value}
+use Rattle.viz_lex.specs.Numbers.{is_digit, digits_value}
 use Rattle.viz_words.proofs.numbers.digits.Given as goal
 
 -- the number of the digits so far, or the largest
