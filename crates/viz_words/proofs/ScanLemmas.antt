@@ -2,9 +2,9 @@
 use Rattle.std.proofs.Common.{◌≡◌, ℕ, zero, suc, ◌+◌, ◌-◌, ◌<◌, ◌≤◌, Bool, true, false, cond, not, ◌&&◌, eqb, List, [], ◌∷◌, ◌++◌, length, get_or, take, drop, Option, None, Some, refl, sym, ap, subst, ◌∙◌, add-one, eq-eqb, arith}
 use Rattle.std.specs.Prelude.{option_map, ◌==◌}
 use Rattle.std.proofs.lemmas.Bool.{ne_eqb}
-use Rattle.viz_words.specs.Lines.{begins_newline, in_front, lines_of}
+use Rattle.viz_words.specs.Lines.{line_len, begins_newline, in_front, lines_of}
 use Rattle.viz_words.specs.Words.{is_gap, begins_word, words_of}
-use Rattle.viz_words.specs.Steps.Scans.{line_len, trimmed, gaps, word_len}
+use Rattle.viz_words.specs.Steps.Scans.{trimmed, gaps, word_len}
 
 -- ---- a carriage return at the end of a line
 

@@ -1,6 +1,11 @@
 -- The lines of a script (docs/FORMATS.md, "Scripts").
-use Rattle.std.specs.Prelude.{ℕ, Bool, true, false, ◌&&◌, ◌||◌, ◌==◌, nat_le, List, [], ◌∷◌, if◌then◌else◌}
+use Rattle.std.specs.Prelude.{ℕ, suc, Bool, true, false, ◌&&◌, ◌||◌, ◌==◌, nat_le, List, [], ◌∷◌, Option, None, Some, option_map, if◌then◌else◌}
 use Rattle.std.specs.List.{list_all}
+
+-- the place of the first newline
+abbrev pub line_len : List ℕ → Option ℕ
+line_len [] = None
+line_len (b ∷ bs) = if b == 10 then Some 0 else option_map suc (line_len bs)
 
 -- a newline stands in front
 abbrev pub begins_newline : List ℕ → Bool

@@ -1,8 +1,9 @@
 //! Parts of a text: up to the next newline, and the next word.
 
 ghost use Rattle.std.specs.Prelude.{◌≡◌, ◌<◌, ◌≤◌, length, option_map, IfSome, ◌&&◌, ◌||◌, ◌==◌};
+ghost use Rattle.viz_words.specs.Lines.{line_len};
 ghost use Rattle.viz_words.specs.Words.{is_gap, words_of};
-ghost use Rattle.viz_words.specs.Steps.Scans.{line_len, trimmed, gaps, word_len, parted};
+ghost use Rattle.viz_words.specs.Steps.Scans.{trimmed, gaps, word_len, parted};
 
 fn is_gap(b: u8) -> bool
     ensures { result ≡ is_gap b }
@@ -11,7 +12,7 @@ fn is_gap(b: u8) -> bool
 }
 
 /// The place of the first newline.
-pub(crate) fn line_len(text: &[u8]) -> Option<usize>
+pub fn line_len(text: &[u8]) -> Option<usize>
     ensures value { result ≡ line_len text.now }
     ensures within { IfSome result (λ len. len < length text.now) }
 {

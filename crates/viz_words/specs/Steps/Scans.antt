@@ -1,11 +1,6 @@
 -- Lines and words as the code comes to them: words of private contracts alone.
-use Rattle.std.specs.Prelude.{ℕ, suc, Bool, ◌==◌, List, [], ◌∷◌, Option, None, Some, option_map, if◌then◌else◌}
+use Rattle.std.specs.Prelude.{ℕ, suc, Bool, ◌==◌, List, [], ◌∷◌, Option, None, Some, if◌then◌else◌}
 use Rattle.viz_words.specs.Words.{is_gap}
-
--- the place of the first newline
-abbrev pub line_len : List ℕ → Option ℕ
-line_len [] = None
-line_len (b ∷ bs) = if b == 10 then Some 0 else option_map suc (line_len bs)
 
 -- the line without a carriage return at its end
 abbrev pub trimmed : List ℕ → List ℕ

@@ -1,6 +1,6 @@
 use Rattle.std.proofs.Common.{◌≡◌, ◌+◌, drop}
 use Rattle.std.specs.Prelude.{option_map}
-use Rattle.viz_words.specs.Steps.Scans.{line_len}
+use Rattle.viz_words.specs.Lines.{line_len}
 use Rattle.viz_words.proofs.scan.line_len.Given as goal
 
 -- the place is that in what is left, further on
