@@ -101,11 +101,16 @@ pub(crate) fn enter(ledger: &mut Ledger, entry: JournalEntry) -> Result<(), Appl
         (ledger.new.entries.items ≡ ledger.old.entries.items ++ entry ∷ []) }
 {
     apply(&mut ledger.net, &ledger.entries, &entry.edit)?;
-    if raise(&mut ledger.counts, entry.actor, entry.count).is_err() {
-        return Err(ApplyStop::Memory);
-    }
-    if ledger.entries.push(entry).is_err() {
-        return Err(ApplyStop::Memory);
-    }
+    raise(&mut ledger.counts, entry.actor, entry.count)?;
+    push(&mut ledger.entries, entry)?;
     Ok(())
+}
+
+fn push(entries: &mut Vec<JournalEntry>, entry: JournalEntry) -> Result<(), AllocError>
+    ensures { OnOk result (entries.new.items ≡ entries.old.items ++ entry ∷ []) }
+{
+    match entries.push(entry) {
+        Ok(()) => Ok(()),
+        Err(_) => Err(AllocError),
+    }
 }
