@@ -126,8 +126,12 @@ journal_from (suc k) n entries bytes = judged n (journal_from k (n + 1)) entries
 abbrev pub journal_of : List ℕ → Result (List JournalEntry) Stop
 journal_of bytes = if is_text (take 17 bytes) first_line then journal_from (length (drop 17 bytes)) 2 [] (drop 17 bytes) else Err (1, refusal.Word)
 
+-- the refusal that the definition gives, unless memory ran out
+abbrev pub Stops : ScriptStop → Result (List JournalEntry) Stop → Type 0
+Stops (Refused n refusal) read = read ≡ Err (n, refusal)
+Stops Memory read = Unit {0}
+
 -- the entries that the definition gives, or the refusal that it gives, unless memory ran out
 abbrev pub Reads : {E : Type 0} → (E → List JournalEntry) → Result E ScriptStop → Result (List JournalEntry) Stop → Type 0
 Reads view (Ok entries) read = read ≡ Ok (view entries)
-Reads view (Err (Refused n refusal)) read = read ≡ Err (n, refusal)
-Reads view (Err Memory) read = Unit {0}
+Reads view (Err stop) read = Stops stop read

@@ -143,17 +143,25 @@ fn step<'a>(
 {
     let (line, ended, rest) = part_of(bytes);
     match line_in(line) {
-        Err(refusal) => Err(refused(line_behind(&ledger.entries), refusal)),
+        Err(refusal) => {
+            let line = line_behind(&ledger.entries);
+            Err(ScriptStop::Refused { line, refusal })
+        }
         Ok(Line::Last(count)) => {
-            close(&ledger.entries, text, count, line, ended, rest)?;
-            Ok(None)
+            match close(&ledger.entries, text, count, line, ended, rest) {
+                Ok(()) => Ok(None),
+                Err(stop) => Err(stop),
+            }
         }
         Ok(Line::Entry(told)) => {
-            let number = line_behind(&ledger.entries);
+            let line_number = line_behind(&ledger.entries);
             let left = rest_of(&told.draft, rest);
             match take(alloc, ledger, text, told, line, ended, rest)? {
                 Ok(()) => Ok(Some(left)),
-                Err(refusal) => Err(refused(number, refusal)),
+                Err(refusal) => Err(ScriptStop::Refused {
+                    line: line_number,
+                    refusal,
+                }),
             }
         }
     }
@@ -167,12 +175,16 @@ fn entries_of(alloc: Global, bytes: &[u8]) -> Result<Vec<JournalEntry>, ScriptSt
     let mut text = Vec::new(alloc);
     let mut rest = bytes;
     while !rest.is_empty() {
-        let Some(left) = step(alloc, &mut ledger, &mut text, rest)? else {
-            return Ok(entries_in(ledger));
-        };
-        rest = left;
+        match step(alloc, &mut ledger, &mut text, rest) {
+            Ok(Some(left)) => rest = left,
+            Ok(None) => return Ok(entries_in(ledger)),
+            Err(stop) => return Err(stop),
+        }
     }
-    Err(refused(line_behind(&ledger.entries), ScriptRefusal::Word))
+    Err(ScriptStop::Refused {
+        line: line_behind(&ledger.entries),
+        refusal: ScriptRefusal::Word,
+    })
 }
 
 /// The entries of a journal. The bytes of a load are copied once, into its entry.
