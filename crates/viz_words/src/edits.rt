@@ -73,7 +73,7 @@ fn value_set_in(param: Param, text: &[u8]) -> Result<Edit, ScriptRefusal>
 ///
 /// Arity, Name or Number, in this order; Arity where the command is another.
 pub fn edit_in(verb: Verb, text: &[u8]) -> Result<Edit, ScriptRefusal>
-    ensures { result ≡ edit_in verb (words_of text.now) }
+    ensures value { result ≡ edit_in verb (words_of text.now) }
 {
     match verb {
         Verb::Add(kind) => add_in(kind, text),

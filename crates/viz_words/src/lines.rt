@@ -15,14 +15,14 @@ fn is_plain_byte(b: u8) -> bool
 
 /// Whether each byte of the line may stand in a script.
 pub fn is_plain(line: &[u8]) -> bool
-    ensures { result ≡ is_plain line.now }
+    ensures value { result ≡ is_plain line.now }
 {
     line.iter().all(|b| is_plain_byte(*b))
 }
 
 /// Whether the line says nothing: it has no word, or begins with `#`.
 pub fn is_skipped(line: &[u8]) -> bool
-    ensures { result ≡ is_skipped line.now }
+    ensures value { result ≡ is_skipped line.now }
 {
     if let [b'#', ..] = line {
         return true;

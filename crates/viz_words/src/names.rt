@@ -61,7 +61,7 @@ fn is_name(text: &[u8]) -> bool
 
 /// The name of a node: 1 to 64 letters, digits or `_`.
 pub fn node_name(text: &[u8]) -> Result<Word, ScriptRefusal>
-    ensures { result ≡ named_in is_node_name text.now }
+    ensures value { result ≡ named_in is_node_name text.now }
 {
     if is_name(text) && are_node_bytes(text) {
         Ok(Word::new(text).unwrap())
@@ -72,7 +72,7 @@ pub fn node_name(text: &[u8]) -> Result<Word, ScriptRefusal>
 
 /// The name of a file: 1 to 64 letters, digits, `_`, `-` or `.`, the first neither `-` nor `.`.
 pub fn file_name(text: &[u8]) -> Result<Word, ScriptRefusal>
-    ensures { result ≡ named_in is_file_name text.now }
+    ensures value { result ≡ named_in is_file_name text.now }
 {
     if is_name(text) && begins_name(text) && are_file_bytes(text) {
         Ok(Word::new(text).unwrap())
@@ -83,7 +83,7 @@ pub fn file_name(text: &[u8]) -> Result<Word, ScriptRefusal>
 
 /// The name of an array: 1 to 64 bytes from `!` to `~`.
 pub fn array_name(text: &[u8]) -> Result<Word, ScriptRefusal>
-    ensures { result ≡ named_in is_array_name text.now }
+    ensures value { result ≡ named_in is_array_name text.now }
 {
     if is_name(text) && are_array_bytes(text) {
         Ok(Word::new(text).unwrap())

@@ -55,7 +55,7 @@ fn positive(text: &[u8]) -> Option<i64>
 
 /// The number of a word: an optional minus sign and digits, within 64 bits.
 pub fn number(word: &[u8]) -> Option<i64>
-    ensures { result ≡ number_of word.now }
+    ensures value { result ≡ number_of word.now }
 {
     match word {
         [b'-', digits @ ..] => negative(digits),

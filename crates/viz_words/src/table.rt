@@ -49,7 +49,7 @@ const PARAMS: [Param; 13] = [
 
 /// The word of a command.
 pub fn command_word(command: Command) -> &'static [u8]
-    ensures { result.now ≡ command_word command }
+    ensures value { result.now ≡ command_word command }
 {
     match command {
         Command::Add => b"add",
@@ -65,7 +65,7 @@ pub fn command_word(command: Command) -> &'static [u8]
 
 /// The word of a kind of node.
 pub fn kind_word(kind: Kind) -> &'static [u8]
-    ensures { result.now ≡ kind_word kind }
+    ensures value { result.now ≡ kind_word kind }
 {
     match kind {
         Kind::File => b"file",
@@ -87,7 +87,7 @@ pub fn kind_word(kind: Kind) -> &'static [u8]
 
 /// The word of a parameter.
 pub fn param_word(param: Param) -> &'static [u8]
-    ensures { result.now ≡ param_word param }
+    ensures value { result.now ≡ param_word param }
 {
     match param {
         Param::Array => b"array",
@@ -108,7 +108,7 @@ pub fn param_word(param: Param) -> &'static [u8]
 
 /// The command that is read with this word.
 pub fn command_named(text: &[u8]) -> Option<Command>
-    ensures { result ≡ command_named text.now }
+    ensures value { result ≡ command_named text.now }
 {
     for command in &COMMANDS {
         if text == command_word(*command) {
@@ -120,7 +120,7 @@ pub fn command_named(text: &[u8]) -> Option<Command>
 
 /// The kind that is read with this word.
 pub fn kind_named(text: &[u8]) -> Option<Kind>
-    ensures { result ≡ kind_named text.now }
+    ensures value { result ≡ kind_named text.now }
 {
     for kind in &KINDS {
         if text == kind_word(*kind) {
@@ -132,7 +132,7 @@ pub fn kind_named(text: &[u8]) -> Option<Kind>
 
 /// The parameter that is read with this word.
 pub fn param_named(text: &[u8]) -> Option<Param>
-    ensures { result ≡ param_named text.now }
+    ensures value { result ≡ param_named text.now }
 {
     for param in &PARAMS {
         if text == param_word(*param) {

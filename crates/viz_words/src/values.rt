@@ -101,7 +101,7 @@ fn value_in(
 /// The node and the value that the words of a set tell, from the node on.
 #[tactic(auto, unfolding(crate::specs::Commands::set_in))]
 pub fn set_in(param: Param, text: &[u8]) -> Result<(Word, Value), ScriptRefusal>
-    ensures { result ≡ set_in param (words_of text.now) }
+    ensures value { result ≡ set_in param (words_of text.now) }
 {
     let range = range_of(param);
     let (node, rest) = due(text)?;

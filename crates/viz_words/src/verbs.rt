@@ -42,7 +42,7 @@ fn set_verb(text: &[u8]) -> Result<Verb, ScriptRefusal>
 ///
 /// Word, where the command, its kind or its parameter isn't known. What is missing is no error here.
 pub fn verb_of(text: &[u8]) -> Result<Verb, ScriptRefusal>
-    ensures { result ≡ verb_of (words_of text.now) }
+    ensures value { result ≡ verb_of (words_of text.now) }
 {
     let Some((word, rest)) = next_word(text) else {
         return Ok(Verb::Missing);

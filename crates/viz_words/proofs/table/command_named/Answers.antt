@@ -7,5 +7,5 @@ use Rattle.viz_words.proofs.table.command_named.Goals as goal
 
 pub loop-command-preserved : goal.loop-command-preserved
 loop-command-preserved c =
-    let differs : is_text c.args.text.now (command_word (get_or commands c.loop-command.command-index Add)) ≡ false = ap (is_text c.args.text.now) (sym c.command_word.ensures) ∙ sym c.if-eq.ensures in
+    let differs : is_text c.args.text.now (command_word (get_or commands c.loop-command.command-index Add)) ≡ false = ap (is_text c.args.text.now) (sym c.command_word.ensures.value) ∙ sym c.if-eq.ensures in
     with_word-more command_word commands c.args.text.now c.loop-command.command-index Add c.loop-command-test.true differs ∙ c.loop-command.invariant

@@ -7,5 +7,5 @@ use Rattle.viz_words.proofs.table.kind_named.Goals as goal
 
 pub loop-kind-preserved : goal.loop-kind-preserved
 loop-kind-preserved c =
-    let differs : is_text c.args.text.now (kind_word (get_or kinds c.loop-kind.kind-index File)) ≡ false = ap (is_text c.args.text.now) (sym c.kind_word.ensures) ∙ sym c.if-eq.ensures in
+    let differs : is_text c.args.text.now (kind_word (get_or kinds c.loop-kind.kind-index File)) ≡ false = ap (is_text c.args.text.now) (sym c.kind_word.ensures.value) ∙ sym c.if-eq.ensures in
     with_word-more kind_word kinds c.args.text.now c.loop-kind.kind-index File c.loop-kind-test.true differs ∙ c.loop-kind.invariant

@@ -7,5 +7,5 @@ use Rattle.viz_words.proofs.table.param_named.Goals as goal
 
 pub loop-param-preserved : goal.loop-param-preserved
 loop-param-preserved c =
-    let differs : is_text c.args.text.now (param_word (get_or params c.loop-param.param-index Array)) ≡ false = ap (is_text c.args.text.now) (sym c.param_word.ensures) ∙ sym c.if-eq.ensures in
+    let differs : is_text c.args.text.now (param_word (get_or params c.loop-param.param-index Array)) ≡ false = ap (is_text c.args.text.now) (sym c.param_word.ensures.value) ∙ sym c.if-eq.ensures in
     with_word-more param_word params c.args.text.now c.loop-param.param-index Array c.loop-param-test.true differs ∙ c.loop-param.invariant

@@ -19,7 +19,7 @@ loop-i-preserved c =
     let fits : SFits w64 n = search rules in
     let written : c.put.new.items ≡ set items i n = c.put.ensures ∙ ap (λ (z : ℤ). set items i z) (to_z-of_z w64 n fits) in
     let front : take (i + 1) c.put.new.items ≡ take i items ++ n ∷ [] = ap (take (i + 1)) written ∙ take_more_set items i n (omega (arith, c.loop-i.invariant.size)) in
-    let word = due-is (words_of c.loop-i.rest.now) (c.in_ok-word.word.now, behind) c.in_ok-word.ensures in
+    let word = due-is (words_of c.loop-i.rest.now) (c.in_ok-word.word.now, behind) c.in_ok-word.ensures.gives in
     record {
       all = ap (λ l. numbers_behind l (numbers_in behind)) front
           ∙ sym (numbers-more (take i items) (words_of c.loop-i.rest.now) behind c.in_ok-word.word.now n word (sym c.in_ok-n.ensures)) ∙ c.loop-i.invariant.all;
