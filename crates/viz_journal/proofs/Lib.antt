@@ -1,3 +1,4 @@
 pub mod PartLemmas
 pub mod LedgerLemmas
 pub mod ReadLemmas
+pub mod OnlyLemmas

@@ -42,9 +42,14 @@ abbrev pub is_there : Draft → List ℕ → Bool
 is_there (draft.Edit e) rest = true
 is_there (draft.Load node len) rest = int_le len (pos (length rest))
 
--- a newline is behind the bytes of a load
+-- the edit is a load, which has bytes
+abbrev pub has_bytes : Edit → Bool
+has_bytes (edit.Load node file) = true
+has_bytes _ = false
+
+-- an edit without bytes, or a newline is behind the bytes of a load
 abbrev pub is_closed : Draft → List ℕ → Bool
-is_closed (draft.Edit e) rest = true
+is_closed (draft.Edit e) rest = not (has_bytes e)
 is_closed (draft.Load node len) rest = begins_newline (drop (size len) rest)
 
 -- what is behind the bytes of a load and their newline

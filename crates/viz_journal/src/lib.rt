@@ -8,12 +8,14 @@
 
 mod draft;
 mod entry;
+mod laws;
 mod ledger;
 mod part;
 mod reading;
 mod writing;
 
 pub use entry::JournalEntry;
+pub use laws::nothing_else_is_read;
 pub use reading::read_journal;
 pub use viz_words::{ScriptRefusal, ScriptStop};
 pub use writing::journal_text;

@@ -3,7 +3,7 @@
 ghost use Rattle.std.specs.Prelude.{◌≡◌, ◌≤◌, ◌<◌, IfOk, ◌^◌, length, take, drop};
 ghost use Rattle.viz_words.specs.Lines.{begins_newline};
 ghost use Rattle.viz_journal.specs.Lines.{size};
-ghost use Rattle.viz_journal.specs.Reading.{Part, part_of, is_there, is_closed, rest_of, edit_of};
+ghost use Rattle.viz_journal.specs.Reading.{Part, part_of, is_there, has_bytes, is_closed, rest_of, edit_of};
 
 use crate::draft::Draft;
 use std::alloc::{AllocError, Global};
@@ -64,12 +64,19 @@ pub(crate) fn is_there(draft: &Draft, rest: &[u8]) -> bool
     }
 }
 
-/// Whether a newline stands behind the bytes of a load.
+/// Whether the edit is a load, which has bytes.
+fn has_bytes(edit: &Edit) -> bool
+    ensures { result ≡ has_bytes edit.now }
+{
+    matches!(edit, Edit::Load { .. })
+}
+
+/// Whether the edit has no bytes, or a newline stands behind the bytes of a load.
 pub(crate) fn is_closed(draft: &Draft, rest: &[u8]) -> bool
     ensures { result ≡ is_closed draft.now rest.now }
 {
     match draft {
-        Draft::Edit(_) => true,
+        Draft::Edit(edit) => !has_bytes(edit),
         Draft::Load { len, .. } => begins_newline(behind(rest, size(len))),
     }
 }
