@@ -32,7 +32,7 @@ net-more entries e new made =
     let net = net_of edits in
     let long : 1 + length edits ≡ length entries + 1 = omega (arith, edits-length entries) in
     sym (ap net_of (edits-append entries e) ∙ net_after-append 1 edits e.edit []
-        ∙ ap (λ n. pick net (apply n e.edit net)) long ∙ ap (pick net) made)
+    ∙ ap (λ n. pick net (apply n e.edit net)) long ∙ ap (pick net) made)
 
 -- the counts of the entries with one more
 pub counts-more : (q : ℕ) (entries : List JournalEntry) (e : JournalEntry) (was is : ℕ) → was ≡ entries_by q entries
@@ -41,6 +41,7 @@ counts-more q entries e was is before raised counted = by (nat_eq e.actor q) ref
   where
     more : entries_by q (entries ++ e ∷ []) ≡ entries_by q entries + cond (nat_eq e.actor q) 1 0
     more = fold-append (λ (n : ℕ) (x : JournalEntry). n + cond (x.actor == q) 1 0) 0 entries (e ∷ [])
+
     by : (t : Bool) → nat_eq e.actor q ≡ t → is ≡ entries_by q (entries ++ e ∷ [])
     by true f =
         let same : e.actor ≡ q = eqb-true e.actor q f in

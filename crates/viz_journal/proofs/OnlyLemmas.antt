@@ -83,9 +83,11 @@ entry-is before part told e h =
     let f = guarded (is_accepted (edit_of told.draft part.rest) before) refusal.Edit _ e d.1 in
     let same : entry_of told part.rest ≡ e = cc f.1 in
     let two = both (part.ended && is_closed told.draft part.rest) (is_text part.line (entry_line (entry_of told part.rest))) d.0 in
-    let one = both part.ended (is_closed told.draft part.rest) two.0 in
-    (one.0, same-text part.line (entry_line (entry_of told part.rest)) two.1 ∙ ap entry_line same,
-        file-is told.draft part.rest one.1 ∙ ap (λ (x : JournalEntry). file_text x.edit ++ rest_of told.draft part.rest) same)
+    let one = both part.ended (is_closed told.draft part.rest) two.0 in (
+      one.0,
+      same-text part.line (entry_line (entry_of told part.rest)) two.1 ∙ ap entry_line same,
+      file-is told.draft part.rest one.1 ∙ ap (λ (x : JournalEntry). file_text x.edit ++ rest_of told.draft part.rest) same,
+    )
 
 -- the last line with its newline
 abbrev tail_of : List JournalEntry → List ℕ
@@ -121,21 +123,25 @@ only-from (suc k) n before bytes entries h = by (line_in (part_of bytes).line) h
     more told e made later =
         let part = part_of bytes in
         let is = entry-is before part told e made in
-        let rest = flat_map entry_text later.0 ++ tail_of entries in
-        (e ∷ later.0, later.1 ∙ append_assoc before (e ∷ []) later.0,
-            part-is bytes is.0 ∙ ap (λ l. l ++ 10 ∷ part.rest) is.1
-            ∙ ap (λ l. entry_line e ++ 10 ∷ l) (is.2 ∙ ap (λ l. file_text e.edit ++ l) later.2)
-            ∙ sym (append_assoc (entry_text e) (flat_map entry_text later.0) (tail_of entries) ∙ append_assoc (entry_line e) (10 ∷ file_text e.edit) rest))
+        let rest = flat_map entry_text later.0 ++ tail_of entries in (
+          e ∷ later.0,
+          later.1 ∙ append_assoc before (e ∷ []) later.0,
+          part-is bytes is.0 ∙ ap (λ l. l ++ 10 ∷ part.rest) is.1
+              ∙ ap (λ l. entry_line e ++ 10 ∷ l) (is.2 ∙ ap (λ l. file_text e.edit ++ l) later.2)
+              ∙ sym (append_assoc (entry_text e) (flat_map entry_text later.0) (tail_of entries) ∙ append_assoc (entry_line e) (10 ∷ file_text e.edit) rest),
+        )
+
     step : (told : Told) (r : Result JournalEntry ScriptRefusal) → entry_at before (part_of bytes) told ≡ r
         → entered n (journal_from k (n + 1)) before r (rest_of told.draft (part_of bytes).rest) ≡ Ok entries
         → ((before : List JournalEntry) (bytes : List ℕ) (entries : List JournalEntry) → journal_from k (n + 1) before bytes ≡ Ok entries
-            → (added : List JournalEntry) × (entries ≡ before ++ added) × (bytes ≡ flat_map entry_text added ++ tail_of entries))
+        → (added : List JournalEntry) × (entries ≡ before ++ added) × (bytes ≡ flat_map entry_text added ++ tail_of entries))
         → (added : List JournalEntry) × (entries ≡ before ++ added) × (bytes ≡ flat_map entry_text added ++ tail_of entries)
     step told (Err r) made f ih = let bad : ⊥ = cc in absurd bad
     step told (Ok e) made f ih = more told e made (ih (before ++ e ∷ []) (rest_of told.draft (part_of bytes).rest) entries f)
+
     by : (said : Result Line ScriptRefusal) → judged n (journal_from k (n + 1)) before (part_of bytes) said ≡ Ok entries
         → ((before : List JournalEntry) (bytes : List ℕ) (entries : List JournalEntry) → journal_from k (n + 1) before bytes ≡ Ok entries
-            → (added : List JournalEntry) × (entries ≡ before ++ added) × (bytes ≡ flat_map entry_text added ++ tail_of entries))
+        → (added : List JournalEntry) × (entries ≡ before ++ added) × (bytes ≡ flat_map entry_text added ++ tail_of entries))
         → (added : List JournalEntry) × (entries ≡ before ++ added) × (bytes ≡ flat_map entry_text added ++ tail_of entries)
     by (Err r) f ih = let bad : ⊥ = cc in absurd bad
     by (Ok (line.Last count)) f ih =

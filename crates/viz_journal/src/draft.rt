@@ -15,10 +15,7 @@ use viz_words::{
 #[derive(Debug, Drop)]
 pub enum Draft {
     Edit(Edit),
-    Load {
-        node: Word,
-        len: i64,
-    },
+    Load { node: Word, len: i64 },
 }
 
 /// What the line of an entry says.

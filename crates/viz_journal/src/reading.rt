@@ -46,11 +46,7 @@ fn entry_of(alloc: Global, told: Told, rest: &[u8]) -> Result<JournalEntry, Allo
 }
 
 /// Whether the line is that of the entry, as it is written.
-fn is_line(
-    text: &mut Vec<u8>,
-    entry: &JournalEntry,
-    line: &[u8],
-) -> Result<bool, AllocError>
+fn is_line(text: &mut Vec<u8>, entry: &JournalEntry, line: &[u8]) -> Result<bool, AllocError>
     ensures { IfOk result (λ same. same ≡ is_text line.now (entry_line entry.now)) }
 {
     text.clear();

@@ -60,9 +60,7 @@ fn put_value(text: &mut Vec<u8>, value: &Value) -> Result<(), AllocError>
         ≡ text.old.items ++ flat_map behind_space (value_words value.now)) }
 {
     match value {
-        Value::Numbers { count, items } => {
-            put_numbers(text, firsts(items, usize::from(*count)))
-        }
+        Value::Numbers { count, items } => { put_numbers(text, firsts(items, usize::from(*count))) }
         Value::Text(word) => put_word(text, word.bytes()),
     }
 }

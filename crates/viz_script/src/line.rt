@@ -19,10 +19,7 @@ use viz_words::{
 pub enum Said {
     Nothing,
     Phase,
-    Order {
-        actor: u32,
-        order: Order,
-    },
+    Order { actor: u32, order: Order },
 }
 
 #[tactic(auto, unfolding(crate::specs::Orders::load_in))]

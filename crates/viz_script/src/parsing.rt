@@ -71,12 +71,7 @@ fn take(
 }
 
 /// The steps of all lines.
-fn steps_of(
-    alloc: Global,
-    text: &[u8],
-    actors: u32,
-    lines: usize,
-) -> Result<Vec<Step>, ScriptStop>
+fn steps_of(alloc: Global, text: &[u8], actors: u32, lines: usize) -> Result<Vec<Step>, ScriptStop>
     requires count { lines ≡ length (lines_of text.now) }
     requires few { lines ≤ LINES }
     ensures { ReadsSteps (λ steps. map stepped steps.items) result (steps_from actors 1 1 (lines_of text.now)) }

@@ -29,7 +29,6 @@ trimmed-empty (b ∷ bs) h = absurd (omega (arith, h))
 
 -- ---- lines
 
-
 -- a byte that is no newline, in front of more bytes
 opened : (b c : ℕ) (cs : List ℕ) (t u : Bool) → (b == 10) ≡ false → (b == 13) ≡ t → (c == 10) ≡ u
     → lines_of (b ∷ c ∷ cs) ≡ cond (t && u) (lines_of (c ∷ cs)) (in_front b (lines_of (c ∷ cs)))
@@ -46,6 +45,7 @@ before_line b (c ∷ cs) m other e ih = by (c == 10) refl m e ih
     none : (o : Option ℕ) → option_map suc o ≡ Some zero → ⊥
     none None h = cc
     none (Some k) h = let z : suc k ≡ zero = cc in omega (arith, z)
+
     by : (u : Bool) → (c == 10) ≡ u → (m : ℕ) → cond u (Some 0) (option_map suc (line_len cs)) ≡ Some m
         → lines_of (c ∷ cs) ≡ trimmed (take m (c ∷ cs)) ∷ lines_of (drop (suc m) (c ∷ cs))
         → lines_of (b ∷ c ∷ cs) ≡ trimmed (take (suc m) (b ∷ c ∷ cs)) ∷ lines_of (drop (suc (suc m)) (b ∷ c ∷ cs))
@@ -96,6 +96,7 @@ lines-last (b ∷ c ∷ cs) h some = by (b == 10) refl (line_len (c ∷ cs)) ref
     other : (u : Bool) → (c == 10) ≡ u → cond u (Some 0) (option_map suc (line_len cs)) ≡ None → (c == 10) ≡ false
     other true q f = let bad : ⊥ = cc in absurd bad
     other false q f = q
+
     by : (t : Bool) → (b == 10) ≡ t → (o : Option ℕ) → line_len (c ∷ cs) ≡ o → cond t (Some 0) (option_map suc o) ≡ None
         → (line_len (c ∷ cs) ≡ None → 0 < length (c ∷ cs) → lines_of (c ∷ cs) ≡ (c ∷ cs) ∷ []) → lines_of (b ∷ c ∷ cs) ≡ (b ∷ c ∷ cs) ∷ []
     by true e o f g ih = let bad : ⊥ = cc in absurd bad
@@ -142,12 +143,14 @@ words-front (b ∷ c ∷ cs) h = by (is_gap b) refl h (is_gap c) refl (words-fro
         → words_of (b ∷ c ∷ cs) ≡ cond (not u) (in_front b (words_of (c ∷ cs))) ((b ∷ []) ∷ words_of (c ∷ cs))
     open_up u e f = ap (λ x. cond x (words_of (c ∷ cs)) (cond (not (is_gap c)) (in_front b (words_of (c ∷ cs))) ((b ∷ []) ∷ words_of (c ∷ cs)))) e
         ∙ ap (λ x. cond (not x) (in_front b (words_of (c ∷ cs))) ((b ∷ []) ∷ words_of (c ∷ cs))) f
+
     close_up : (t u : Bool) → is_gap b ≡ t → is_gap c ≡ u
         → take (cond {A = ℕ} t 0 (suc (cond u 0 (suc (word_len cs))))) (b ∷ c ∷ cs) ∷ words_of (drop (cond {A = ℕ} t 0 (suc (cond u 0 (suc (word_len cs))))) (b ∷ c ∷ cs))
-            ≡ take (word_len (b ∷ c ∷ cs)) (b ∷ c ∷ cs) ∷ words_of (drop (word_len (b ∷ c ∷ cs)) (b ∷ c ∷ cs))
+        ≡ take (word_len (b ∷ c ∷ cs)) (b ∷ c ∷ cs) ∷ words_of (drop (word_len (b ∷ c ∷ cs)) (b ∷ c ∷ cs))
     close_up t u e f =
         let shown : ℕ → List (List ℕ) = λ n. take n (b ∷ c ∷ cs) ∷ words_of (drop n (b ∷ c ∷ cs)) in
         ap (λ x. shown (cond {A = ℕ} x 0 (suc (cond u 0 (suc (word_len cs)))))) (sym e) ∙ ap (λ x. shown (cond {A = ℕ} (is_gap b) 0 (suc (cond x 0 (suc (word_len cs)))))) (sym f)
+
     by : (t : Bool) → is_gap b ≡ t → 0 < cond {A = ℕ} t 0 (suc (word_len (c ∷ cs))) → (u : Bool) → is_gap c ≡ u
         → (0 < word_len (c ∷ cs) → words_of (c ∷ cs) ≡ take (word_len (c ∷ cs)) (c ∷ cs) ∷ words_of (drop (word_len (c ∷ cs)) (c ∷ cs)))
         → words_of (b ∷ c ∷ cs) ≡ take (word_len (b ∷ c ∷ cs)) (b ∷ c ∷ cs) ∷ words_of (drop (word_len (b ∷ c ∷ cs)) (b ∷ c ∷ cs))
@@ -156,7 +159,7 @@ words-front (b ∷ c ∷ cs) h = by (is_gap b) refl h (is_gap c) refl (words-fro
     by false e f false g ih =
         let here : word_len (c ∷ cs) ≡ suc (word_len cs) = ap (λ x. cond {A = ℕ} x 0 (suc (word_len cs))) g in
         let next : words_of (c ∷ cs) ≡ take (suc (word_len cs)) (c ∷ cs) ∷ words_of (drop (suc (word_len cs)) (c ∷ cs)) =
-            ih (omega (arith, here)) ∙ ap (λ n. take n (c ∷ cs) ∷ words_of (drop n (c ∷ cs))) here in
+        ih (omega (arith, here)) ∙ ap (λ n. take n (c ∷ cs) ∷ words_of (drop n (c ∷ cs))) here in
         open_up false e g ∙ ap (in_front b) next ∙ close_up false false e g
 
 -- the first word of a line

@@ -6,7 +6,6 @@ ghost use Rattle.viz_words.specs.Numbers.{within, number_of, natural_in};
 
 use crate::refusal::ScriptRefusal;
 
-
 fn is_digit(b: u8) -> bool
     ensures { result ≡ is_digit b }
 {

@@ -39,10 +39,7 @@ pub enum ScriptRefusal {
 pub enum ScriptStop {
     /// The first line that has a refusal, with its first one.
     #[error("a line is refused")]
-    Refused {
-        line: u32,
-        refusal: ScriptRefusal,
-    },
+    Refused { line: u32, refusal: ScriptRefusal },
     /// Want of memory.
     #[error("out of memory")]
     Memory,

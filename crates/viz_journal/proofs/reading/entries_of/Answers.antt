@@ -38,7 +38,7 @@ returns-in-Err c =
     let some : 0 < length rest = omega (arith, eqb-false (length rest) 0 (sym c.loop-rest-test.ensures)) in
     let more = fuelled all.0 rest some all.1 in
     stopped-read {S = Bor (List ℕ)} (λ x. x.now) c.in-Err.stop es c.step.new.ledger.entries.items rest more.0 _ c.in-Err.ensures.goes
-        (ap (λ (k : ℕ). journal_from k (length es + 2) es rest) (sym more.1) ∙ all.2)
+    (ap (λ (k : ℕ). journal_from k (length es + 2) es rest) (sym more.1) ∙ all.2)
 
 pub returns : goal.returns
 returns c =

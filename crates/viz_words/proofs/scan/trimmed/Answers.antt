@@ -8,5 +8,6 @@ returns-then-line-len-eq13 c = trimmed-last c.args.line.now _ (omega arith) c.if
 
 pub returns-else-len-gt0 : goal.returns-else-len-gt0
 returns-else-len-gt0 c = elim c.else-len-gt0.branch [
-    else-len-gt0-via-then-len-gt0+else-line-len-eq13 w ↦ trimmed-kept c.args.line.now _ (omega arith) w.if-line-len-eq13.false
-  | else-len-gt0-via-else-len-gt0 w ↦ trimmed-empty c.args.line.now (omega arith) ]
+  | else-len-gt0-via-then-len-gt0+else-line-len-eq13 w ↦ trimmed-kept c.args.line.now _ (omega arith) w.if-line-len-eq13.false
+  | else-len-gt0-via-else-len-gt0 w ↦ trimmed-empty c.args.line.now (omega arith)
+]
