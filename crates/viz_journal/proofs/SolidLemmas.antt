@@ -1,6 +1,6 @@
 -- Words that are written one behind the other are found again.
 use Rattle.std.proofs.Common.{◌≡◌, ◌⊎◌, inl, inr, ℕ, ℤ, pos, negsuc, zero, suc, ◌+◌, ◌-◌, ◌*◌, ◌^◌, ◌<◌, ◌≤◌, Bool, true, false, cond, not, ◌&&◌, ◌||◌, nat_eq, nat_le, true≢false, List, [], ◌∷◌, ◌++◌, map, length, append_assoc, flat_map, Option, Some, None, Result, Ok, Err, refl, sym, ap, ◌∙◌, eqb-true, arith}
-use Rattle.std.specs.Prelude.{◌==◌, codes, neg_ℤ, option_map}
+use Rattle.std.specs.Prelude.{◌==◌, codes, neg_ℤ, option_map, ok_or, int_le, unsigned_abs}
 use Rattle.std.specs.List.{list_all, AllByRecursion}
 use Rattle.std.specs.Fmt.{decimal, signed_decimal}
 use Rattle.std.proofs.lemmas.Bool.{le-leb, leb-true, ne_eqb}
@@ -8,7 +8,12 @@ use Rattle.std.proofs.lemmas.List.{append-nil}
 use Rattle.std.proofs.lemmas.List.Folds.{list_all-append}
 use Rattle.viz_lex.specs.Numbers.{is_digit, digits_value, natural_of}
 use Rattle.viz_lex.proofs.NumberLemmas.{IsWritten, IsWritten-decimal, natural_of-digits}
-use Rattle.viz_words.specs.Lines.{is_plain_byte, is_plain}
+use Rattle.viz_kinds.specs.Values.{first_number, last_number}
+use Rattle.viz_words.specs.declared.refusal.ScriptRefusal.{ScriptRefusal}
+use Rattle.viz_words.specs.declared.refusal.ScriptRefusal.TheVariants.{Number}
+use Rattle.viz_words.specs.Gives.{◌>>=◌}
+use Rattle.viz_words.specs.Numbers.{within, number_of, natural_in}
+use Rattle.viz_words.specs.Lines.{in_front, is_plain_byte, is_plain}
 use Rattle.viz_words.specs.Words.{is_gap, begins_word, words_of, behind_space, spaced}
 use Rattle.viz_words.specs.Names.{is_node_byte, is_array_byte, is_node_name, is_array_name}
 use Rattle.viz_journal.specs.Reading.{Part, part_of, in_line}
@@ -84,24 +89,91 @@ solid-array word h =
 pub solid-decimal : (n : ℕ) → n ≤ 2 ^ 127 → Solid (decimal n)
 solid-decimal n h = let w = IsWritten-decimal n h in record { some = w.some; each = weaker is_digit is_array_byte digit-solid (decimal n) w.digits }
 
-pub solid-signed : (z : ℤ) → (m : ℕ) → (z ≡ pos m) ⊎ (z ≡ negsuc m) → suc m ≤ 2 ^ 127 → Solid (signed_decimal z)
-solid-signed (pos n) m e h = solid-decimal n (omega (arith, size e))
-  where
-    size : (pos n ≡ pos m) ⊎ (pos n ≡ negsuc m) → n ≤ 2 ^ 127
-    size (inl same) = let eq : n ≡ m = cc in omega (arith, eq, h)
-    size (inr same) = let bad : ⊥ = cc in absurd bad
-solid-signed (negsuc n) m e h =
-    let w = solid-decimal (suc n) (size e) in
-    record { some = omega arith; each = w.each }
-  where
-    size : (negsuc n ≡ pos m) ⊎ (negsuc n ≡ negsuc m) → suc n ≤ 2 ^ 127
-    size (inl same) = let bad : ⊥ = cc in absurd bad
-    size (inr same) = let eq : n ≡ m = cc in omega (arith, eq, h)
+-- a byte of a word in front of more
+opened : (b : ℕ) (t : List ℕ) (u : Bool) → is_gap b ≡ false → begins_word t ≡ u → words_of (b ∷ t) ≡ cond u (in_front b (words_of t)) ((b ∷ []) ∷ words_of t)
+opened b t u gap begins =
+    ap (λ x. cond x (words_of t) (cond (begins_word t) (in_front b (words_of t)) ((b ∷ []) ∷ words_of t))) gap
+    ∙ ap (λ x. cond x (in_front b (words_of t)) ((b ∷ []) ∷ words_of t)) begins
 
 -- a word and what doesn't go on with it
 words-front : (word rest : List ℕ) → 0 < length word → list_all is_array_byte word ≡ true → begins_word rest ≡ false → words_of (word ++ rest) ≡ word ∷ words_of rest
 words-front [] rest some each ends = absurd (omega (arith, some))
-words-front (b ∷ []) rest some each ends =
-    let gap = solid-gap b (and-parts _ _ each).0 in
-    ap (λ x. cond x (words_of rest) (cond (begins_word rest) (words_of (b ∷ rest)) ((b ∷ []) ∷ words_of rest))) gap ∙ ?
-words-front (b ∷ c ∷ cs) rest some each ends = ?
+words-front (b ∷ []) rest some each ends = opened b rest false (solid-gap b (and-parts _ _ each).0) ends
+words-front (b ∷ c ∷ cs) rest some each ends =
+    let parts = and-parts (is_array_byte b) (list_all is_array_byte (c ∷ cs)) each in
+    let next = and-parts (is_array_byte c) (list_all is_array_byte cs) parts.1 in
+    opened b ((c ∷ cs) ++ rest) true (solid-gap b parts.0) (ap not (solid-gap c next.0)) ∙ ap (in_front b) (words-front (c ∷ cs) rest (omega arith) parts.1 ends)
+
+tail-ends : (ws : List (List ℕ)) → begins_word (flat_map behind_space ws) ≡ false
+tail-ends [] = refl
+tail-ends (w ∷ ws) = refl
+
+words-tail : (ws : List (List ℕ)) → AllByRecursion Solid ws → words_of (flat_map behind_space ws) ≡ ws
+words-tail [] h = refl
+words-tail (w ∷ ws) h = words-front w (flat_map behind_space ws) h.0.some h.0.each (tail-ends ws) ∙ ap (λ l. w ∷ l) (words-tail ws h.1)
+
+-- the words of a line are found again
+pub words-again : (w : List ℕ) (ws : List (List ℕ)) → Solid w → AllByRecursion Solid ws → words_of (spaced (w ∷ ws)) ≡ w ∷ ws
+words-again w ws h hs = words-front w (flat_map behind_space ws) h.some h.each (tail-ends ws) ∙ ap (λ l. w ∷ l) (words-tail ws hs)
+
+plain-tail : (ws : List (List ℕ)) → AllByRecursion Solid ws → list_all is_plain_byte (flat_map behind_space ws) ≡ true
+plain-tail [] h = refl
+plain-tail (w ∷ ws) h =
+    list_all-append is_plain_byte (32 ∷ w) (flat_map behind_space ws)
+    ∙ ap (λ x. x && list_all is_plain_byte (flat_map behind_space ws)) (weaker is_array_byte is_plain_byte solid-plain w h.0.each) ∙ plain-tail ws h.1
+
+-- each byte of the line may stand there
+pub plain-again : (w : List ℕ) (ws : List (List ℕ)) → Solid w → AllByRecursion Solid ws → is_plain (spaced (w ∷ ws)) ≡ true
+plain-again w ws h hs =
+    list_all-append is_plain_byte w (flat_map behind_space ws)
+    ∙ ap (λ x. x && list_all is_plain_byte (flat_map behind_space ws)) (weaker is_array_byte is_plain_byte solid-plain w h.each) ∙ plain-tail ws hs
+
+-- a line without a newline is found in front
+pub part-plain : (line rest : List ℕ) → list_all is_plain_byte line ≡ true → part_of (line ++ 10 ∷ rest) ≡ part line true rest
+part-plain [] rest h = refl
+part-plain (b ∷ bs) rest h =
+    let parts = and-parts (is_plain_byte b) (list_all is_plain_byte bs) h in
+    ap (λ x. cond x (part [] true (bs ++ 10 ∷ rest)) (in_line b (part_of (bs ++ 10 ∷ rest)))) (other (b == 10) refl parts.0) ∙ ap (in_line b) (part-plain bs rest parts.1)
+  where
+    other : (t : Bool) → (b == 10) ≡ t → is_plain_byte b ≡ true → (b == 10) ≡ false
+    other false e p = e
+    other true e p = let bad : false ≡ true = sym (ap is_plain_byte (eqb-true b 10 e)) ∙ p in absurd (true≢false (sym bad))
+
+-- ---- numbers
+
+number-digits : (ds : List ℕ) → 0 < length ds → list_all is_digit ds ≡ true → number_of ds ≡ within (Some (pos (digits_value ds)))
+number-digits [] some digits = absurd (omega arith)
+number-digits (b ∷ bs) some digits =
+    let digit = and-parts (nat_le 48 b) (nat_le b 57) (and-parts (is_digit b) (list_all is_digit bs) digits).0 in
+    let low : 48 ≤ b = leb-true 48 b digit.0 in
+    ap (λ x. within (cond x (option_map (λ n. neg_ℤ (pos n)) (natural_of bs)) (option_map (λ n. pos n) (natural_of (b ∷ bs))))) (ne_eqb b 45 (λ e. omega arith))
+    ∙ ap (λ o. within (option_map (λ n. pos n) o)) (natural_of-digits (b ∷ bs) some digits)
+
+-- a number without a sign is read again
+pub number-decimal : (n : ℕ) → n < 2 ^ 63 → number_of (decimal n) ≡ Some (pos n)
+number-decimal n h =
+    let w = IsWritten-decimal n (omega arith) in
+    number-digits (decimal n) w.some w.digits ∙ ap (λ m. within (Some (pos m))) w.value ∙ ap (λ b. cond b (Some (pos n)) None) (le-leb n 9223372036854775807 (omega arith))
+
+-- a number with a sign is read again
+pub number-signed : (z : ℤ) → (int_le first_number z && int_le z last_number) ≡ true → number_of (signed_decimal z) ≡ Some z
+number-signed (pos n) h = number-decimal n (omega (arith, leb-true n 9223372036854775807 h))
+number-signed (negsuc n) h =
+    let low : n ≤ 9223372036854775807 = leb-true n 9223372036854775807 (and-parts _ _ h).0 in
+    let w = IsWritten-decimal (suc n) (omega arith) in
+    ap (λ o. within (option_map (λ m. neg_ℤ (pos m)) o)) (natural_of-digits (decimal (suc n)) w.some w.digits ∙ ap Some w.value)
+    ∙ ap (λ b. cond b (Some (negsuc n)) None) h
+
+pub solid-number : (z : ℤ) → (int_le first_number z && int_le z last_number) ≡ true → Solid (signed_decimal z)
+solid-number (pos n) h = solid-decimal n (omega (arith, leb-true n 9223372036854775807 h))
+solid-number (negsuc n) h =
+    let low : n ≤ 9223372036854775807 = leb-true n 9223372036854775807 (and-parts _ _ h).0 in
+    let w = solid-decimal (suc n) (omega arith) in
+    record { some = omega arith; each = w.each }
+
+-- a number within limits is read again
+pub natural-again : (least greatest n : ℕ) → least ≤ n → n ≤ greatest → greatest < 2 ^ 63 → natural_in least greatest (decimal n) ≡ Ok n
+unfolding natural_in
+natural-again least greatest n low high small =
+    ap (λ (o : Option ℤ). ok_or o Number >>= λ z. cond (int_le (pos least) z && int_le z (pos greatest)) (Ok (unsigned_abs z)) (Err Number)) (number-decimal n (omega arith))
+    ∙ ap (λ b. cond (b && nat_le n greatest) (Ok n) (Err Number)) (le-leb least n low) ∙ ap (λ b. cond b (Ok n) (Err Number)) (le-leb n greatest high)
