@@ -56,10 +56,10 @@ use Rattle.viz_journal.proofs.SolidLemmas.{and-parts, or-parts, Solid, solid-nod
 
 -- ---- names, kinds and parameters
 
-named-again : (test : List ℕ → Bool) (word : List ℕ) → test word ≡ true → named_in test word ≡ Ok word
+pub named-again : (test : List ℕ → Bool) (word : List ℕ) → test word ≡ true → named_in test word ≡ Ok word
 named-again test word h = ap (λ b. cond b (Ok word) (Err refusal.Name)) h
 
-param-again : (p : Param) → param_named (param_word p) ≡ Some p
+pub param-again : (p : Param) → param_named (param_word p) ≡ Some p
 param-again param.Array = refl
 param-again param.Unit = refl
 param-again param.Bounds = refl
@@ -74,10 +74,7 @@ param-again param.Style = refl
 param-again param.Digits = refl
 param-again param.Release = refl
 
-solid-test : (w : List ℕ) → nat_le 1 (length w) ≡ true → is_array_name w ≡ true → Solid w
-solid-test w some h = solid-array w h
-
-kind-solid : (k : Kind) → Solid (kind_word k)
+pub kind-solid : (k : Kind) → Solid (kind_word k)
 kind-solid kind.File = solid-array _ refl
 kind-solid kind.Crop = solid-array _ refl
 kind-solid kind.Sample = solid-array _ refl
@@ -93,7 +90,7 @@ kind-solid kind.Boundary = solid-array _ refl
 kind-solid kind.Merge = solid-array _ refl
 kind-solid kind.Writer = solid-array _ refl
 
-param-solid : (p : Param) → Solid (param_word p)
+pub param-solid : (p : Param) → Solid (param_word p)
 param-solid param.Array = solid-array _ refl
 param-solid param.Unit = solid-array _ refl
 param-solid param.Bounds = solid-array _ refl
@@ -127,6 +124,7 @@ op-name text h = by (or-parts _ _ h)
     three_names : ((is_text text (codes "add") || is_text text (codes "sub")) ≡ true) ⊎ (is_text text (codes "min") ≡ true) → is_node_name text ≡ true
     three_names (inl e) = two-names text (codes "add") (codes "sub") refl refl e
     three_names (inr e) = table-name text (codes "min") refl e
+
     by : ((is_text text (codes "add") || is_text text (codes "sub") || is_text text (codes "min")) ≡ true) ⊎ (is_text text (codes "max") ≡ true) → is_node_name text ≡ true
     by (inl e) = three_names (or-parts _ _ e)
     by (inr e) = table-name text (codes "max") refl e
@@ -180,7 +178,7 @@ zeros-are (x ∷ xs) h =
     ap (λ (z : ℤ). z ∷ xs) (zero-is x parts.0) ∙ ap (λ (l : List ℤ). pos 0 ∷ l) (zeros-are xs parts.1)
 
 -- the words of a value are counted and read again
-value-again : (p : Param) (value : Value) → is_value p value ≡ true → FitsValue p value
+pub value-again : (p : Param) (value : Value) → is_value p value ≡ true → FitsValue p value
     → (fits_count (numbers_of p) (length (value_words value)) ≡ true) × (value_in p (numbers_of p) (value_words value) ≡ Ok value) × AllByRecursion Solid (value_words value)
 unfolding one
 value-again p (Text text) h f =
@@ -190,7 +188,7 @@ value-again p (Numbers count items) h f = by (numbers_of p) refl h
   where
     by : (r : Option Range) → numbers_of p ≡ r → is_numbers p r count items ≡ true
         → (fits_count (numbers_of p) (length (map signed_decimal (take count items))) ≡ true) × (value_in p (numbers_of p) (map signed_decimal (take count items)) ≡ Ok (Numbers count items))
-            × AllByRecursion Solid (map signed_decimal (take count items))
+        × AllByRecursion Solid (map signed_decimal (take count items))
     by None e g = absurd (true≢false (sym g))
     by (Some range) e g =
         let ws = map signed_decimal (take count items) in
@@ -202,22 +200,24 @@ value-again p (Numbers count items) h f = by (numbers_of p) refl h
         let zeros = zeros-are (drop count items) (and-parts (fits_range range.low range.high (take count items)) (fits_range (pos 0) (pos 0) (drop count items)) halves.1).1 in
         let behind : length (drop count items) ≡ 8 - length (take count items) = omega (arith, length-drop count items, front, f.0) in
         let fills : padded (take count items) ≡ items =
-            ap (λ m. take count items ++ replicate m (pos 0)) (sym behind) ∙ ap (λ l. take count items ++ l) (sym zeros) ∙ take-append-drop count items in
-        let fit = all-take count items f.1 in
-        (ap (λ r. fits_count r (length ws)) e ∙ ap (λ n. nat_le range.least n && nat_le n range.most && nat_le n 8) long ∙ halves.0,
-            ap (λ r. value_in p r ws) e
-            ∙ ap (λ (r : Result (List ℤ) ScriptRefusal). (r >>= λ ns. Ok (padded ns)) >>= λ is. Ok (Numbers (length ws) is)) (numbers-again (take count items) fit)
-            ∙ ap (λ l. Ok (Numbers (length ws) l)) fills ∙ ap (λ n. Ok (Numbers n items)) long,
-            numbers-solid (take count items) fit)
+        ap (λ m. take count items ++ replicate m (pos 0)) (sym behind) ∙ ap (λ l. take count items ++ l) (sym zeros) ∙ take-append-drop count items in
+        let fit = all-take count items f.1 in (
+          ap (λ r. fits_count r (length ws)) e ∙ ap (λ n. nat_le range.least n && nat_le n range.most && nat_le n 8) long ∙ halves.0,
+          ap (λ r. value_in p r ws) e
+              ∙ ap (λ (r : Result (List ℤ) ScriptRefusal). (r >>= λ ns. Ok (padded ns)) >>= λ is. Ok (Numbers (length ws) is)) (numbers-again (take count items) fit)
+              ∙ ap (λ l. Ok (Numbers (length ws) l)) fills ∙ ap (λ n. Ok (Numbers n items)) long,
+          numbers-solid (take count items) fit,
+        )
 
 -- a set that is accepted has a value that the parameter may have
-accepted-value : (at : ℕ) (name : List ℕ) (p : Param) (value : Value) (net : Network) → is_ok (apply at (edit.Set name p value) net) ≡ true → is_value p value ≡ true
+pub accepted-value : (at : ℕ) (name : List ℕ) (p : Param) (value : Value) (net : Network) → is_ok (apply at (edit.Set name p value) net) ≡ true → is_value p value ≡ true
 accepted-value at name p value net h = by (named net name) h
   where
     inner : (a b : Bool) (made : Network) → is_ok {T = Network} {E = Refusal} (cond (not a) (Err cause.NoParam) (cond (not b) (Err cause.BadValue) (Ok made))) ≡ true → b ≡ true
     inner true true made g = refl
     inner true false made g = absurd (true≢false (sym g))
     inner false b made g = absurd (true≢false (sym g))
+
     by : (o : Option Node) → is_ok {T = Network} {E = Refusal} (option_map_or (λ n. cond (not (has_param (kind_of n.settings) p)) (Err cause.NoParam)
         (cond (not (is_value p value)) (Err cause.BadValue) (Ok (change (valued at p value) net name)))) o (Err cause.Unknown)) ≡ true → is_value p value ≡ true
     by None g = absurd (true≢false (sym g))

@@ -145,16 +145,19 @@ set-again : (param : Param) (node word : List ℕ) (words : List (List ℕ)) (va
     → value_in param (numbers_of param) words ≡ Ok value → value_set_in param (node ∷ word ∷ words) ≡ Ok (edit.Set node param value)
 unfolding value_set_in set_in
 set-again param node word words value h counted read =
-    ap (λ b. (guard b refusal.Arity >>= λ c. named_in is_node_name node >>= λ n. value_in param (numbers_of param) words >>= λ v. Ok (n, v)) >>= λ s. Ok (edit.Set s.0 param s.1)) counted
-    ∙ ap (λ (r : Result (List ℕ) ScriptRefusal). (r >>= λ n. value_in param (numbers_of param) words >>= λ v. Ok (n, v)) >>= λ s. Ok (edit.Set s.0 param s.1)) (named-again is_node_name node h)
-    ∙ ap (λ (r : Result Value ScriptRefusal). (r >>= λ v. Ok (node, v)) >>= λ s. Ok (edit.Set s.0 param s.1)) read
+    let pair : List ℕ → Value → Result (List ℕ × Value) ScriptRefusal = λ n v. Ok (n, v) in
+    let done : List ℕ × Value → Result Edit ScriptRefusal = λ s. Ok (edit.Set s.0 param s.1) in
+    let valued : List ℕ → Result (List ℕ × Value) ScriptRefusal = λ n. value_in param (numbers_of param) words >>= pair n in
+    let named : Unit {0} → Result (List ℕ × Value) ScriptRefusal = λ c. named_in is_node_name node >>= valued in
+    ap (λ b. (guard b refusal.Arity >>= named) >>= done) counted
+    ∙ ap (λ (r : Result (List ℕ) ScriptRefusal). (r >>= valued) >>= done) (named-again is_node_name node h)
+    ∙ ap (λ (r : Result Value ScriptRefusal). (r >>= pair node) >>= done) read
 
 load-again : (node : List ℕ) (n : ℕ) → is_node_name node ≡ true → n < 2 ^ 63 → load_draft (node ∷ decimal n ∷ []) ≡ Ok (draft.Load node (pos n))
 unfolding load_draft two one
 load-again node n h small =
     ap (λ (r : Result (List ℕ) ScriptRefusal). r >>= λ a. number_in (decimal n) >>= λ len. Ok (draft.Load a len)) (named-again is_node_name node h)
     ∙ ap (λ (o : Option ℤ). ok_or o refusal.Number >>= λ len. Ok (draft.Load node len)) (number-decimal n small)
-
 
 draft-again : (e : Edit) → FitsEdit e → HasValue e → draft_in (verb_for e) (tail_words e) ≡ Ok (draft_for e)
 draft-again (edit.Add kind node) f v = ap (λ (r : Result Edit ScriptRefusal). r >>= λ e. Ok (draft.Edit e)) (add-again kind (kind_word kind) node f.1)
@@ -202,12 +205,14 @@ line-again e small_a small_c fits valued =
     let solid_rest : AllByRecursion Solid (decimal e.count ∷ words) = (solid-decimal e.count (omega (arith, small_c)), solid_words) in
     let written = IsWritten-decimal e.actor (omega (arith, small_a)) in
     let told = told-words e.actor e.count words (tail_words e.edit) (head_word e.edit) (verb_for e.edit) (draft_for e.edit) (words-are e.edit) (verb-again e.edit fits) (verb-stands e.edit)
-        (draft-again e.edit fits valued) small_a small_c in
-    let plain = plain-again (decimal e.actor) (decimal e.count ∷ words) solid_a solid_rest in
-    (plain, ap (λ t. guard t refusal.Word >>= λ p. words_in (words_of (entry_line e))) plain
-        ∙ ap words_in (words-again (decimal e.actor) (decimal e.count ∷ words) solid_a solid_rest)
-        ∙ ap (λ t. cond t (last_in (decimal e.count ∷ words)) (entry_in (decimal e.actor) (decimal e.count ∷ words))) (not-end (decimal e.actor) written.some written.digits)
-        ∙ ap (λ (r : Result Told ScriptRefusal). r >>= λ t. Ok (line.Entry t)) told)
+    (draft-again e.edit fits valued) small_a small_c in
+    let plain = plain-again (decimal e.actor) (decimal e.count ∷ words) solid_a solid_rest in (
+      plain,
+      ap (λ t. guard t refusal.Word >>= λ p. words_in (words_of (entry_line e))) plain
+          ∙ ap words_in (words-again (decimal e.actor) (decimal e.count ∷ words) solid_a solid_rest)
+          ∙ ap (λ t. cond t (last_in (decimal e.count ∷ words)) (entry_in (decimal e.actor) (decimal e.count ∷ words))) (not-end (decimal e.actor) written.some written.digits)
+          ∙ ap (λ (r : Result Told ScriptRefusal). r >>= λ t. Ok (line.Entry t)) told,
+    )
 
 -- the last line as words
 last-spaced : (m : ℕ) → last_line m ≡ spaced (codes "end" ∷ decimal m ∷ [])
@@ -220,6 +225,8 @@ last-again m small =
     let solid_end : Solid (codes "end") = solid-array _ refl in
     let solid_m : AllByRecursion Solid (decimal m ∷ []) = (solid-decimal m (omega (arith, small)), tt) in
     let plain : is_plain (last_line m) ≡ true = ap is_plain (last-spaced m) ∙ plain-again (codes "end") (decimal m ∷ []) solid_end solid_m in
-    let words : words_of (last_line m) ≡ codes "end" ∷ decimal m ∷ [] = ap words_of (last-spaced m) ∙ words-again (codes "end") (decimal m ∷ []) solid_end solid_m in
-    (plain, ap (λ t. guard t refusal.Word >>= λ p. words_in (words_of (last_line m))) plain ∙ ap words_in words
-        ∙ ap (λ (r : Result ℕ ScriptRefusal). r >>= λ count. Ok (line.Last count)) (natural-again 0 greatest m (omega arith) (omega (arith, small)) (omega arith)))
+    let words : words_of (last_line m) ≡ codes "end" ∷ decimal m ∷ [] = ap words_of (last-spaced m) ∙ words-again (codes "end") (decimal m ∷ []) solid_end solid_m in (
+      plain,
+      ap (λ t. guard t refusal.Word >>= λ p. words_in (words_of (last_line m))) plain ∙ ap words_in words
+          ∙ ap (λ (r : Result ℕ ScriptRefusal). r >>= λ count. Ok (line.Last count)) (natural-again 0 greatest m (omega arith) (omega (arith, small)) (omega arith)),
+    )

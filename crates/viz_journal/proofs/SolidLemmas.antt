@@ -67,9 +67,11 @@ node-solid b h = first (or-parts _ _ h)
     second : ((nat_le 48 b && nat_le b 57) ≡ true) ⊎ ((nat_le 65 b && nat_le b 90) ≡ true) → is_array_byte b ≡ true
     second (inl e) = between 48 57 b (omega arith) (omega arith) e
     second (inr e) = between 65 90 b (omega arith) (omega arith) e
+
     line : ((nat_le 48 b && nat_le b 57 || nat_le 65 b && nat_le b 90) ≡ true) ⊎ ((b == 95) ≡ true) → is_array_byte b ≡ true
     line (inl e) = second (or-parts _ _ e)
     line (inr e) = let same = eqb-true b 95 e in from_bounds b (omega (arith, same)) (omega (arith, same))
+
     first : ((nat_le 48 b && nat_le b 57 || nat_le 65 b && nat_le b 90 || b == 95) ≡ true) ⊎ ((nat_le 97 b && nat_le b 122) ≡ true) → is_array_byte b ≡ true
     first (inl e) = line (or-parts _ _ e)
     first (inr e) = between 97 122 b (omega arith) (omega arith) e

@@ -53,11 +53,12 @@ file-again (edit.Connect from to port) rest = (refl, refl, refl, refl)
 file-again (edit.Disconnect to port) rest = (refl, refl, refl, refl)
 file-again (edit.Set node param value) rest = (refl, refl, refl, refl)
 file-again (edit.Load node file) rest =
-    let whole : (file ++ 10 ∷ []) ++ rest ≡ file ++ 10 ∷ rest = append_assoc file (10 ∷ []) rest in
-    (le-leb (length file) (length ((file ++ 10 ∷ []) ++ rest)) (omega (arith, ap length whole, length-append file (10 ∷ rest))),
-        ap (λ l. begins_newline (drop (length file) l)) whole ∙ ap begins_newline (drop-front file (10 ∷ rest)),
-        ap (λ l. edit.Load node (take (length file) l)) whole ∙ ap (λ l. edit.Load node l) (take-front file (10 ∷ rest)),
-        ap (drop (length file + 1)) whole ∙ drop-more file rest 10)
+    let whole : (file ++ 10 ∷ []) ++ rest ≡ file ++ 10 ∷ rest = append_assoc file (10 ∷ []) rest in (
+      le-leb (length file) (length ((file ++ 10 ∷ []) ++ rest)) (omega (arith, ap length whole, length-append file (10 ∷ rest))),
+      ap (λ l. begins_newline (drop (length file) l)) whole ∙ ap begins_newline (drop-front file (10 ∷ rest)),
+      ap (λ l. edit.Load node (take (length file) l)) whole ∙ ap (λ l. edit.Load node l) (take-front file (10 ∷ rest)),
+      ap (drop (length file + 1)) whole ∙ drop-more file rest 10,
+    )
 
 has-value : (e : Edit) (before : List JournalEntry) → is_accepted e before ≡ true → HasValue e
 has-value (edit.Set node param value) before h = accepted-value (length before + 1) node param value (net_of (edits_of before)) h
@@ -78,12 +79,12 @@ entry-again before e rest f room =
     let same : entry_of told at.rest ≡ e = ap (λ (x : Edit). let made : JournalEntry = record { actor = e.actor; count = e.count; edit = x } in made) file.2 in
     let counted : is_counted told before ≡ true = ap (λ b. b && nat_lt (length before) entry_limit) (eq-eqb e.count (entries_by e.actor before + 1) f.count) ∙ lt-ltb (length before) entry_limit room in
     let spelled : is_spelled told at ≡ true = ap (λ b. b && is_text (entry_line e) (entry_line (entry_of told at.rest))) file.1
-        ∙ ap (λ (x : JournalEntry). is_text (entry_line e) (entry_line x)) same ∙ text-same (entry_line e) in
+    ∙ ap (λ (x : JournalEntry). is_text (entry_line e) (entry_line x)) same ∙ text-same (entry_line e) in
     let accepted : is_accepted (edit_of told.draft at.rest) before ≡ true = ap (λ (x : Edit). is_accepted x before) file.2 ∙ f.accepted in
     ap (λ b. guard b refusal.Number >>= λ c. guard (is_there told.draft at.rest) refusal.Number >>= λ t. guard (is_spelled told at) refusal.Word >>= λ s.
-        guard (is_accepted (edit_of told.draft at.rest) before) refusal.Edit >>= λ a. Ok (entry_of told at.rest)) counted
+    guard (is_accepted (edit_of told.draft at.rest) before) refusal.Edit >>= λ a. Ok (entry_of told at.rest)) counted
     ∙ ap (λ b. guard b refusal.Number >>= λ t. guard (is_spelled told at) refusal.Word >>= λ s.
-        guard (is_accepted (edit_of told.draft at.rest) before) refusal.Edit >>= λ a. Ok (entry_of told at.rest)) file.0
+    guard (is_accepted (edit_of told.draft at.rest) before) refusal.Edit >>= λ a. Ok (entry_of told at.rest)) file.0
     ∙ ap (λ b. guard b refusal.Word >>= λ s. guard (is_accepted (edit_of told.draft at.rest) before) refusal.Edit >>= λ a. Ok (entry_of told at.rest)) spelled
     ∙ ap (λ b. guard b refusal.Edit >>= λ a. Ok (entry_of told at.rest)) accepted
     ∙ ap (λ (x : JournalEntry). Ok x) same
@@ -115,7 +116,7 @@ again-from (suc k) before (e ∷ added) entries are fits few enough =
     let rest = flat_map entry_text added ++ tail_of entries in
     let behind = file_text e.edit ++ rest in
     let whole : flat_map entry_text (e ∷ added) ++ tail_of entries ≡ entry_line e ++ 10 ∷ behind =
-        append_assoc (entry_text e) (flat_map entry_text added) (tail_of entries) ∙ append_assoc (entry_line e) (10 ∷ file_text e.edit) rest in
+    append_assoc (entry_text e) (flat_map entry_text added) (tail_of entries) ∙ append_assoc (entry_line e) (10 ∷ file_text e.edit) rest in
     let f = fits.0 in
     let long : length entries ≡ length before + suc (length added) = ap length are ∙ length-append before (e ∷ added) in
     let room : length before < entry_limit = omega (arith, long, few) in
@@ -125,7 +126,7 @@ again-from (suc k) before (e ∷ added) entries are fits few enough =
     let less : length rest ≤ k = omega (arith, ap length whole, length-append (entry_line e) (10 ∷ behind), length-append (file_text e.edit) rest, enough) in
     ap (journal_from (suc k) (length before + 2) before) whole
     ∙ journal_from-entry k before (before ++ e ∷ []) (entry_line e ++ 10 ∷ behind) rest (part (entry_line e) true behind) (told_for e) e
-        (part-plain (entry_line e) behind says.0) says.1 (entry-again before e rest f room) refl (sym file.3)
+    (part-plain (entry_line e) behind says.0) says.1 (entry-again before e rest f room) refl (sym file.3)
     ∙ again-from k (before ++ e ∷ []) added entries (are ∙ sym (append_assoc before (e ∷ []) added)) fits.1 few less
 
 pub again : (entries : List JournalEntry) → Fits entries → journal_of (journal entries) ≡ Ok entries

@@ -15,7 +15,7 @@ mod reading;
 mod writing;
 
 pub use entry::JournalEntry;
-pub use laws::nothing_else_is_read;
+pub use laws::{nothing_else_is_read, what_is_written_is_read};
 pub use reading::read_journal;
 pub use viz_words::{ScriptRefusal, ScriptStop};
 pub use writing::journal_text;
