@@ -1,14 +1,11 @@
 -- What is written as a journal is read again.
-use Rattle.std.proofs.Common.{◌≡◌, ◌⊎◌, inl, inr, ℕ, ℤ, pos, negsuc, zero, suc, ◌+◌, ◌-◌, ◌^◌, ◌<◌, ◌≤◌, Bool, true, false, cond, not, ◌&&◌, ◌||◌, nat_eq, nat_le, true≢false, List, [], ◌∷◌, ◌++◌, map, length, length-append, take, drop, replicate, append_assoc, flat_map, Option, Some, None, Result, Ok, Err, refl, sym, ap, subst, ◌∙◌, eq-eqb, eqb-true, arith}
-use Rattle.std.specs.Prelude.{◌==◌, codes, ok_or, int_le, nat_lt, is_ok}
+use Rattle.std.proofs.Common.{◌≡◌, ◌⊎◌, inl, inr, ℕ, ℤ, pos, negsuc, zero, suc, ◌-◌, Bool, true, false, cond, not, ◌&&◌, ◌||◌, nat_le, true≢false, List, [], ◌∷◌, ◌++◌, map, length, take, drop, replicate, Option, Some, None, Result, Ok, Err, refl, sym, ap, ◌∙◌, arith}
+use Rattle.std.specs.Prelude.{codes, ok_or, int_le, is_ok}
 use Rattle.std.specs.Option.{option_map_or}
 use Rattle.std.specs.List.{list_all, AllByRecursion}
-use Rattle.std.specs.Cmp.Lexicographic.{pointwise}
-use Rattle.std.specs.Fmt.{decimal, signed_decimal}
-use Rattle.std.proofs.lemmas.Bool.{le-leb, leb-true, lt-ltb, ne_eqb}
-use Rattle.std.proofs.lemmas.List.{append-nil, length-map, length-take-le, length-drop, take-append-drop}
-use Rattle.viz_lex.specs.Numbers.{is_digit}
-use Rattle.viz_lex.proofs.NumberLemmas.{IsWritten, IsWritten-decimal}
+use Rattle.std.specs.Fmt.{signed_decimal}
+use Rattle.std.proofs.lemmas.Bool.{leb-true}
+use Rattle.std.proofs.lemmas.List.{length-map, length-take-le, length-drop, take-append-drop}
 use Rattle.viz_kinds.specs.declared.kind.Kind.{Kind}
 use Rattle.viz_kinds.specs.declared.kind.Kind.TheVariants as kind
 use Rattle.viz_kinds.specs.declared.param.Param.{Param}
@@ -19,7 +16,6 @@ use Rattle.viz_kinds.specs.declared.range.Range.{Range}
 use Rattle.viz_kinds.specs.Kinds.{has_param}
 use Rattle.viz_kinds.specs.Settings.{kind_of}
 use Rattle.viz_kinds.specs.Values.{first_number, last_number, is_text, takes_text, is_value, is_numbers, numbers_of, fits_range, fits_rest}
-use Rattle.viz_network.specs.declared.edit.Edit.{Edit}
 use Rattle.viz_network.specs.declared.edit.Edit.TheVariants as edit
 use Rattle.viz_network.specs.declared.node.Node.{Node}
 use Rattle.viz_network.specs.declared.refusal.Refusal.{Refusal}
@@ -28,31 +24,14 @@ use Rattle.viz_network.specs.Network.{Network, named, change}
 use Rattle.viz_network.specs.Edits.{apply, valued}
 use Rattle.viz_words.specs.declared.refusal.ScriptRefusal.{ScriptRefusal}
 use Rattle.viz_words.specs.declared.refusal.ScriptRefusal.TheVariants as refusal
-use Rattle.viz_words.specs.declared.command.Command.TheVariants as command
-use Rattle.viz_words.specs.declared.command.Verb.{Verb}
-use Rattle.viz_words.specs.declared.command.Verb.TheVariants as verb
-use Rattle.viz_words.specs.Gives.{◌>>=◌, guard}
-use Rattle.viz_words.specs.Lines.{begins_newline, is_plain}
-use Rattle.viz_words.specs.Words.{words_of, spaced}
-use Rattle.viz_words.specs.Numbers.{number_of, number_in, natural_in}
+use Rattle.viz_words.specs.Gives.{◌>>=◌}
 use Rattle.viz_words.specs.Names.{is_node_name, is_array_name, named_in}
-use Rattle.viz_words.specs.Tables.{command_word, kind_word, param_word, kind_named, param_named}
-use Rattle.viz_words.specs.Commands.{kind_verb, param_verb, verb_of, due, one, two, three, fits_count, numbers_in, padded, text_in, value_in, set_in}
-use Rattle.viz_words.specs.Edits.{add_in, remove_in, connect_in, disconnect_in, value_set_in, edit_in}
-use Rattle.viz_journal.specs.declared.draft.Draft.{Draft}
-use Rattle.viz_journal.specs.declared.draft.Draft.TheVariants as draft
-use Rattle.viz_journal.specs.declared.draft.Told.{Told}
-use Rattle.viz_journal.specs.declared.draft.Line.{Line}
-use Rattle.viz_journal.specs.declared.draft.Line.TheVariants as line
-use Rattle.viz_journal.specs.declared.entry.JournalEntry.{JournalEntry}
-use Rattle.viz_journal.specs.Journal.{value_words, edit_words, entry_words, entry_line, file_text, entry_text, first_line, last_line, journal}
-use Rattle.viz_journal.specs.Lines.{greatest, journal_verb, load_draft, edit_draft, draft_in, told_in, last_in, entry_in, words_in, line_in}
-use Rattle.viz_journal.specs.Reading.{Part, part_of, is_there, is_closed, rest_of, edit_of, entry_of, entries_by, is_counted, is_spelled, is_accepted, entry_limit, entry_at, last_at, ends, entered, judged, journal_from, journal_of, Stop}
-use Rattle.viz_journal.specs.Fits.{FitsValue, FitsEdit, FitsEntry, AreEntries, Fits}
-use Rattle.viz_journal.proofs.PartLemmas.{part}
+use Rattle.viz_words.specs.Tables.{kind_word, param_word, param_named}
+use Rattle.viz_words.specs.Commands.{one, fits_count, numbers_in, padded, text_in, value_in}
+use Rattle.viz_journal.specs.Journal.{value_words}
+use Rattle.viz_journal.specs.Fits.{FitsValue}
 use Rattle.viz_journal.proofs.OnlyLemmas.{same-text}
-use Rattle.viz_journal.proofs.ReadLemmas.{journal_from-line, journal_from-entry}
-use Rattle.viz_journal.proofs.SolidLemmas.{and-parts, or-parts, Solid, solid-node, solid-array, solid-decimal, solid-number, words-again, plain-again, part-plain, number-decimal, number-signed, natural-again}
+use Rattle.viz_journal.proofs.SolidLemmas.{and-parts, or-parts, Solid, solid-node, solid-array, solid-number, number-signed}
 
 -- ---- names, kinds and parameters
 

@@ -1,12 +1,12 @@
 -- A line that is written says what it was written of.
-use Rattle.std.proofs.Common.{◌≡◌, ◌⊎◌, inl, inr, ℕ, ℤ, pos, negsuc, zero, suc, ◌+◌, ◌-◌, ◌^◌, ◌<◌, ◌≤◌, Bool, true, false, cond, not, ◌&&◌, nat_eq, nat_le, true≢false, List, [], ◌∷◌, ◌++◌, map, length, length-append, take, drop, append_assoc, flat_map, Option, Some, None, Result, Ok, Err, refl, sym, ap, ◌∙◌, eq-eqb, arith}
-use Rattle.std.specs.Prelude.{◌==◌, codes, ok_or, int_le, nat_lt}
+use Rattle.std.proofs.Common.{◌≡◌, ℕ, ℤ, pos, ◌^◌, ◌<◌, ◌≤◌, true, false, cond, ◌&&◌, nat_le, List, [], ◌∷◌, ◌++◌, length, Option, Result, Ok, refl, sym, ap, ◌∙◌, arith}
+use Rattle.std.specs.Prelude.{codes, ok_or}
 use Rattle.std.specs.List.{list_all, AllByRecursion}
 use Rattle.std.specs.Fmt.{decimal}
-use Rattle.std.proofs.lemmas.Bool.{le-leb, leb-true, lt-ltb, ne_eqb}
+use Rattle.std.proofs.lemmas.Bool.{leb-true, ne_eqb}
 use Rattle.std.proofs.lemmas.List.{append-nil}
 use Rattle.viz_lex.specs.Numbers.{is_digit}
-use Rattle.viz_lex.proofs.NumberLemmas.{IsWritten, IsWritten-decimal}
+use Rattle.viz_lex.proofs.NumberLemmas.{IsWritten-decimal}
 use Rattle.viz_kinds.specs.declared.kind.Kind.{Kind}
 use Rattle.viz_kinds.specs.declared.param.Param.{Param}
 use Rattle.viz_kinds.specs.declared.param.Value.{Value}
@@ -29,10 +29,9 @@ use Rattle.viz_words.specs.Edits.{add_in, remove_in, connect_in, disconnect_in, 
 use Rattle.viz_journal.specs.declared.draft.Draft.{Draft}
 use Rattle.viz_journal.specs.declared.draft.Draft.TheVariants as draft
 use Rattle.viz_journal.specs.declared.draft.Told.{Told}
-use Rattle.viz_journal.specs.declared.draft.Line.{Line}
 use Rattle.viz_journal.specs.declared.draft.Line.TheVariants as line
 use Rattle.viz_journal.specs.declared.entry.JournalEntry.{JournalEntry}
-use Rattle.viz_journal.specs.Journal.{value_words, edit_words, entry_words, entry_line, last_line}
+use Rattle.viz_journal.specs.Journal.{value_words, edit_words, entry_line, last_line}
 use Rattle.viz_journal.specs.Lines.{greatest, journal_verb, load_draft, draft_in, told_in, last_in, entry_in, words_in, line_in}
 use Rattle.viz_journal.specs.Fits.{FitsEdit}
 use Rattle.viz_journal.proofs.SolidLemmas.{and-parts, Solid, solid-node, solid-array, solid-decimal, words-again, plain-again, number-decimal, natural-again}

@@ -1,10 +1,9 @@
 -- What is read as a journal is the text of its entries.
-use Rattle.std.proofs.Common.{◌≡◌, ℕ, zero, suc, ◌+◌, Bool, true, false, cond, not, ◌&&◌, nat_eq, true≢false, List, [], ◌∷◌, ◌++◌, length, take, drop, pos, negsuc, append_assoc, flat_map, Result, Ok, Err, refl, sym, ap, subst, ◌∙◌, eqb-true, add-one, arith}
+use Rattle.std.proofs.Common.{◌≡◌, ℕ, zero, suc, ◌+◌, Bool, true, false, cond, not, ◌&&◌, nat_eq, true≢false, List, [], ◌∷◌, ◌++◌, length, take, drop, append_assoc, flat_map, Result, Ok, Err, refl, sym, ap, ◌∙◌, eqb-true}
 use Rattle.std.specs.Prelude.{◌==◌}
 use Rattle.std.specs.Cmp.Lexicographic.{pointwise}
 use Rattle.std.proofs.lemmas.List.{append-nil, take-append-drop, drop-drop}
 use Rattle.viz_kinds.specs.Values.{is_text}
-use Rattle.viz_network.specs.declared.edit.Edit.{Edit}
 use Rattle.viz_network.specs.declared.edit.Edit.TheVariants as edit
 use Rattle.viz_words.specs.declared.refusal.ScriptRefusal.{ScriptRefusal}
 use Rattle.viz_words.specs.declared.refusal.ScriptRefusal.TheVariants as refusal
@@ -18,7 +17,7 @@ use Rattle.viz_journal.specs.declared.draft.Told.{Told}
 use Rattle.viz_journal.specs.declared.entry.JournalEntry.{JournalEntry}
 use Rattle.viz_journal.specs.Journal.{entry_line, entry_text, file_text, first_line, last_line, journal}
 use Rattle.viz_journal.specs.Lines.{size, line_in}
-use Rattle.viz_journal.specs.Reading.{Part, part_of, in_line, is_there, has_bytes, is_closed, rest_of, edit_of, entry_of, is_counted, is_spelled, is_accepted, entry_at, ends, last_at, entered, judged, journal_from, journal_of, Stop}
+use Rattle.viz_journal.specs.Reading.{Part, part_of, in_line, is_there, is_closed, rest_of, edit_of, entry_of, is_counted, is_spelled, is_accepted, entry_at, ends, last_at, entered, judged, journal_from, journal_of}
 
 -- texts that compare alike are one
 pub same-text : (xs ys : List ℕ) → pointwise nat_eq xs ys ≡ true → xs ≡ ys

@@ -9,7 +9,7 @@ use Rattle.viz_journal.specs.declared.draft.Line.TheVariants as line
 use Rattle.viz_journal.specs.declared.draft.Told.{Told}
 use Rattle.viz_journal.specs.declared.entry.JournalEntry.{JournalEntry}
 use Rattle.viz_journal.specs.Lines.{line_in}
-use Rattle.viz_journal.specs.Reading.{Part, part_of, rest_of, entry_at, last_at, entered, judged, journal_from, Stop, Reads, Stops}
+use Rattle.viz_journal.specs.Reading.{Part, part_of, rest_of, entry_at, entered, judged, journal_from, Stop, Reads, Stops}
 use Rattle.viz_journal.specs.Steps.Kept.{Goes}
 
 -- a line is judged by what it says

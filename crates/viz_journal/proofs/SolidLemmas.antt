@@ -1,22 +1,20 @@
 -- Words that are written one behind the other are found again.
-use Rattle.std.proofs.Common.{◌≡◌, ◌⊎◌, inl, inr, ℕ, ℤ, pos, negsuc, zero, suc, ◌+◌, ◌-◌, ◌*◌, ◌^◌, ◌<◌, ◌≤◌, Bool, true, false, cond, not, ◌&&◌, ◌||◌, nat_eq, nat_le, true≢false, List, [], ◌∷◌, ◌++◌, map, length, append_assoc, flat_map, Option, Some, None, Result, Ok, Err, refl, sym, ap, ◌∙◌, eqb-true, arith}
-use Rattle.std.specs.Prelude.{◌==◌, codes, neg_ℤ, option_map, ok_or, int_le, unsigned_abs}
+use Rattle.std.proofs.Common.{◌≡◌, ◌⊎◌, inl, inr, ℕ, ℤ, pos, negsuc, suc, ◌^◌, ◌<◌, ◌≤◌, Bool, true, false, cond, not, ◌&&◌, ◌||◌, nat_le, true≢false, List, [], ◌∷◌, ◌++◌, length, flat_map, Option, Some, None, Ok, Err, refl, sym, ap, ◌∙◌, eqb-true, arith}
+use Rattle.std.specs.Prelude.{◌==◌, neg_ℤ, option_map, ok_or, int_le, unsigned_abs}
 use Rattle.std.specs.List.{list_all, AllByRecursion}
 use Rattle.std.specs.Fmt.{decimal, signed_decimal}
 use Rattle.std.proofs.lemmas.Bool.{le-leb, leb-true, ne_eqb}
-use Rattle.std.proofs.lemmas.List.{append-nil}
 use Rattle.std.proofs.lemmas.List.Folds.{list_all-append}
 use Rattle.viz_lex.specs.Numbers.{is_digit, digits_value, natural_of}
-use Rattle.viz_lex.proofs.NumberLemmas.{IsWritten, IsWritten-decimal, natural_of-digits}
+use Rattle.viz_lex.proofs.NumberLemmas.{IsWritten-decimal, natural_of-digits}
 use Rattle.viz_kinds.specs.Values.{first_number, last_number}
-use Rattle.viz_words.specs.declared.refusal.ScriptRefusal.{ScriptRefusal}
 use Rattle.viz_words.specs.declared.refusal.ScriptRefusal.TheVariants.{Number}
 use Rattle.viz_words.specs.Gives.{◌>>=◌}
 use Rattle.viz_words.specs.Numbers.{within, number_of, natural_in}
 use Rattle.viz_words.specs.Lines.{in_front, is_plain_byte, is_plain}
 use Rattle.viz_words.specs.Words.{is_gap, begins_word, words_of, behind_space, spaced}
 use Rattle.viz_words.specs.Names.{is_node_byte, is_array_byte, is_node_name, is_array_name}
-use Rattle.viz_journal.specs.Reading.{Part, part_of, in_line}
+use Rattle.viz_journal.specs.Reading.{part_of, in_line}
 use Rattle.viz_journal.proofs.PartLemmas.{part}
 
 pub and-parts : (a b : Bool) → (a && b) ≡ true → (a ≡ true) × (b ≡ true)

@@ -1,6 +1,6 @@
 -- A journal that is written is read again.
-use Rattle.std.proofs.Common.{◌≡◌, ℕ, ℤ, pos, zero, suc, ◌+◌, ◌-◌, ◌^◌, ◌<◌, ◌≤◌, Bool, true, false, cond, not, ◌&&◌, nat_eq, nat_le, List, [], ◌∷◌, ◌++◌, length, length-append, take, drop, append_assoc, flat_map, Result, Ok, Err, refl, sym, ap, ◌∙◌, eq-eqb, arith}
-use Rattle.std.specs.Prelude.{◌==◌, nat_lt, int_le, count_by}
+use Rattle.std.proofs.Common.{◌≡◌, ℕ, zero, suc, ◌+◌, ◌^◌, ◌<◌, ◌≤◌, true, cond, not, ◌&&◌, nat_eq, List, [], ◌∷◌, ◌++◌, length, length-append, take, drop, append_assoc, flat_map, Ok, Err, refl, sym, ap, ◌∙◌, eq-eqb, arith}
+use Rattle.std.specs.Prelude.{◌==◌, nat_lt}
 use Rattle.std.specs.Cmp.Lexicographic.{pointwise}
 use Rattle.std.proofs.lemmas.Bool.{le-leb, lt-ltb}
 use Rattle.std.proofs.lemmas.List.{append-nil}
@@ -9,16 +9,14 @@ use Rattle.viz_kinds.specs.Values.{is_text}
 use Rattle.viz_network.specs.declared.edit.Edit.{Edit}
 use Rattle.viz_network.specs.declared.edit.Edit.TheVariants as edit
 use Rattle.viz_network.specs.History.{net_of}
-use Rattle.viz_words.specs.declared.refusal.ScriptRefusal.{ScriptRefusal}
 use Rattle.viz_words.specs.declared.refusal.ScriptRefusal.TheVariants as refusal
 use Rattle.viz_words.specs.Gives.{◌>>=◌, guard}
 use Rattle.viz_words.specs.Lines.{begins_newline}
 use Rattle.viz_journal.specs.declared.draft.Line.TheVariants as line
-use Rattle.viz_journal.specs.declared.draft.Told.{Told}
 use Rattle.viz_journal.specs.declared.entry.JournalEntry.{JournalEntry}
 use Rattle.viz_journal.specs.Journal.{entry_line, file_text, entry_text, first_line, last_line, journal}
-use Rattle.viz_journal.specs.Reading.{Part, part_of, is_there, is_closed, rest_of, edit_of, entry_of, edits_of, entries_by, is_counted, is_spelled, is_accepted, entry_limit, entry_at, last_at, ends, judged, journal_from, journal_of, Stop}
-use Rattle.viz_journal.specs.Fits.{FitsEdit, FitsEntry, AreEntries, Fits}
+use Rattle.viz_journal.specs.Reading.{is_there, is_closed, rest_of, edit_of, entry_of, edits_of, entries_by, is_counted, is_spelled, is_accepted, entry_limit, entry_at, journal_from, journal_of}
+use Rattle.viz_journal.specs.Fits.{FitsEntry, AreEntries, Fits}
 use Rattle.viz_journal.proofs.PartLemmas.{part}
 use Rattle.viz_journal.proofs.ReadLemmas.{journal_from-line, journal_from-entry}
 use Rattle.viz_journal.proofs.SolidLemmas.{part-plain}

@@ -1,5 +1,5 @@
 -- Entries that a journal can have (docs/FORMATS.md, "Journals").
-use Rattle.std.specs.Prelude.{◌≡◌, ℕ, ◌+◌, ◌^◌, ◌<◌, ◌≤◌, true, ◌&&◌, int_le, List, [], ◌∷◌, ◌++◌, length, Some}
+use Rattle.std.specs.Prelude.{◌≡◌, ◌+◌, ◌^◌, ◌<◌, ◌≤◌, true, ◌&&◌, int_le, List, [], ◌∷◌, ◌++◌, length, Some}
 use Rattle.std.specs.List.{list_all}
 use Rattle.viz_kinds.specs.declared.param.Param.{Param}
 use Rattle.viz_kinds.specs.declared.param.Param.TheVariants as param

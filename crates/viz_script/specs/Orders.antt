@@ -1,5 +1,5 @@
 -- The commands of a script, with their refusals (docs/FORMATS.md, "Scripts").
-use Rattle.std.specs.Prelude.{ℕ, List, Result, Ok, Err}
+use Rattle.std.specs.Prelude.{ℕ, List, Result, Ok}
 use Rattle.viz_network.specs.declared.edit.Edit.{Edit}
 use Rattle.viz_words.specs.declared.refusal.ScriptRefusal.{ScriptRefusal}
 use Rattle.viz_words.specs.declared.command.Verb.{Verb}

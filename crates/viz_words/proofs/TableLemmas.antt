@@ -1,5 +1,5 @@
 -- The first of a list that has a word.
-use Rattle.std.proofs.Common.{◌≡◌, ℕ, suc, ◌+◌, ◌<◌, Bool, true, false, cond, List, length, get_or, drop, Option, None, Some, refl, sym, ap, ◌∙◌, add-one, drop-cons, arith}
+use Rattle.std.proofs.Common.{◌≡◌, ℕ, suc, ◌+◌, ◌<◌, true, false, cond, List, length, get_or, drop, Some, sym, ap, ◌∙◌, add-one, drop-cons}
 use Rattle.viz_kinds.specs.Values.{is_text}
 use Rattle.viz_words.specs.Tables.{with_word}
 

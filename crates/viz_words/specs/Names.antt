@@ -1,5 +1,5 @@
 -- Names of nodes, files and arrays (docs/FORMATS.md, "Names").
-use Rattle.std.specs.Prelude.{ℕ, Bool, false, not, ◌&&◌, ◌||◌, ◌==◌, nat_le, List, [], ◌∷◌, Result, Ok, Err, if◌then◌else◌}
+use Rattle.std.specs.Prelude.{ℕ, Bool, false, ◌&&◌, ◌||◌, ◌==◌, nat_le, List, [], ◌∷◌, Result, Ok, Err, if◌then◌else◌}
 use Rattle.std.specs.List.{list_all}
 use Rattle.viz_base.specs.Names.{is_name}
 use Rattle.viz_words.specs.declared.refusal.ScriptRefusal.{ScriptRefusal}

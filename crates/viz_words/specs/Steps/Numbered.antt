@@ -1,7 +1,6 @@
 -- Numbers of words, one after the other: words of private contracts alone.
 use Rattle.std.specs.Prelude.{ℤ, List, ◌++◌, Result, Ok, Err}
 use Rattle.viz_words.specs.declared.refusal.ScriptRefusal.{ScriptRefusal}
-use Rattle.viz_words.specs.Gives.{◌>>=◌}
 
 -- the numbers so far, and those that are read behind them
 abbrev pub numbers_behind : List ℤ → Result (List ℤ) ScriptRefusal → Result (List ℤ) ScriptRefusal

@@ -1,5 +1,5 @@
 -- Lines and words as the code comes to them: words of private contracts alone.
-use Rattle.std.specs.Prelude.{ℕ, suc, Bool, ◌==◌, List, [], ◌∷◌, Option, None, Some, if◌then◌else◌}
+use Rattle.std.specs.Prelude.{ℕ, suc, ◌==◌, List, [], ◌∷◌, Option, None, Some, if◌then◌else◌}
 use Rattle.viz_words.specs.Words.{is_gap}
 
 -- the line without a carriage return at its end

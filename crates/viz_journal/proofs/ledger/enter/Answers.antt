@@ -1,4 +1,4 @@
-use Rattle.std.proofs.Common.{◌≡◌, ◌+◌, ◌∙◌, List, [], ◌∷◌, ◌++◌, length, length-append, sym, ap, arith}
+use Rattle.std.proofs.Common.{◌+◌, ◌∙◌, List, [], ◌∷◌, length, length-append, sym, ap, arith}
 use Rattle.viz_network.specs.Edits.{apply}
 use Rattle.viz_network.specs.History.{net_of}
 use Rattle.viz_journal.specs.declared.entry.JournalEntry.{JournalEntry}

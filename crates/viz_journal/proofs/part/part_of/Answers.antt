@@ -1,4 +1,4 @@
-use Rattle.std.proofs.Common.{◌≡◌, ◌∙◌, suc, true, false, ◌+◌, length, take, drop, sym, ap, add-one, arith}
+use Rattle.std.proofs.Common.{◌∙◌, true, false, ◌+◌, length, take, drop, sym, ap, add-one, arith}
 use Rattle.std.proofs.lemmas.List.{take_rest, drop_all}
 use Rattle.viz_journal.proofs.PartLemmas.{part, part-ended, part-last}
 use Rattle.viz_journal.proofs.part.part_of.Goals as goal

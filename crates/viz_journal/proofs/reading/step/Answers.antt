@@ -1,5 +1,4 @@
-use Rattle.std.proofs.Common.{◌≡◌, Bor, ℕ, suc, ◌+◌, ◌∙◌, List, length, Ok, Err, refl, sym, ap, subst, arith}
-use Rattle.viz_words.specs.declared.refusal.ScriptRefusal.{ScriptRefusal}
+use Rattle.std.proofs.Common.{◌≡◌, Bor, ℕ, ◌+◌, ◌∙◌, List, length, Ok, Err, refl, sym, ap, subst, arith}
 use Rattle.viz_journal.specs.declared.draft.Line.TheVariants as line
 use Rattle.viz_journal.specs.declared.entry.JournalEntry.{JournalEntry}
 use Rattle.viz_journal.specs.Reading.{last_at, Reads}

@@ -1,4 +1,4 @@
-use Rattle.std.proofs.Common.{◌≡◌, suc, ◌<◌, ◌∙◌, ◌+◌, ◌-◌, List, ◌∷◌, length, take, drop, refl, sym, ap, add-one, arith}
+use Rattle.std.proofs.Common.{suc, ◌<◌, ◌∙◌, ◌+◌, ◌∷◌, length, drop, sym, ap, add-one, arith}
 use Rattle.std.proofs.lemmas.Bool.{eqb-false}
 use Rattle.std.proofs.lemmas.List.{take_rest, drop_all}
 use Rattle.viz_words.specs.Lines.{lines_of}
