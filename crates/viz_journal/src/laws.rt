@@ -1,5 +1,5 @@
-//! What is read is what is written. A law is a function that does nothing: its contract holds of the
-//! definitions alone.
+//! What is read is what is written. A law is a function that does nothing: its contract holds of
+//! the definitions alone.
 
 ghost use Rattle.std.specs.Prelude.{◌≡◌, ℕ, List, Ok};
 ghost use Rattle.viz_journal.specs.declared.entry.JournalEntry.{JournalEntry as Entry};
@@ -15,5 +15,6 @@ pub fn nothing_else_is_read()
 
 /// The text of entries that a journal can have is read as these entries.
 pub fn what_is_written_is_read()
-    ensures again { (entries : List Entry) → Fits entries → journal_of (journal entries) ≡ Ok entries }
+    ensures again { (entries : List Entry) → Fits entries
+        → journal_of (journal entries) ≡ Ok entries }
 {}

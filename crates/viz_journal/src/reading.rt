@@ -165,7 +165,8 @@ fn step<'a>(
 
 /// The entries of the lines, up to the last line.
 fn entries_of(alloc: Global, bytes: &[u8]) -> Result<Vec<JournalEntry>, ScriptStop>
-    ensures { Reads (λ entries. entries.items) result (journal_from (length bytes.now) 2 [] bytes.now) }
+    ensures { Reads (λ entries. entries.items) result
+        (journal_from (length bytes.now) 2 [] bytes.now) }
 {
     let mut ledger = empty_ledger(alloc);
     let mut text = Vec::new(alloc);

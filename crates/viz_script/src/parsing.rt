@@ -74,7 +74,8 @@ fn take(
 fn steps_of(alloc: Global, text: &[u8], actors: u32, lines: usize) -> Result<Vec<Step>, ScriptStop>
     requires count { lines ≡ length (lines_of text.now) }
     requires few { lines ≤ LINES }
-    ensures { ReadsSteps (λ steps. map stepped steps.items) result (steps_from actors 1 1 (lines_of text.now)) }
+    ensures { ReadsSteps (λ steps. map stepped steps.items) result
+        (steps_from actors 1 1 (lines_of text.now)) }
 {
     let mut steps = Vec::with_capacity(alloc, lines)?;
     let mut phase = 1;

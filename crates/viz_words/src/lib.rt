@@ -2,8 +2,8 @@
 //!
 //! Contract: each line, word, name and number is that of its definition, and each command is read
 //! as its definition says, or refused with the first refusal that the definition has. Definitions:
-//! `specs/Lines.antt`, `specs/Words.antt`, `specs/Tables.antt`, `specs/Commands.antt`; the rules are
-//! those of docs/FORMATS.md, "Scripts".
+//! `specs/Lines.antt`, `specs/Words.antt`, `specs/Tables.antt`, `specs/Commands.antt`; the rules
+//! are those of docs/FORMATS.md, "Scripts".
 #![tactic(auto)]
 
 mod arity;

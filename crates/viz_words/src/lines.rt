@@ -32,7 +32,8 @@ pub fn is_skipped(line: &[u8]) -> bool
 
 /// The first line without its end and what stands behind it; None at the end of the text.
 pub fn next_line(text: &[u8]) -> Option<(&[u8], &[u8])>
-    ensures lines { lines_of text.now ≡ parted lines_of (option_map (λ x. (x.0.now, x.1.now)) result) }
+    ensures lines { lines_of text.now
+        ≡ parted lines_of (option_map (λ x. (x.0.now, x.1.now)) result) }
     ensures shorter { IfSome result (λ x. length x.1.now < length text.now) }
 {
     if text.is_empty() {

@@ -64,7 +64,8 @@ fn word_len(text: &[u8]) -> usize
 
 /// The first word of a line and what stands behind it; None where there is no word.
 pub fn next_word(text: &[u8]) -> Option<(&[u8], &[u8])>
-    ensures words { words_of text.now ≡ parted words_of (option_map (λ x. (x.0.now, x.1.now)) result) }
+    ensures words { words_of text.now
+        ≡ parted words_of (option_map (λ x. (x.0.now, x.1.now)) result) }
     ensures shorter { IfSome result (λ x. length x.1.now < length text.now) }
 {
     let rest = &text[gaps(text)..];

@@ -40,7 +40,8 @@ fn set_verb(text: &[u8]) -> Result<Verb, ScriptRefusal>
 ///
 /// # Errors
 ///
-/// Word, where the command, its kind or its parameter isn't known. What is missing is no error here.
+/// Word, where the command, its kind or its parameter isn't known. What is missing is no error
+/// here.
 pub fn verb_of(text: &[u8]) -> Result<Verb, ScriptRefusal>
     ensures value { result ≡ verb_of (words_of text.now) }
 {
