@@ -1,6 +1,6 @@
 //! Crop, sample, threshold and arithmetic, by hand.
 
-ghost use Rattle.std.specs.Prelude.{◌*◌, ◌↔◌, IsTrue};
+ghost use Rattle.std.specs.Prelude.{◌≡◌, ◌*◌, ◌↔◌, IsTrue};
 ghost use Rattle.viz_extent.specs.Parts.{IsAxisPart, IsPart, IsAxisRate, IsRate, rate_of, spread};
 
 use crate::sampling::wider;
@@ -276,12 +276,18 @@ fn is_rate(rate: [u32; 3]) -> bool
     is_axis_rate(rate[0]) && is_axis_rate(rate[1]) && is_axis_rate(rate[2])
 }
 
+// The product of two numbers.
+fn product(m: u32, n: u32) -> u64
+    ensures { result ≡ m * n }
+{
+    u64::from(m) * u64::from(n)
+}
+
 // Whether the multiples of an axis' bounds lie on an axis.
 fn is_axis_spread(lower: u32, upper: u32, first: u32, last: u32, rate: u32) -> bool
     ensures { IsTrue result ↔ IsAxisPart lower upper (first * rate) (last * rate) }
 {
-    let rate = u64::from(rate);
-    u64::from(lower) <= u64::from(first) * rate && u64::from(last) * rate <= u64::from(upper)
+    u64::from(lower) <= product(first, rate) && product(last, rate) <= u64::from(upper)
 }
 
 // Whether the multiples of a part's bounds lie in an extent.
