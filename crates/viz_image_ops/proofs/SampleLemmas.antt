@@ -1,14 +1,15 @@
 -- The points of a sample, and their numbers.
-use Rattle.std.proofs.Common.{◌≡◌, ℕ, ◌+◌, ◌-◌, ◌*◌, ◌<◌, ◌≤◌, ℤ, pos, List, length, map, get_or, sym, ap, ◌∙◌, arith}
+use Rattle.std.proofs.Common.{◌≡◌, ℕ, ◌+◌, ◌-◌, ◌*◌, ◌/◌, ◌<◌, ◌≤◌, ℤ, pos, List, length, map, get_or, sym, ap, ◌∙◌, arith}
 use Rattle.std.proofs.lemmas.List.{get_or-map}
 use Rattle.viz_extent.specs.Extent.{Bounds, size_x, plane_size, count_of, Has}
 use Rattle.viz_extent.specs.Numbering.{index_at}
-use Rattle.viz_extent.specs.Parts.{IsPart, Rate, IsRate, spread}
+use Rattle.viz_extent.specs.Parts.{IsAxisPart, IsPart, Rate, IsRate, first_kept, spread}
 use Rattle.viz_extent.proofs.NumberingLemmas.{index_at_below}
-use Rattle.viz_extent.proofs.PartLemmas.{points_of_part, spread_points}
+use Rattle.viz_extent.proofs.PartLemmas.{points_of_part, spread_points, multiple_from, multiple_to}
 use Rattle.viz_dataset.specs.Images.{ImageData, IsImage}
 use Rattle.viz_meaning.specs.ImageFilters.{sample_of, wider_steps}
 use Rattle.viz_meaning.specs.WholeImages.{GivesOn}
+use Rattle.viz_image_ops.specs.Determined.{SamplesAskWithin}
 use Rattle.viz_image_ops.specs.Joined.{values_on}
 use Rattle.viz_image_ops.specs.Steps.{sampled_at}
 use Rattle.viz_image_ops.proofs.JoinedLemmas.{get_or-values_on}
@@ -57,4 +58,19 @@ sampled-on rate input output out some within extent origin spacing kind items va
           ∙ get_or-values_on (sampled_at input.values.items input.extent rate) out i j k (pos 0) has
           ∙ on.numbers (i * rate.x) (j * rate.y) (k * rate.z) (has_multiples input.extent out rate i j k some within has);
       valid = valid;
+    }
+
+-- what a part of a sample asks for lies in the whole
+pub samples_ask_within : SamplesAskWithin
+samples_ask_within rate whole out some part =
+    record {
+      x = axis whole.x0 whole.x1 rate.x out.x0 out.x1 some.x.least part.x;
+      y = axis whole.y0 whole.y1 rate.y out.y0 out.y1 some.y.least part.y;
+      z = axis whole.z0 whole.z1 rate.z out.z0 out.z1 some.z.least part.z;
+    }
+  where
+    axis : (lower upper r first last : ℕ) → 1 ≤ r → IsAxisPart (first_kept lower r) (upper / r) first last → IsAxisPart lower upper (first * r) (last * r)
+    axis lower upper r first last some part = record {
+      first = multiple_from lower r first some part.first;
+      last = multiple_to upper r last some part.last;
     }

@@ -19,7 +19,7 @@ mod window;
 
 pub use arithmetic::arith;
 pub use cropping::crop;
-pub use laws::{parts_are_determined, whole_thresholds_keep_each};
+pub use laws::{parts_are_determined, samples_ask_within_the_whole, whole_thresholds_keep_each};
 pub use sampling::sample;
 pub use smoothing::smooth;
 pub use thresholding::threshold;

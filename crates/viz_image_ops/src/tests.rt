@@ -1,11 +1,11 @@
 //! Crop, sample, threshold and arithmetic, by hand.
 
-ghost use Rattle.std.specs.Prelude.{◌*◌, ◌↔◌, IsTrue};
-ghost use Rattle.viz_extent.specs.Parts.{IsAxisPart, IsPart, IsAxisRate, IsRate, rate_of, spread};
+ghost use Rattle.std.specs.Prelude.{◌↔◌, IsTrue};
+ghost use Rattle.viz_extent.specs.Parts.{IsAxisRate, IsRate, rate_of};
 
 use crate::sampling::wider;
 use crate::test_images::{image_of, is_image, is_part};
-use crate::{arith, crop, sample, threshold};
+use crate::{arith, crop, sample, samples_ask_within_the_whole, threshold};
 use std::alloc::Global;
 use std::process::Abort;
 use std::test::Fail;
@@ -276,26 +276,6 @@ fn is_rate(rate: [u32; 3]) -> bool
     is_axis_rate(rate[0]) && is_axis_rate(rate[1]) && is_axis_rate(rate[2])
 }
 
-// Whether the multiples of an axis' bounds lie on an axis.
-fn is_axis_spread(lower: u32, upper: u32, first: u32, last: u32, rate: u32) -> bool
-    ensures { IsTrue result ↔ IsAxisPart lower upper (first * rate) (last * rate) }
-{
-    let rate = u64::from(rate);
-    u64::from(lower) <= u64::from(first) * rate && u64::from(last) * rate <= u64::from(upper)
-}
-
-// Whether the multiples of a part's bounds lie in an extent.
-fn is_spread(whole: &Extent, rate: [u32; 3], out: &Extent) -> bool
-    ensures { IsTrue result ↔ IsPart whole.now (spread (rate_of rate) out.now) }
-{
-    let [a0, a1, b0, b1, c0, c1] = whole.bounds();
-    let [x0, x1, y0, y1, z0, z1] = out.bounds();
-    let [x, y, z] = rate;
-    is_axis_spread(a0, a1, x0, x1, x)
-        && is_axis_spread(b0, b1, y0, y1, y)
-        && is_axis_spread(c0, c1, z0, z1, z)
-}
-
 // All of a sample, where each axis keeps an index and the steps may be longer.
 fn sampled(alloc: Global, image: &Image, rate: [u32; 3]) -> Result<Option<Image>, Fail> {
     let whole = image.extent();
@@ -305,9 +285,10 @@ fn sampled(alloc: Global, image: &Image, rate: [u32; 3]) -> Result<Option<Image>
     let Some(out) = whole.sampled(rate) else {
         return Ok(None);
     };
-    if !is_spread(&whole, rate, &out) || !is_spacing(&wider(&image.spacing(), rate)) {
-        return Err("a sample")?;
+    if !is_spacing(&wider(&image.spacing(), rate)) {
+        return Err("steps between points")?;
     }
+    samples_ask_within_the_whole();
     let image = sample(alloc, image, rate, &out)?;
     Ok(Some(image))
 }
