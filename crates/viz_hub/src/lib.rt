@@ -16,3 +16,5 @@ mod turns;
 pub use hub::{Hub, Journal, Pass, Pin};
 pub use laws::{journal_is_of_joined_passes, own_gains_this_entry};
 
+#[cfg(test)]
+mod tests;

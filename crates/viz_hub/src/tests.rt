@@ -5,6 +5,7 @@ ghost use Rattle.std.specs.Prelude.{◌≡◌, ◌<◌, All, IfOk, IfSome};
 
 use crate::{Hub, Journal, Pass, Pin};
 use std::alloc::{AllocError, Global};
+use std::process::Abort;
 use std::sync::Wait;
 use std::test::Fail;
 use std::thread;
@@ -119,14 +120,7 @@ fn pinned_at(pin: &Pin, node: Word) -> (u32, bool) {
     (pinned.at, pinned.net.find(&node).is_some())
 }
 
-fn set_all<R: Wait>(
-    rt: &R,
-    hub: &Hub,
-    pass: Pass,
-    node: Word,
-    step: u32,
-    count: u32,
-) -> Pass
+fn set_all<R: Wait>(rt: &R, hub: &Hub, pass: Pass, node: Word, step: u32, count: u32) -> Pass
     requires belongs { pass.turn ≡ hub.now }
     ensures pass { result.turn ≡ hub.now }
 {
@@ -199,165 +193,239 @@ fn radius_of(edit: &Edit) -> Option<i64> {
     }
 }
 
-// How many entries each of two passes has behind the first entry, where the counts of each go up by
-// one and the radii are those of its writer.
-fn tally(entries: &[Entry]) -> Option<[u32; 2]> {
-    let mut counts = [1, 0];
+// How many entries each of two passes has, where the counts of each go up by one from these, and the
+// radii are those of its writer.
+fn tally(entries: &[Entry], first: u32, second: u32) -> Option<(u32, u32)> {
+    let mut one = first;
+    let mut two = second;
     for entry in entries {
-        let number = entry.pass as usize;
-        if number >= 2 || entry.count != counts[number].wrapping_add(1) {
-            return None;
+        if entry.pass == 0 {
+            if !is_edit_of(entry, one, first, 2) {
+                return None;
+            }
+            one = entry.count;
+        } else {
+            if entry.pass != 1 || !is_edit_of(entry, two, second, 4) {
+                return None;
+            }
+            two = entry.count;
         }
-        let index = counts[number].wrapping_sub(if number == 0 { 1 } else { 0 });
-        if radius_of(&entry.edit) != Some(radius_at(if number == 0 { 2 } else { 4 }, index)) {
-            return None;
-        }
-        counts[number] = entry.count;
     }
-    Some(counts)
+    Some((one, two))
 }
 
-#[test]
-fn two_passes_make_a_thousand_edits_each(rt: HostRuntime) -> Result<(), Fail> {
-    let node = word("s")?;
-    let (hub, root) = begin(rt.alloc(), 3000)?;
-    let (root, answer) = edit(&rt, &hub, root, addition(node));
-    assert_eq!(rt; answer, EditAnswer::Done { at: 1 });
-    let mut writers = Vec::new(rt.alloc());
+// Whether the entry is the next behind so many, the first of which a writer of this step made.
+fn is_edit_of(entry: &Entry, count: u32, first: u32, step: u32) -> bool {
+    let index = count.wrapping_sub(first);
+    entry.count == count.wrapping_add(1) && radius_of(&entry.edit) == Some(radius_at(step, index))
+}
+
+// The numbers of the entries' passes, as digits.
+fn digits(entries: &[Entry]) -> u64 {
+    let mut all = 0u64;
+    for entry in entries {
+        all = all.wrapping_mul(10).wrapping_add(entry.pass);
+    }
+    all
+}
+
+fn wants<R: Wait + Abort>(rt: &R, hub: &Hub, pass: Pass, change: Edit, want: EditAnswer) -> Pass
+    requires belongs { pass.turn ≡ hub.now }
+    ensures pass { result.turn ≡ hub.now }
+{
+    let (pass, answer) = edit(rt, hub, pass, change);
+    assert!(rt; answer == want, "{answer:?}");
+    pass
+}
+
+fn wants_front<R: Wait + Abort>(rt: &R, hub: &Hub, pass: Pass, want: u32) -> Pass
+    requires belongs { pass.turn ≡ hub.now }
+    ensures pass { result.turn ≡ hub.now }
+{
+    let (pass, at) = front(rt, hub, pass);
+    assert!(rt; at == want, "{at}");
+    pass
+}
+
+// Pins, looks for a node, and gives the pass back.
+fn wants_pinned<R: Wait + Abort>(
+    rt: &R,
+    alloc: Global,
+    hub: &Hub,
+    pass: Pass,
+    node: Word,
+    want: (u32, bool),
+) -> Option<Pin>
+    requires belongs { pass.turn ≡ hub.now }
+    ensures pin { IfSome result (λ pin. pin.pass.turn ≡ hub.now) }
+{
+    let pin = pin(rt, alloc, hub, pass)?;
+    let found = pinned_at(&pin, node);
+    assert!(rt; found == want, "{found:?}");
+    Some(pin)
+}
+
+fn two_writers(alloc: Global, count: u32) -> Result<Vec<Writer>, AllocError> {
+    let mut writers = Vec::new(alloc);
     for step in [4, 2] {
         writers.push(Writer {
             pass: None,
             step,
-            count: 1000,
+            count,
         })?;
     }
-    deal(&rt, &hub, root, &mut writers);
-    write_all(&rt, &hub, node, &mut writers);
-    let Some(root) = gather(&hub, &mut writers) else {
-        return Err("no pass")?;
+    Ok(writers)
+}
+
+// The history of a node that is added, and of two passes that set its radius so often each.
+fn written<R: Threads + Wait + Sync + Abort>(
+    rt: &R,
+    alloc: Global,
+    node: Word,
+    writers: &mut [Writer],
+    front: u32,
+) -> Option<Journal> {
+    let Ok((hub, root)) = begin(alloc, 3000) else {
+        return None;
     };
-    let (root, at) = front(&rt, &hub, root);
-    assert_eq!(rt; at, 2001);
-    let journal = close(&rt, hub, root);
+    let root = wants(rt, &hub, root, addition(node), EditAnswer::Done { at: 1 });
+    deal(rt, &hub, root, writers);
+    write_all(rt, &hub, node, writers);
+    let root = gather(&hub, writers)?;
+    let root = wants_front(rt, &hub, root, front);
+    Some(close(rt, hub, root))
+}
+
+#[test]
+fn two_passes_make_a_thousand_edits_each(rt: HostRuntime) -> Result<(), Fail> {
+    let mut writers = two_writers(rt.alloc(), 1000)?;
+    let Some(journal) = written(&rt, rt.alloc(), word("s")?, &mut writers, 2001) else {
+        return Err("out of memory")?;
+    };
     let entries = journal.entries.list();
     assert_eq!(rt; entries.len(), 2001);
-    assert_eq!(rt; tally(&entries[1..]), Some([1001, 1000]));
+    assert_eq!(rt; tally(&entries[1..], 1, 0), Some((1001, 1000)));
     Ok(())
 }
 
 #[test]
 fn a_full_history_answers_so_before_it_refuses(rt: HostRuntime) -> Result<(), Fail> {
-    let node = word("s")?;
-    let other = word("t")?;
-    let (hub, mut pass) = begin(rt.alloc(), 3)?;
-    for (change, want) in [
-        (addition(node), EditAnswer::Done { at: 1 }),
-        (
-            addition(node),
-            EditAnswer::Refused {
-                refusal: Refusal::Exists,
-                at: 1,
-            },
-        ),
-        (setting(node, 2), EditAnswer::Done { at: 2 }),
-        (setting(node, 3), EditAnswer::Done { at: 3 }),
-        (setting(node, 4), EditAnswer::Full { at: 3 }),
-        (setting(other, 4), EditAnswer::Full { at: 3 }),
-    ] {
-        let (next, answer) = edit(&rt, &hub, pass, change);
-        pass = next;
-        assert_eq!(rt; answer, want);
-    }
-    let (pass, at) = front(&rt, &hub, pass);
-    assert_eq!(rt; at, 3);
+    let (s, t) = (word("s")?, word("t")?);
+    let (hub, pass) = begin(rt.alloc(), 3)?;
+    let exists = EditAnswer::Refused {
+        refusal: Refusal::Exists,
+        at: 1,
+    };
+    let pass = wants(&rt, &hub, pass, addition(s), EditAnswer::Done { at: 1 });
+    let pass = wants(&rt, &hub, pass, addition(s), exists);
+    let pass = wants(&rt, &hub, pass, setting(s, 2), EditAnswer::Done { at: 2 });
+    let pass = wants(&rt, &hub, pass, setting(s, 3), EditAnswer::Done { at: 3 });
+    // full, also for an unknown node
+    let pass = wants(&rt, &hub, pass, setting(s, 4), EditAnswer::Full { at: 3 });
+    let pass = wants(&rt, &hub, pass, setting(t, 4), EditAnswer::Full { at: 3 });
+    let pass = wants_front(&rt, &hub, pass, 3);
     assert_eq!(rt; close(&rt, hub, pass).entries.list().len(), 3);
     Ok(())
 }
 
 #[test]
-fn the_program_s_history_is_full_at_its_limit(rt: HostRuntime) -> Result<(), Fail> {
-    let node = word("s")?;
-    let other = word("t")?;
+fn the_history_of_the_program_is_full_at_its_limit(rt: HostRuntime) -> Result<(), Fail> {
+    let s = word("s")?;
     let (hub, pass) = begin(rt.alloc(), HISTORY)?;
-    let (pass, _answer) = edit(&rt, &hub, pass, addition(node));
-    let pass = set_all(&rt, &hub, pass, node, 2, 65_534);
-    let (pass, answer) = edit(&rt, &hub, pass, setting(node, 1));
-    assert_eq!(rt; answer, EditAnswer::Done { at: 65_536 });
-    let (pass, answer) = edit(&rt, &hub, pass, setting(node, 1));
-    assert_eq!(rt; answer, EditAnswer::Full { at: 65_536 });
-    let (pass, answer) = edit(&rt, &hub, pass, setting(other, 1));
-    assert_eq!(rt; answer, EditAnswer::Full { at: 65_536 });
+    let pass = wants(&rt, &hub, pass, addition(s), EditAnswer::Done { at: 1 });
+    let pass = set_all(&rt, &hub, pass, s, 2, 65_534);
+    let pass = wants(
+        &rt,
+        &hub,
+        pass,
+        setting(s, 1),
+        EditAnswer::Done { at: 65_536 },
+    );
+    let pass = wants(
+        &rt,
+        &hub,
+        pass,
+        setting(s, 1),
+        EditAnswer::Full { at: 65_536 },
+    );
     assert_eq!(rt; pass.number(), 0);
     Ok(())
 }
 
 #[test]
 fn a_pin_stays_while_others_edit(rt: HostRuntime) -> Result<(), Fail> {
-    let (node, later) = (word("s")?, word("t")?);
+    let (s, t) = (word("s")?, word("t")?);
     let (hub, root) = begin(rt.alloc(), 9)?;
     let (mine, its) = split(&rt, &hub, root);
-    let (mine, _answer) = edit(&rt, &hub, mine, addition(node));
-    let (its, at) = front(&rt, &hub, its);
-    assert_eq!(rt; at, 1);
-    let Some(pinned) = pin(&rt, rt.alloc(), &hub, its) else {
+    let mine = wants(&rt, &hub, mine, addition(s), EditAnswer::Done { at: 1 });
+    let its = wants_front(&rt, &hub, its, 1);
+    let Some(pinned) = wants_pinned(&rt, rt.alloc(), &hub, its, s, (1, true)) else {
         return Err("out of memory")?;
     };
-    let (mine, _answer) = edit(&rt, &hub, mine, addition(later));
-    assert_eq!(rt; pinned_at(&pinned, node), (1, true));
-    assert_eq!(rt; pinned_at(&pinned, later), (1, false));
-    let (its, answer) = edit(&rt, &hub, release(&hub, pinned), setting(later, 2));
-    assert_eq!(rt; answer, EditAnswer::Done { at: 3 });
-    let Some(pinned) = pin(&rt, rt.alloc(), &hub, mine) else {
+    let mine = wants(&rt, &hub, mine, addition(t), EditAnswer::Done { at: 2 });
+    assert_eq!(rt; pinned_at(&pinned, t), (1, false));
+    let its = release(&hub, pinned);
+    let its = wants(&rt, &hub, its, setting(t, 2), EditAnswer::Done { at: 3 });
+    let Some(pinned) = wants_pinned(&rt, rt.alloc(), &hub, mine, t, (3, true)) else {
         return Err("out of memory")?;
     };
-    assert_eq!(rt; pinned_at(&pinned, later), (3, true));
     assert_eq!(rt; (its.number(), release(&hub, pinned).number()), (1, 0));
     Ok(())
 }
 
-// One edit by a pass whose answer isn't looked at.
+// One edit by a pass.
 fn mark<R: Wait>(rt: &R, hub: &Hub, pass: Pass, node: Word) -> Pass
     requires belongs { pass.turn ≡ hub.now }
     ensures pass { result.turn ≡ hub.now }
 {
-    let radius = (pass.number() % 9) as i64;
-    let (pass, _answer) = edit(rt, hub, pass, setting(node, radius));
+    let (pass, _answer) = edit(rt, hub, pass, setting(node, 3));
     pass
+}
+
+// Four passes of one that were split from splits, each of which made an edit before its own splits.
+fn four<R: Wait>(rt: &R, hub: &Hub, pass: Pass, node: Word) -> (Pass, Pass, Pass, Pass)
+    requires belongs { pass.turn ≡ hub.now }
+    ensures a { result.0.turn ≡ hub.now }
+    ensures b { result.1.turn ≡ hub.now }
+    ensures c { result.2.turn ≡ hub.now }
+    ensures d { result.3.turn ≡ hub.now }
+{
+    let (a, b) = split(rt, hub, pass);
+    let (b, c) = split(rt, hub, mark(rt, hub, b, node));
+    let (c, d) = split(rt, hub, mark(rt, hub, c, node));
+    (a, b, c, d)
+}
+
+// One pass of four, the last of them, each of which makes an edit before it is joined.
+fn one<R: Wait>(rt: &R, hub: &Hub, passes: (Pass, Pass, Pass, Pass), node: Word) -> Pass
+    requires a { passes.0.turn ≡ hub.now }
+    requires b { passes.1.turn ≡ hub.now }
+    requires c { passes.2.turn ≡ hub.now }
+    requires d { passes.3.turn ≡ hub.now }
+    ensures pass { result.turn ≡ hub.now }
+{
+    let (a, b, c, d) = passes;
+    let c = join(hub, mark(rt, hub, c, node), mark(rt, hub, a, node));
+    let d = join(hub, mark(rt, hub, d, node), c);
+    join(hub, d, mark(rt, hub, b, node))
 }
 
 #[test]
 fn eight_passes_are_split_from_splits_and_joined_in_another_order(
     rt: HostRuntime,
 ) -> Result<(), Fail> {
-    let node = word("s")?;
-    let (hub, a) = begin(rt.alloc(), 20)?;
-    let (a, _answer) = edit(&rt, &hub, a, addition(node));
-    let (a, b) = split(&rt, &hub, a);
-    let (a, c) = split(&rt, &hub, a);
-    let (b, d) = split(&rt, &hub, b);
-    let (d, e) = split(&rt, &hub, d);
-    let (e, f) = split(&rt, &hub, e);
-    let (c, g) = split(&rt, &hub, c);
-    let (f, h) = split(&rt, &hub, f);
-    for (pass, want) in [(&a, 0), (&b, 1), (&c, 2), (&d, 3), (&e, 4), (&f, 5), (&g, 6), (&h, 7)] {
-        assert_eq!(rt; pass.number(), want);
-    }
-    let h = mark(&rt, &hub, h, node);
-    let c = mark(&rt, &hub, c, node);
-    let c = join(&hub, c, h);
-    let g = join(&hub, mark(&rt, &hub, g, node), a);
-    let e = join(&hub, mark(&rt, &hub, e, node), c);
-    let b = join(&hub, mark(&rt, &hub, b, node), mark(&rt, &hub, f, node));
-    let b = join(&hub, b, e);
-    let d = join(&hub, mark(&rt, &hub, d, node), g);
-    let d = join(&hub, d, b);
-    let d = mark(&rt, &hub, d, node);
-    let journal = close(&rt, hub, d);
-    let entries = journal.entries.list();
-    assert_eq!(rt; entries.len(), 9);
-    let want = [(0, 1), (7, 1), (2, 1), (6, 1), (4, 1), (1, 1), (5, 1), (3, 1), (3, 2)];
-    for (entry, want) in entries.iter().zip(want.iter()) {
-        assert_eq!(rt; (entry.pass, entry.count), *want);
-    }
+    let s = word("s")?;
+    let (hub, root) = begin(rt.alloc(), 20)?;
+    let root = wants(&rt, &hub, root, addition(s), EditAnswer::Done { at: 1 });
+    let (root, other) = split(&rt, &hub, root);
+    let mine = four(&rt, &hub, root, s);
+    let its = four(&rt, &hub, other, s);
+    let last = one(&rt, &hub, mine, s);
+    let pass = join(&hub, one(&rt, &hub, its, s), last);
+    assert_eq!(rt; pass.number(), 7);
+    let journal = close(&rt, hub, pass);
+    // By hand: 0 adds; 2 and 3, then 5 and 6 edit before they are split; then 3, 0, 4, 2 and 6, 1, 7, 5
+    // before they are joined.
+    assert_eq!(rt; digits(journal.entries.list()), 235_630_426_175);
     Ok(())
 }
