@@ -1,14 +1,20 @@
 -- A history with one entry more.
-use Rattle.std.proofs.Common.{◌≡◌, ℕ, suc, ◌+◌, ◌<◌, List, [], ◌∷◌, ◌++◌, length, length-append, append_assoc, append-nil, Result, Ok, Err, refl, sym, ap, subst, ◌∙◌, arith}
+use Rattle.std.proofs.Common.{◌≡◌, ℕ, suc, ◌+◌, ◌<◌, List, [], ◌∷◌, ◌++◌, cond, length, length-append, append_assoc, append-nil, Result, Ok, sym, ap, subst, ◌∙◌, arith}
 use Rattle.std.proofs.lemmas.List.{length-map}
 use Rattle.viz_network.specs.declared.refusal.Refusal.{Refusal}
 use Rattle.viz_network.specs.Network.{Network}
 use Rattle.viz_network.specs.Edits.{apply}
 use Rattle.viz_network.specs.Applies.{IsAccepted, IsPast}
-use Rattle.viz_network.specs.History.{pick, after, net_after, net_of}
+use Rattle.viz_network.specs.History.{pick, after, net_after}
 use Rattle.viz_network.proofs.HistoryLemmas.{past_of_history}
+use Rattle.viz_network.specs.declared.edit.Edit.{Edit}
+use Rattle.viz_turn.proofs.ListLemmas.{has_head}
+use Rattle.viz_turn.proofs.TaleLemmas.{entries_append}
 use Rattle.viz_core.specs.declared.entry.Entry.{Entry}
-use Rattle.viz_core.specs.History.{edits_of, network_of, next, IsNext, IsLegalAfter}
+use Rattle.viz_core.specs.declared.entry.EditAnswer.{EditAnswer}
+use Rattle.viz_core.specs.declared.entry.EditAnswer.TheVariants.{Done, Refused, Full, Memory}
+use Rattle.viz_core.specs.History.{entry, by_of, edits_of, network_of, own_of, next, IsNext, IsLegalAfter}
+use Rattle.viz_core.specs.Machine.{State, Replies}
 use Rattle.viz_core.specs.Kept.{IsKept}
 
 edits_length : (h : List Entry) → length (edits_of h) ≡ length h
@@ -48,3 +54,14 @@ kept_more h limit net made e k room p counted =
       within = rw (length-append h (e ∷ [])) (omega (arith, room));
       fits = k.fits;
     }
+
+-- where all entries are of one pass, they still are after an edit of it
+pub own_all : (pass count : ℕ) (edit : Edit) (old : State) (answer : EditAnswer) (new : State) → Replies pass count edit old answer new → own_of pass old.history ≡ old.history → own_of pass new.history ≡ new.history
+own_all pass count edit old (Done at) new r s =
+    let x = entry pass count edit in
+    ap (own_of pass) r.0.history
+    ∙ (entries_append by_of (pass ∷ []) old.history (x ∷ [])
+    ∙ (ap (λ l. l ++ own_of pass (x ∷ [])) s ∙ (ap (λ t. old.history ++ cond t (x ∷ []) []) (has_head pass []) ∙ sym r.0.history)))
+own_all pass count edit old (Refused w at) new r s = ap (own_of pass) r.0.history ∙ (s ∙ sym r.0.history)
+own_all pass count edit old (Full at) new r s = ap (own_of pass) r.0.history ∙ (s ∙ sym r.0.history)
+own_all pass count edit old Memory new r s = ap (own_of pass) r.0.history ∙ (s ∙ sym r.0.history)

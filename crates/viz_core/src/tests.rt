@@ -11,15 +11,14 @@ use viz_base::Word;
 use viz_kinds::{Kind, Param, Value};
 use viz_network::{Edit, Refusal};
 
-// A core with the number of entries of pass 1, which is the only one that edits.
+// A core whose entries are all of pass 1.
 #[derive(Drop)]
 struct Actor {
     core: Core,
-    count: u32,
 }
 
 impl Model for Actor {
-    ghost use Rattle.std.specs.Prelude.{◌≡◌, length};
+    ghost use Rattle.std.specs.Prelude.{◌≡◌};
     ghost use Rattle.viz_core.specs.History.{own_of};
     ghost use Rattle.viz_core.specs.Machine.{State};
 
@@ -27,7 +26,7 @@ impl Model for Actor {
 
     ghost view = { λ actor. actor.core };
 
-    ghost invariant = { λ actor. actor.count ≡ length (own_of 1 actor.core.history) };
+    ghost invariant = { λ actor. own_of 1 actor.core.history ≡ actor.core.history };
 }
 
 impl Actor {
@@ -35,17 +34,12 @@ impl Actor {
         requires { limit < 4294967295 }
     {
         let core = Core::new(alloc, limit, 1)?;
-        Ok(Actor { core, count: 0 })
+        Ok(Actor { core })
     }
 
     fn edit(&mut self, edit: Edit) -> EditAnswer {
-        // The count is at most the number of entries, so the next one fits.
-        let _at = self.core.front();
-        let count = self.count + 1;
+        let count = self.core.front() + 1;
         let answer = self.core.edit(1, count, edit);
-        if let EditAnswer::Done { at: _ } = answer {
-            self.count = count;
-        }
         answer
     }
 
@@ -62,7 +56,7 @@ impl Actor {
     }
 
     fn finish(self) -> (u32, Vec<Entry>) {
-        let Actor { core, count: _ } = self;
+        let Actor { core } = self;
         let at = core.front();
         (at, core.history())
     }

@@ -1,4 +1,4 @@
-use Rattle.std.proofs.Common.{◌≡◌, ◌+◌, ◌<◌, ◌++◌, [], ◌∷◌, length, Ok, refl, sym, subst, ap, ◌∙◌, arith}
+use Rattle.std.proofs.Common.{◌≡◌, ◌+◌, ◌++◌, [], ◌∷◌, length, Ok, refl, sym, subst, ap, ◌∙◌, arith}
 use Rattle.viz_network.specs.Edits.{apply}
 use Rattle.viz_network.specs.Applies.{IsPast}
 use Rattle.viz_core.specs.History.{entry, next, network_of}
