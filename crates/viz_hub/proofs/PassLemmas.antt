@@ -1,9 +1,9 @@
 -- The entries of a pass in a history that goes further than it has seen.
-use Rattle.std.proofs.Common.{◌≡◌, ℕ, ◌+◌, ◌≤◌, Bool, true, false, not, cond, List, [], ◌∷◌, ◌++◌, length, length-append, append-nil, refl, sym, ap, ◌∙◌, subst, true≢false, arith}
+use Rattle.std.proofs.Common.{◌≡◌, ℕ, ◌+◌, ◌≤◌, Bool, true, false, not, cond, List, [], ◌∷◌, ◌++◌, length, length-append, append-nil, refl, sym, ap, ◌∙◌, subst, arith}
 use mathlib.Core.Option.{some}
 use lib.ListN.{get_elem?}
 use Rattle.std.proofs.lemmas.Bool.{and_parts, not-true}
-use Rattle.viz_turn.specs.Tales.{has, once, clear, entries_of, HasNoOther}
+use Rattle.viz_turn.specs.Tales.{has, once, clear, HasNoOther}
 use Rattle.viz_turn.specs.Known.{Known, numbers, GoesFurther}
 use Rattle.atomic_table.proofs.Lists.{at_longer}
 use Rattle.viz_turn.proofs.ListLemmas.{has_head, has_tail}
@@ -13,7 +13,7 @@ use Rattle.viz_network.specs.declared.edit.Edit.{Edit}
 use Rattle.viz_core.specs.declared.entry.Entry.{Entry}
 use Rattle.viz_core.specs.declared.entry.EditAnswer.{EditAnswer}
 use Rattle.viz_core.specs.declared.entry.EditAnswer.TheVariants.{Done, Refused, Full, Memory}
-use Rattle.viz_core.specs.History.{by_of, own_of, next}
+use Rattle.viz_core.specs.History.{by_of, own_of}
 use Rattle.viz_hub.specs.Answers.{Answers, next_entry, gained}
 use Rattle.viz_hub.specs.Steps.Turns.{count_of}
 
