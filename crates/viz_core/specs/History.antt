@@ -45,3 +45,8 @@ IsLegalAfter before (e ∷ es) = IsNext before e × IsLegalAfter (before ++ e �
 -- each entry is a next one behind those in front of it
 abbrev pub IsLegal : List Entry → Type 0
 IsLegal h = IsLegalAfter [] h
+
+-- the entries have these counts, one more each
+abbrev pub AreCountedFrom : ℕ → List Entry → Type 0
+AreCountedFrom n [] = Unit {0}
+AreCountedFrom n (e ∷ es) = (e.count ≡ n) × AreCountedFrom (n + 1) es

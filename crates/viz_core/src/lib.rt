@@ -6,10 +6,12 @@
 #![tactic(auto)]
 
 mod entry;
+mod laws;
 mod machine;
 mod pinned;
 
 pub use entry::{EditAnswer, Entry};
+pub use laws::own_entries_are_counted;
 pub use machine::Core;
 pub use pinned::Pinned;
 
