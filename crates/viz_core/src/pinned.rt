@@ -1,0 +1,15 @@
+//! A network for use outside of a turn.
+
+use viz_base::Items;
+use viz_cache::Stored;
+use viz_network::Net;
+
+/// A network, the number of entries of the history that it is of, and the parts that were kept
+/// then.
+#[derive(Drop)]
+pub struct Pinned {
+    pub at: u32,
+    pub net: Net,
+    /// None are kept yet.
+    pub entries: Items<Stored>,
+}

@@ -1,0 +1,20 @@
+//! A hub: one edit history for all callers, each of whom knows a prefix of it.
+//!
+//! Contract: an edit stands in the history once, behind all that its pass had seen, or is refused
+//! as the network of the history refuses it; what a pass has seen only grows, by entries of others
+//! and its own edits; a pin has the network of one prefix; a pass into which all others were joined
+//! closes with the whole history. Definitions: `specs/Answers.antt`, `specs/Passes.antt`, and those
+//! of viz_turn and viz_core that they name.
+#![tactic(auto)]
+
+mod calls;
+mod hub;
+mod laws;
+mod place;
+mod turns;
+
+pub use hub::{Hub, Journal, Pass, Pin};
+pub use laws::{journal_is_of_joined_passes, own_gains_this_entry};
+
+#[cfg(test)]
+mod tests;
