@@ -1,7 +1,9 @@
 //! Crop, sample, threshold and arithmetic, by hand.
 
-ghost use Rattle.std.specs.Prelude.{◌↔◌, IsTrue};
-ghost use Rattle.viz_extent.specs.Parts.{IsAxisRate, IsRate, rate_of};
+ghost use Rattle.std.specs.Prelude.{◌≡◌, ◌↔◌, IsTrue};
+ghost use Rattle.viz_extent.specs.Parts.{IsAxisRate, IsRate, rate_of, sampled};
+ghost use Rattle.viz_dataset.specs.Images.{IsSpacing};
+ghost use Rattle.viz_meaning.specs.ImageFilters.{wider_steps};
 
 use crate::sampling::wider;
 use crate::test_images::{image_of, is_image, is_part};
@@ -276,29 +278,52 @@ fn is_rate(rate: [u32; 3]) -> bool
     is_axis_rate(rate[0]) && is_axis_rate(rate[1]) && is_axis_rate(rate[2])
 }
 
-// All of a sample, where each axis keeps an index and the steps may be longer.
-fn sampled(alloc: Global, image: &Image, rate: [u32; 3]) -> Result<Option<Image>, Fail> {
-    let whole = image.extent();
+// Whether the steps of an image may be longer by a rate.
+fn are_longer_steps(image: &Image, rate: [u32; 3]) -> bool
+    requires { IsRate (rate_of rate) }
+    ensures { IsTrue result → IsSpacing (wider_steps (rate_of rate) image.now.spacing) }
+{
+    is_spacing(&wider(&image.spacing(), rate))
+}
+
+// All of a sample on an extent that its whole one keeps, where the steps may be longer.
+fn sampled_on(alloc: Global, image: &Image, rate: [u32; 3], out: &Extent) -> Result<Image, Fail>
+    requires rate { IsRate (rate_of rate) }
+    requires part { out.now ≡ sampled (rate_of rate) image.now.extent }
+{
+    if !are_longer_steps(image, rate) {
+        return Err("longer steps")?;
+    }
+    samples_ask_within_the_whole();
+    let image = sample(alloc, image, rate, out)?;
+    Ok(image)
+}
+
+// The same, where each axis keeps an index.
+fn sampled(alloc: Global, image: &Image, rate: [u32; 3]) -> Result<Image, Fail> {
     if !is_rate(rate) {
         return Err("a rate")?;
     }
-    let Some(out) = whole.sampled(rate) else {
-        return Ok(None);
-    };
-    if !is_spacing(&wider(&image.spacing(), rate)) {
-        return Err("steps between points")?;
+    match image.extent().sampled(rate) {
+        Some(out) => sampled_on(alloc, image, rate, &out),
+        None => Err("an index on each axis")?,
     }
-    samples_ask_within_the_whole();
-    let image = sample(alloc, image, rate, &out)?;
-    Ok(Some(image))
 }
 
-// The first row is clamp-and-sample's.
+// Whether an axis of these bounds keeps no index.
+fn keeps_none(bounds: [u32; 6], rate: [u32; 3]) -> bool {
+    match Extent::new(bounds) {
+        Some(whole) => is_rate(rate) && whole.sampled(rate).is_none(),
+        None => false,
+    }
+}
+
+// The row of clamp-and-sample.
 #[test]
 fn a_sample_takes_multiples_of_its_rate(rt: HostRuntime) -> Result<(), Fail> {
     let alloc = rt.alloc();
     let row = image_of(alloc, Kind8::I16, [1, 5, 0, 0, 0, 0], &[-1, 2, 3, -4, 5])?;
-    let two = sampled(alloc, &row, [2, 1, 1])?.ok_or("two points")?;
+    let two = sampled(alloc, &row, [2, 1, 1])?;
     is_image(
         &rt,
         &two,
@@ -307,11 +332,16 @@ fn a_sample_takes_multiples_of_its_rate(rt: HostRuntime) -> Result<(), Fail> {
         Kind8::I16,
         &[2, -4],
     );
-    // At 2, 6, 2 alone each index is a multiple.
+    Ok(())
+}
+
+// At 2, 6, 2 alone each index is a multiple; along x no index is one of 3.
+#[test]
+fn a_sample_of_a_block_has_its_axes(rt: HostRuntime) -> Result<(), Fail> {
+    let alloc = rt.alloc();
     let block = image_of(alloc, Kind8::U8, BLOCK, &EIGHT)?;
-    let one = sampled(alloc, &block, [2, 3, 2])?.ok_or("one point")?;
+    let one = sampled(alloc, &block, [2, 3, 2])?;
     is_image(&rt, &one, [1, 1, 2, 2, 1, 1], [2, 6, 6], Kind8::U8, &[3]);
-    // The axis along x has no multiple of 3.
-    assert!(rt; sampled(alloc, &block, [3, 1, 1])?.is_none());
+    assert!(rt; keeps_none([1, 2, 5, 6, 2, 3], [3, 1, 1]));
     Ok(())
 }
