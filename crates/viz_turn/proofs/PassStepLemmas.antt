@@ -80,7 +80,7 @@ module _ {S E : Type 0} (tale : S → List E) (by : E → ℕ) (mark : S → ℕ
             record {
               own = false_from_ne_true (has x (n ∷ e)) (λ h. let lt = r.numbers.below id w0 mine x h in omega arith);
               born = false_from_ne_true (has x b) (λ h. let lt = r.numbers.born_below id w0 mine x h in omega arith);
-              entries = telling.no_entries by (x ∷ []) seen (telling.clear_left by (x ∷ []) seen goes.0 (subst (λ (l : List E). clear by (x ∷ []) l ≡ true) goes.1 free));
+              entries = telling.clear_left by (x ∷ []) seen goes.0 (subst (λ (l : List E). clear by (x ∷ []) l ≡ true) goes.1 free);
             },
           ),
         ),

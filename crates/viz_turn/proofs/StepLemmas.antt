@@ -35,7 +35,7 @@ numbers_kept vs id v w at e = map-set numbers_of vs id w ∙ (ap (set (map numbe
 pub standing_kept : {E : Type 0} (vs : List (View E)) (id : ℕ) (v w : View E) → get_elem? vs id ≡ some v → w.standing ≡ v.standing → map standing_of (set vs id w) ≡ map standing_of vs
 standing_kept vs id v w at e = map-set standing_of vs id w ∙ (ap (set (map standing_of vs) id) e ∙ set_again (map standing_of vs) id v.standing (at_map standing_of vs id v at))
 
--- a seat that had the slot home leaves it so
+-- who gives up or draws a place had no turn
 pub no_turn_back : (qs : List Standing) (id : ℕ) (q r : Standing) → get_elem? qs id ≡ some q → q.out ≡ false → NoneOut (set qs id r) → NoneOut qs
 no_turn_back qs id q r at off h i u at_u = dite (ℕ_discrete i id)
     (λ here. ap (λ (z : Standing). z.out) (same_at qs id u q (subst (λ (z : ℕ). get_elem? qs z ≡ some u) here at_u) at) ∙ off)

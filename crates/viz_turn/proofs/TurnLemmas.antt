@@ -1,4 +1,4 @@
--- How all seats stand to the turn after a step.
+-- Group 2: each step keeps the queue.
 use Rattle.std.proofs.Common.{◌≡◌, ◌≢◌, ℕ, zero, suc, ◌+◌, ◌%◌, ◌<◌, ◌≤◌, ◌^◌, Bool, true, false, Option, Some, None, List, [], ◌∷◌, ◌++◌, map, set, sym, refl, ap, ◌∙◌, subst, ⊎_elim, arith, true≢false}
 use mathlib.Core.Option.{some, some-injective, some-ne-none}
 use lib.ListN.{get_elem?}
@@ -27,7 +27,7 @@ Within low high q = (t : ℕ) → q.ticket ≡ Some t → (low ≤ t) × (t < hi
 some_same : (a b : ℕ) → Some a ≡ Some b → a ≡ b
 some_same a b e = ap or_zero e
 
--- no two seats share a ticket
+-- which seats may share a place
 abbrev Apart : List Standing → Type 0
 Apart qs = (i j : ℕ) (q r : Standing) → get_elem? qs i ≡ some q → get_elem? qs j ≡ some r → (t : ℕ) → q.ticket ≡ Some t → r.ticket ≡ Some t → i ≡ j
 
@@ -38,7 +38,7 @@ apart_set qs id w old cross i j q r at_q at_r t is_q is_r =
     (λ i' q' not at is. each_set qs id w (λ j' r'. r'.ticket ≡ Some t → i' ≡ j') (λ is_w. absurd (cross i' q' t not at is_w is)) (λ j' r' not' at' is'. old i' j' q' r' at at' t is is') j r at_r is_r)
     i q at_q is_q
 
--- a seat draws a ticket
+-- a seat draws a place
 pub draws : (served : ℕ) (qs : List Standing) (id : ℕ) → AreTurns served qs → get_elem? qs id ≡ some idle → waiting qs + 1 < 2 ^ 64 → (waiting (set qs id (at_ticket (served + waiting qs))) ≡ waiting qs + 1) × AreTurns served (set qs id (at_ticket (served + waiting qs)))
 draws served qs id r at room =
     let w : Standing = at_ticket (served + waiting qs) in
@@ -55,11 +55,11 @@ draws served qs id r at room =
       },
     )
 
--- the word found is a seat's ticket only where that is the one served
+-- the word found is the ticket only where the place is the next one
 pub is_next : (served : ℕ) (qs : List Standing) (id t : ℕ) → AreTurns served qs → get_elem? qs id ≡ some (at_ticket t) → served % 18446744073709551616 ≡ t % 18446744073709551616 → served ≡ t
 is_next served qs id t r at same = let h = r.within id (at_ticket t) at t refl in let few : waiting qs < 18446744073709551616 = r.few in let low = h.0 in let high = h.1 in one_turn served t 18446744073709551616 low (omega arith) same
 
--- nobody has the turn while the next one waits
+-- of_none has the turn while the next one waits
 pub none_yet : (served : ℕ) (qs : List Standing) (id : ℕ) → AreTurns served qs → get_elem? qs id ≡ some (at_ticket served) → NoneOut qs
 none_yet served qs id r at i q at_q = ⊎_elim
     (λ (yes : q.out ≡ true). let here : i ≡ id = r.apart i id q (at_ticket served) at_q at served (r.holder i q at_q (r.outs i q at_q yes)) refl in

@@ -1,7 +1,7 @@
 -- What a pass of a turn knows, and what the calls make of it (docs/ARCHITECTURE.md, "A turn").
-use Rattle.std.specs.Prelude.{◌≡◌, ℕ, List, [], ◌∷◌, ◌++◌, false}
+use Rattle.std.specs.Prelude.{◌≡◌, ℕ, List, [], ◌∷◌, ◌++◌, true, false}
 use Rattle.atomic_table.specs.Seated.{TableId}
-use Rattle.viz_turn.specs.Tales.{has, IsWholeBy, longer, entries_of, GoesOn}
+use Rattle.viz_turn.specs.Tales.{has, IsWholeBy, longer, clear, GoesOn}
 
 -- which turn it is, and the mark of each of its states
 pub record Identity : Type 0 where
@@ -66,4 +66,4 @@ module _ {E : Type 0} (by : E → ℕ) where
   pub record IsFresh (n : ℕ) (p : Known E) : Type 0 where
     pub own : has n (numbers p) ≡ false
     pub born : has n p.born ≡ false
-    pub entries : entries_of by (n ∷ []) p.seen ≡ []
+    pub entries : clear by (n ∷ []) p.seen ≡ true

@@ -8,12 +8,10 @@ ghost use Rattle.viz_turn.specs.Known.{Known, numbers, at_seen, GoesFurther, Add
 use crate::story::Story;
 
 /// Where a tale goes further than a pass knows it, the entries of the pass's numbers are those that
-/// the pass knows: of all of them together, of its own number, and of each.
+/// the pass knows: of all of them together, and of each.
 pub fn own_entries_stay<S: Story>()
     ensures all { (p : Known S.Entry) (tale : List S.Entry) → GoesFurther S.by p tale
         → entries_of S.by (numbers p) tale ≡ entries_of S.by (numbers p) p.seen }
-    ensures own { (p : Known S.Entry) (tale : List S.Entry) → GoesFurther S.by p tale
-        → entries_of S.by (p.number ∷ []) tale ≡ entries_of S.by (p.number ∷ []) p.seen }
     ensures each { (p : Known S.Entry) (tale : List S.Entry) (n : ℕ) → has n (numbers p) ≡ true
         → GoesFurther S.by p tale
         → entries_of S.by (n ∷ []) tale ≡ entries_of S.by (n ∷ []) p.seen }

@@ -6,7 +6,7 @@ use Rattle.viz_turn.specs.declared.view.Numbers.{Numbers}
 use Rattle.viz_turn.specs.declared.view.Standing.{Standing}
 use Rattle.viz_turn.specs.declared.view.Claim.{Claim}
 use Rattle.viz_turn.specs.declared.view.View.{View}
-use Rattle.viz_turn.specs.Tales.{has, once, entries_of, IsWholeBy, longer, GoesOn, HasNoOther}
+use Rattle.viz_turn.specs.Tales.{has, once, clear, IsWholeBy, longer, GoesOn, HasNoOther}
 use Rattle.viz_turn.specs.Steps.Numbers.{own_numbers}
 use Rattle.viz_turn.specs.Steps.Turns.{wrapped, idle, at_ticket, in_turn, resting}
 use Rattle.viz_turn.specs.Steps.Lists.{AreTrueOf}
@@ -86,7 +86,7 @@ module _ {E : Type 0} (by : E → ℕ) where
   pub record IsNew (n : ℕ) (v : View E) : Type 0 where
     pub own : has n (own_numbers v.numbers) ≡ false
     pub born : has n v.numbers.born ≡ false
-    pub entries : entries_of by (n ∷ []) v.seen ≡ []
+    pub entries : clear by (n ∷ []) v.seen ≡ true
 
   -- number: where the word was the one expected, it is the seat's spare number, which is new; else nothing changes
   abbrev pub numbered : {T : Type 0} → Step T → Me T (View E) → ℕ → Me T (View E) → Type 0

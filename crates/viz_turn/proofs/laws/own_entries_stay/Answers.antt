@@ -1,5 +1,4 @@
 use Rattle.viz_turn.specs.Known.{numbers}
-use Rattle.viz_turn.proofs.ListLemmas.{has_head}
 use Rattle.viz_turn.proofs.TaleLemmas.{entries_stay}
 use Rattle.viz_turn.proofs.LawLemmas.{one_stays}
 use Rattle.viz_turn.proofs.laws.own_entries_stay.Goals as goal
@@ -7,6 +6,5 @@ use Rattle.viz_turn.proofs.laws.own_entries_stay.Goals as goal
 pub returns : goal.returns
 returns g c = record {
   all = λ p tale on. entries_stay g.S.Story.by (numbers p) p.seen tale on;
-  own = λ p tale on. one_stays g.S.Story.by p.number (numbers p) p.seen tale (has_head p.number p.ended) on;
   each = λ p tale n h on. one_stays g.S.Story.by n (numbers p) p.seen tale h on;
 }
