@@ -124,7 +124,7 @@ pub two_made : (op : Op) (a b o : ImageData) (g : Grid) → IsImage a → IsImag
 two_made op a b o g first second e gives =
     let shared = shared_is (image_grid a) (image_grid b) g e in
     subst (λ r. IsOnGrid r (arith_of op (whole_of a) (whole_of b)) (Ok (Image o))) (sym e)
-        (whole_made (arith_of op (whole_of a) (whole_of b)) g.extent o (ap (λ (z : Grid). z.extent) shared.first) (gives (whole_of a) (whole_of b) (on_itself a first) (on_itself b second)))
+    (whole_made (arith_of op (whole_of a) (whole_of b)) g.extent o (ap (λ (z : Grid). z.extent) shared.first) (gives (whole_of a) (whole_of b) (on_itself a first) (on_itself b second)))
 
 -- both inputs have the points that are asked for
 pub two_parts : (a b : ImageData) (g : Grid) → shared_grid (image_grid a) (image_grid b) ≡ Ok g → IsPart a.extent g.extent × IsPart b.extent g.extent

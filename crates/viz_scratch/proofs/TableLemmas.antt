@@ -80,7 +80,7 @@ module _ {X : Type 0} (rule : NodeRule X) (net : Network) (order : List NodeId) 
   gathered (Some id ∷ inputs) (None ∷ places) f h = absurd f
   gathered (Some id ∷ inputs) (Some p ∷ places) f h =
       subst (AreGiven rule (port (cone_of net id.0) (grow (cone_of net) inputs))) (sym (told_fed table p places h.0.0 h.0.1))
-          (one_fed (cone_of net id.0) inputs h.0.0 (told table places) (given p id h.0.0 h.0.1 f.1) (gathered inputs places f.2 h.1))
+      (one_fed (cone_of net id.0) inputs h.0.0 (told table places) (given p id h.0.0 h.0.1 f.1) (gathered inputs places f.2 h.1))
 
 -- the node of a step
 pub step_node : (steps : List Step) (j : ℕ) (s : Step) → slice_get steps j ≡ Some s → slice_get (nodes_of steps) j ≡ Some s.node
@@ -108,7 +108,7 @@ module _ {X : Type 0} (rule : NodeRule X) (P : X → Type 0) (needs : ℕ → �
       let fed = subst (λ (v : Node). AreFed (nodes_of steps) k v.inputs s.inputs) same step.fed in
       let cone = step.cone ∙ ap (λ (v : Node). Some (v, grow (cone_of net) v.inputs)) same in
       subst (λ c. IsGiven rule c value) (sym cone)
-          (told table s.inputs, gathered rule net (nodes_of steps) k table t.given n.inputs s.inputs fed has, made)
+      (told table s.inputs, gathered rule net (nodes_of steps) k table t.given n.inputs s.inputs fed has, made)
 
   -- one step more that is evaluated
   pub more_table : (k : ℕ) (table : Table X) → IsTable rule P needs net steps k table → (s : Step) → slice_get steps k ≡ Some s → HasInputs table s.inputs
@@ -117,14 +117,14 @@ module _ {X : Type 0} (rule : NodeRule X) (P : X → Type 0) (needs : ℕ → �
   more_table k table t s at has n found value made sound = record {
     count = length-append table (Some value ∷ []) ∙ ap (λ q. q + 1) t.count;
     given = λ j id v here there. elim (last_or table (Some value) j (Some v) here) [
-      inl old ↦ t.given j id v old there |
-      inr e ↦ (let node : s.node ≡ id = (let f : Some s.node ≡ Some id = sym (step_node steps k s at) ∙ sym (ap (slice_get (nodes_of steps)) (e.0 ∙ t.count)) ∙ there in cc) in
+      | inl old ↦ t.given j id v old there
+      | inr e ↦ (let node : s.node ≡ id = (let f : Some s.node ≡ Some id = sym (step_node steps k s at) ∙ sym (ap (slice_get (nodes_of steps)) (e.0 ∙ t.count)) ∙ there in cc) in
           let one : value ≡ v = (let f : Some (Some value) ≡ Some (Some v) = ap Some (sym e.1) in cc) in
           subst (λ (i : NodeId). IsGiven rule (cone_of net i.0) v) node (subst (IsGiven rule (cone_of net s.node.0)) one (given_step k table t s at has n found value made)))
     ];
     sound = λ j x here. elim (last_or table (Some value) j (Some (Ok x)) here) [
-      inl old ↦ t.sound j x old |
-      inr e ↦ (let one : value ≡ Ok x = (let f : Some (Some value) ≡ Some (Some (Ok x)) = ap Some (sym e.1) in cc) in sound x one)
+      | inl old ↦ t.sound j x old
+      | inr e ↦ (let one : value ≡ Ok x = (let f : Some (Some value) ≡ Some (Some (Ok x)) = ap Some (sym e.1) in cc) in sound x one)
     ];
     kept = λ j l need. by j l need (nat_eq j k) refl;
   }

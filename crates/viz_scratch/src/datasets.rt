@@ -94,11 +94,7 @@ fn sectioned(made: Result<Mesh, WorkStop>) -> Result<Dataset, OwnStop>
 }
 
 /// The contours of a dataset.
-fn dataset_contours(
-    alloc: Global,
-    levels: &[i64],
-    dataset: &Dataset,
-) -> Result<Dataset, OwnStop>
+fn dataset_contours(alloc: Global, levels: &[i64], dataset: &Dataset) -> Result<Dataset, OwnStop>
     requires sound { IsSound dataset.now }
     ensures value { Makes (IsContoured levels.now (Some dataset.now)) result }
     ensures sound { IfOk result IsSound }
@@ -141,14 +137,15 @@ fn passed_on(input: Option<&Shared<Dataset>>) -> Result<Shared<Dataset>, OwnStop
 fn first_levels(count: u8, levels: &[i64; 8]) -> &[i64]
     ensures { result.now ≡ take (min count 8) levels.now }
 {
-    if count < 8 { &levels[..count as usize] } else { levels }
+    if count < 8 {
+        &levels[..count as usize]
+    } else {
+        levels
+    }
 }
 
 // A dataset that several may hold.
-fn shared(
-    alloc: Global,
-    made: Result<Dataset, OwnStop>,
-) -> Result<Shared<Dataset>, OwnStop>
+fn shared(alloc: Global, made: Result<Dataset, OwnStop>) -> Result<Shared<Dataset>, OwnStop>
     ensures { IsShared made result }
 {
     Ok(Shared::new(alloc, made?)?)

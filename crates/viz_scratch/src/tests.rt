@@ -128,7 +128,10 @@ fn answer(alloc: Global, net: &Net, node: &str) -> Result<Result<Bytes, Fault>, 
 
 fn gives(rt: &impl Abort, alloc: Global, net: &Net, node: &str, want: &str) -> Result<(), Fail> {
     let got = answer(alloc, net, node)?;
-    assert!(rt; matches!(&got, Ok(text) if text.list() == want.as_bytes()), "{node}: {got:?}");
+    assert!(rt;
+        matches!(&got, Ok(text) if text.list() == want.as_bytes()),
+        "{node}: {got:?}"
+    );
     Ok(())
 }
 
@@ -146,7 +149,10 @@ fn faults(
         node: id_of(net, at)?,
         cause,
     };
-    assert!(rt; matches!(&got, Err(fault) if *fault == want), "{node}: {got:?}");
+    assert!(rt;
+        matches!(&got, Err(fault) if *fault == want),
+        "{node}: {got:?}"
+    );
     Ok(())
 }
 
@@ -212,9 +218,11 @@ fn written(
     values: &str,
 ) -> Result<String, Fail> {
     let [count, origin, step] = line;
-    Ok(format!(in alloc; "# vtk DataFile Version 3.0\nvizrun image\n{form}\nDATASET \
+    Ok(format!(in alloc;
+        "# vtk DataFile Version 3.0\nvizrun image\n{form}\nDATASET \
 STRUCTURED_POINTS\nDIMENSIONS {count} 1 1\nORIGIN {origin} 0 0\nSPACING {step} 1 1\nPOINT_DATA \
-{count}\nSCALARS scalars {kind} 1\nLOOKUP_TABLE default\n{values}\n")?)
+{count}\nSCALARS scalars {kind} 1\nLOOKUP_TABLE default\n{values}\n"
+    )?)
 }
 
 // Three numbers of 64 bits.
@@ -343,7 +351,11 @@ fn each_fault_at_its_node(rt: HostRuntime) -> Result<(), Fail> {
     let rows = [
         ("none", "none", Cause::NoFile),
         ("broken", "broken", bad_file(FileKind::Magic, 0)),
-        ("cut", "cut", bad_file(FileKind::Truncated, CUT.len() as u64)),
+        (
+            "cut",
+            "cut",
+            bad_file(FileKind::Truncated, CUT.len() as u64),
+        ),
         ("free", "free", Cause::Unconnected(1)),
         ("mesh", "mesh", Cause::WrongInput(1)),
         ("half", "half", Cause::Unconnected(2)),
@@ -374,7 +386,11 @@ fn the_first_of_two_faults(rt: HostRuntime) -> Result<(), Fail> {
     let mut story = Story::new(alloc);
     make(alloc, &mut story, &FAULTY)?;
     for (first, second, at, cause) in &BESIDE {
-        make(alloc, &mut story, &[Connect(first, "two", 1), Connect(second, "two", 2)])?;
+        make(
+            alloc,
+            &mut story,
+            &[Connect(first, "two", 1), Connect(second, "two", 2)],
+        )?;
         faults(&rt, alloc, &story.net, "two", at, *cause)?;
     }
     Ok(())

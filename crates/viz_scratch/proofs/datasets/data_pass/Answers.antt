@@ -28,7 +28,7 @@ asked (suc n) h = omega arith
 
 pub loop-k-preserved : goal.loop-k-preserved
 loop-k-preserved c = elim c.if-last-k-eq0.branch [
-  then-last-k-eq0+in_ok-push w ↦
+  | then-last-k-eq0+in_ok-push w ↦
       (let net = c.args.net.now in
       let steps = c.args.steps.now in
       let last = c.args.last.now in
@@ -36,8 +36,8 @@ loop-k-preserved c = elim c.if-last-k-eq0.branch [
       let known = c.loop-k.invariant.table in
       let skipped = skip_table DataRule IsSound net steps last k c.loop-k.table.items known w.if-last-k-eq0.true in
       let pushed = subst (IsTable DataRule IsSound (is_read last) net steps (k + 1)) (sym w.in_ok-push.ensures.items) skipped in
-      record { table = subst (λ t. IsTable DataRule IsSound (is_read last) net steps (k + 1) t.items) (sym w.table-is) pushed }) |
-  else-last-k-eq0+in_ok-value+in_ok-push-2 w ↦
+      record { table = subst (λ t. IsTable DataRule IsSound (is_read last) net steps (k + 1) t.items) (sym w.table-is) pushed })
+  | else-last-k-eq0+in_ok-value+in_ok-push-2 w ↦
       (let net = c.args.net.now in
       let steps = c.args.steps.now in
       let last = c.args.last.now in
@@ -53,7 +53,7 @@ loop-k-preserved c = elim c.if-last-k-eq0.branch [
       let has = has_read DataRule IsSound net steps last (nodes_of steps) k table known step.node.inputs s.inputs step.fed reads in
       let made = subst (λ t. IsMade DataRule w.unwrap-node.result.now (told t s.inputs) w.in_ok-value.value) w.deref.ensures.value w.in_ok-value.ensures.made in
       let more = more_table DataRule IsSound (is_read last) net steps c.requires.steps (λ j q n. (n.0, omega (arith, n.1))) k table known s at has w.unwrap-node.result.now found w.in_ok-value.value made
-          (sound_value IsSound w.in_ok-value.value w.in_ok-value.ensures.sound) in
+      (sound_value IsSound w.in_ok-value.value w.in_ok-value.ensures.sound) in
       let pushed = subst (IsTable DataRule IsSound (is_read last) net steps (k + 1)) (sym w.in_ok-push-2.ensures.items) more in
       let freed = released_table DataRule IsSound net steps last k w.push-else-last-k-eq0.new.self.items w.release.new.table.items pushed w.release.ensures in
       record { table = subst (λ t. IsTable DataRule IsSound (is_read last) net steps (k + 1) t.items) (sym w.table-is) freed })

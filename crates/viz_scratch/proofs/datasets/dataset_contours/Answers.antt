@@ -19,8 +19,8 @@ returns-in-Image-clause-value c =
     let levels = c.args.levels.now in
     let made = c.image_contours.ensures in
     subst (λ d. Makes (IsContoured levels (Some d)) c.sectioned.result) (sym c.in-Image.is)
-        (subst (Makes (IsContoured levels (Some (dataset.Image c.in-Image.image)))) (sym c.sectioned.ensures.value)
-            (contour_makes (map contour_form levels) (dataset.Image c.in-Image.image) c.image_contours.result (record { value = made.value; narrow = made.narrow; too_wide = made.too_wide })))
+    (subst (Makes (IsContoured levels (Some (dataset.Image c.in-Image.image)))) (sym c.sectioned.ensures.value)
+    (contour_makes (map contour_form levels) (dataset.Image c.in-Image.image) c.image_contours.result (record { value = made.value; narrow = made.narrow; too_wide = made.too_wide })))
 
 pub returns-in-Mesh-clause-value : goal.returns-in-Mesh-clause-value
 returns-in-Mesh-clause-value c =
@@ -30,5 +30,5 @@ returns-in-Mesh-clause-value c =
     let sheets = c.sheets.ensures.value in
     let sectioned = subst (λ all. IsSectioned forms all c.mesh_contours.result) sheets (record { value = made.value; narrow = made.narrow; too_wide = made.too_wide }) in
     subst (λ d. Makes (IsContoured levels (Some d)) c.sectioned-in-Mesh.result) (sym c.in-Mesh.is)
-        (subst (Makes (IsContoured levels (Some (dataset.Mesh c.in-Mesh.mesh)))) (sym c.sectioned-in-Mesh.ensures.value)
-            (contour_makes forms (dataset.Mesh c.in-Mesh.mesh) c.mesh_contours.result sectioned))
+    (subst (Makes (IsContoured levels (Some (dataset.Mesh c.in-Mesh.mesh)))) (sym c.sectioned-in-Mesh.ensures.value)
+    (contour_makes forms (dataset.Mesh c.in-Mesh.mesh) c.mesh_contours.result sectioned))

@@ -33,7 +33,7 @@ returns-in-Sample-clause-value c =
     let fed = subst (λ d. Makes (IsFromOne (thinned rate) (sample_of rate) d) c.sample_input.result) first made in
     let rule = makes_more (IsFromOne (thinned rate) (sample_of rate) (fed_at 1 inputs)) (IsEvaluated s file inputs) (made_of_one (thinned rate) (sample_of rate) inputs) c.sample_input.result fed in
     subst (λ z. Makes (IsEvaluated z file inputs) c.shared-in-Sample.result) (sym c.in-Sample.is)
-        (shared_makes (IsEvaluated s file inputs) c.sample_input.result c.shared-in-Sample.result c.shared-in-Sample.ensures rule)
+    (shared_makes (IsEvaluated s file inputs) c.sample_input.result c.shared-in-Sample.result c.shared-in-Sample.ensures rule)
 
 pub returns-in-Arith-clause-value : goal.returns-in-Arith-clause-value
 returns-in-Arith-clause-value c =
@@ -47,4 +47,4 @@ returns-in-Arith-clause-value c =
     let fed = subst (λ d. Makes (IsFromTwo filter (fed_at 1 inputs) d) c.arith_inputs.result) second made in
     let rule = makes_more (IsFromTwo filter (fed_at 1 inputs) (fed_at 2 inputs)) (IsEvaluated s file inputs) (made_of_two filter inputs) c.arith_inputs.result fed in
     subst (λ z. Makes (IsEvaluated z file inputs) c.shared-in-Arith.result) (sym c.in-Arith.is)
-        (shared_makes (IsEvaluated s file inputs) c.arith_inputs.result c.shared-in-Arith.result c.shared-in-Arith.ensures rule)
+    (shared_makes (IsEvaluated s file inputs) c.arith_inputs.result c.shared-in-Arith.result c.shared-in-Arith.ensures rule)

@@ -16,5 +16,5 @@ returns-clause-value c =
     let o = c.in_ok-crop.field-0 in
     let e : cropped box (image_grid i) ≡ Ok g = ap (cropped box) (sym c.grid_of_image.ensures.value) ∙ sym c.cropped.ensures ∙ c.in_ok-grid.was in
     subst (λ d. IsFromOne (cropped box) (crop_of box) d (Ok c.whole_image.result)) (sym c.in_ok-image.ensures.value)
-        (subst (λ r. IsFromOne (cropped box) (crop_of box) (Some (Image i)) (Ok r)) (sym c.whole_image.ensures.value)
-            (one_made (cropped box) (crop_of box) i o g c.grid_of_image.ensures.valid e (crop_extent box (image_grid i) g e) (c.in_ok-crop.ensures.value box)))
+    (subst (λ r. IsFromOne (cropped box) (crop_of box) (Some (Image i)) (Ok r)) (sym c.whole_image.ensures.value)
+    (one_made (cropped box) (crop_of box) i o g c.grid_of_image.ensures.valid e (crop_extent box (image_grid i) g e) (c.in_ok-crop.ensures.value box)))

@@ -31,5 +31,5 @@ returns-clause-value c =
     let o = c.in_ok-sample.field-0 in
     let e : thinned rate (image_grid i) ≡ Ok g = ap (thinned rate) (sym c.grid_of_image.ensures.value) ∙ sym c.thinned.ensures ∙ c.in_ok-grid.was in
     subst (λ d. IsFromOne (thinned rate) (sample_of rate) d (Ok c.whole_image.result)) (sym c.in_ok-image.ensures.value)
-        (subst (λ r. IsFromOne (thinned rate) (sample_of rate) (Some (Image i)) (Ok r)) (sym c.whole_image.ensures.value)
-            (one_made (thinned rate) (sample_of rate) i o g c.grid_of_image.ensures.valid e (thinned_is rate (image_grid i) g e).extent c.in_ok-sample.ensures.value))
+    (subst (λ r. IsFromOne (thinned rate) (sample_of rate) (Some (Image i)) (Ok r)) (sym c.whole_image.ensures.value)
+    (one_made (thinned rate) (sample_of rate) i o g c.grid_of_image.ensures.valid e (thinned_is rate (image_grid i) g e).extent c.in_ok-sample.ensures.value))

@@ -27,5 +27,5 @@ returns-clause-value c =
     let on-whole = subst (λ b. IsOn (smooth_within c.within.result b (whole_of i)) whole o) same on in
     let on-radius = subst (λ r. IsOn (smooth_within r i.extent (whole_of i)) whole o) c.within.ensures on-whole in
     subst (λ d. IsFromOne (λ g. Ok g) filter d (Ok c.whole_image.result)) (sym c.in_ok-image.ensures.value)
-        (subst (λ r. IsFromOne (λ g. Ok g) filter (Some (Image i)) (Ok r)) (sym c.whole_image.ensures.value)
-            (one_on filter i o whole (sym same) on-radius))
+    (subst (λ r. IsFromOne (λ g. Ok g) filter (Some (Image i)) (Ok r)) (sym c.whole_image.ensures.value)
+    (one_on filter i o whole (sym same) on-radius))

@@ -17,5 +17,5 @@ returns-clause-value c =
     let o = c.in_ok-threshold.field-0 in
     let filter = threshold_of c.args.lo.now c.args.hi.now in
     subst (λ d. IsFromOne (λ g. Ok g) filter d (Ok c.whole_image.result)) (sym c.in_ok-image.ensures.value)
-        (subst (λ r. IsFromOne (λ g. Ok g) filter (Some (Image i)) (Ok r)) (sym c.whole_image.ensures.value)
-            (one_on filter i o c.extent.result (sym c.extent.ensures.value) (c.in_ok-threshold.ensures.value (whole_of i) (on_itself i c.extent.ensures.valid))))
+    (subst (λ r. IsFromOne (λ g. Ok g) filter (Some (Image i)) (Ok r)) (sym c.whole_image.ensures.value)
+    (one_on filter i o c.extent.result (sym c.extent.ensures.value) (c.in_ok-threshold.ensures.value (whole_of i) (on_itself i c.extent.ensures.valid))))

@@ -5,4 +5,4 @@ pub returns : goal.returns
 returns c f =
     let image = c.args.image.now in
     c.sections_are_sheets.ensures.fits f (tetrahedra_sheet image) 1 (c.tetrahedra_are_a_sheet.ensures.sheet image c.extent-extent.ensures.valid)
-        (c.tetrahedra_are_a_sheet.ensures.names image) (c.tetrahedra_are_a_sheet.ensures.fits image c.extent-extent.ensures.valid)
+    (c.tetrahedra_are_a_sheet.ensures.names image) (c.tetrahedra_are_a_sheet.ensures.fits image c.extent-extent.ensures.valid)
