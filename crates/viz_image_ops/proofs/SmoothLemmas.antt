@@ -1,12 +1,12 @@
 -- The mean in a window by places is the mean on the box round a point.
-use Rattle.std.proofs.Common.{◌≡◌, ℕ, ◌+◌, ◌-◌, ◌*◌, ◌<◌, ◌≤◌, ℤ, pos, List, length, get_or, refl, sym, ap, ap₂, ◌∙◌, subst, arith}
+use Rattle.std.proofs.Common.{◌≡◌, ℕ, ◌+◌, ◌-◌, ◌*◌, ◌≤◌, ℤ, pos, List, get_or, refl, sym, ap, ap₂, ◌∙◌, subst, arith}
 use Rattle.std.specs.Prelude.{max, min}
-use Rattle.viz_extent.specs.Extent.{Bounds, size_of, size_x, size_y, size_z, plane_size, count_of, IsExtent, Has}
+use Rattle.viz_extent.specs.Extent.{Bounds, size_of, size_x, size_y, size_z, count_of, IsExtent, Has}
 use Rattle.viz_extent.specs.Numbering.{index_at}
 use Rattle.viz_extent.specs.Parts.{IsPart, grown}
-use Rattle.viz_dataset.specs.Images.{ImageData, IsImage, number_at}
-use Rattle.viz_meaning.specs.ImageFilters.{sum_of, floor_of, box_sum, mean_on, box_round, point_extent, smooth_within}
-use Rattle.viz_meaning.specs.WholeImages.{WholeImage, IsOn, GivesOn}
+use Rattle.viz_dataset.specs.Images.{ImageData, IsImage}
+use Rattle.viz_meaning.specs.ImageFilters.{sum_of, floor_of, box_sum, mean_on, box_round, smooth_within}
+use Rattle.viz_meaning.specs.WholeImages.{GivesOn}
 use Rattle.viz_image_ops.specs.Joined.{joined, run_of, values_on}
 use Rattle.viz_image_ops.specs.Sums.{window_first, window_size, place_sum, place_mean, round_axes}
 use Rattle.viz_image_ops.proofs.JoinedLemmas.{joined_same, run_same, get_or-values_on}

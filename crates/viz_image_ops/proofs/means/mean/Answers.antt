@@ -1,4 +1,4 @@
-use Rattle.std.proofs.Common.{◌≡◌, to_z, of_z, true, ap, ◌∙◌, arith}
+use Rattle.std.proofs.Common.{◌≡◌, to_z, of_z, ap, ◌∙◌, arith}
 use Rattle.std.specs.Int.{w128}
 use Rattle.std.proofs.lemmas.Int.{ints}
 use Rattle.viz_column.specs.Kinds.{fits}

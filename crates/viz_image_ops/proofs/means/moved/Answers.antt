@@ -1,6 +1,5 @@
-use Rattle.std.proofs.Common.{◌≡◌, ◌+◌, ◌-◌, ◌<◌, ◌≤◌, ◌^◌, ℕ, ℤ, pos, ◌+ℤ◌, ◌-ℤ◌, get_or, to_z, of_z, ap, ap₂, ◌∙◌, sym, subst, arith}
+use Rattle.std.proofs.Common.{◌≡◌, ◌-◌, ◌^◌, ℤ, pos, get_or, to_z, ◌∙◌, sym, subst, arith}
 use Rattle.std.specs.Int.{w128}
-use Rattle.std.proofs.lemmas.Int.{ints}
 use Rattle.viz_meaning.specs.ImageFilters.{sum_of}
 use Rattle.viz_image_ops.specs.Sums.{IsWithin}
 use Rattle.viz_image_ops.proofs.SumLemmas.{item_within, run_within, sum_fits, difference_fits, sum_is, difference_is, run_more, run_less}

@@ -1,4 +1,4 @@
-use Rattle.std.proofs.Common.{◌≡◌, ℕ, ◌-◌, get_or, pos}
+use Rattle.std.proofs.Common.{◌≡◌, ◌-◌, get_or, pos}
 use Rattle.viz_meaning.specs.ImageFilters.{sum_of}
 use Rattle.viz_image_ops.proofs.means.moved.Given as goal
 

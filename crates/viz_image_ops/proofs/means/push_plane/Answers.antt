@@ -1,4 +1,4 @@
-use Rattle.std.proofs.Common.{◌≡◌, ◌+◌, ◌-◌, ◌*◌, ◌^◌, ◌<◌, ◌≤◌, ◌++◌, ℕ, ℤ, List, pos, map, length, ap, ap₂, ◌∙◌, sym, arith}
+use Rattle.std.proofs.Common.{◌≡◌, ◌-◌, ◌*◌, ◌^◌, ◌<◌, ◌≤◌, ◌++◌, ℕ, ℤ, List, map, length, ap, ap₂, ◌∙◌, arith}
 use Rattle.viz_extent.specs.Extent.{size_of, size_x}
 use Rattle.viz_extent.proofs.PartLemmas.{numbers-read}
 use Rattle.viz_image_ops.specs.Joined.{run_of}

@@ -1,4 +1,4 @@
-use Rattle.std.proofs.Common.{◌≡◌, ℕ, ◌-◌, ◌≤◌, ◌++◌, map, get_or, pos}
+use Rattle.std.proofs.Common.{◌≡◌, ◌-◌, ◌++◌, map}
 use Rattle.viz_extent.specs.Extent.{size_x}
 use Rattle.viz_image_ops.specs.Joined.{joined, run_of}
 use Rattle.viz_image_ops.specs.Sums.{plane_mean, ArePlaceSums}

@@ -1,9 +1,9 @@
-use Rattle.std.proofs.Common.{◌≡◌, ◌+◌, ◌-◌, ◌*◌, ◌^◌, ◌<◌, ◌≤◌, ◌++◌, ℕ, ℤ, List, pos, map, length, ap, ◌∙◌, sym, subst, arith}
+use Rattle.std.proofs.Common.{◌≡◌, ◌-◌, ◌*◌, ◌≤◌, ◌++◌, ℕ, ℤ, List, map, length, ap, ◌∙◌, subst, arith}
 use Rattle.std.proofs.lemmas.List.{length-map}
 use Rattle.viz_extent.specs.Extent.{size_x, size_y, size_z}
 use Rattle.viz_extent.proofs.PartLemmas.{numbers-read}
-use Rattle.viz_image_ops.specs.Joined.{joined, run_of, values_on}
-use Rattle.viz_image_ops.specs.Sums.{plane_mean, place_mean, AreSumsOf}
+use Rattle.viz_image_ops.specs.Joined.{joined, run_of}
+use Rattle.viz_image_ops.specs.Sums.{place_mean, AreSumsOf}
 use Rattle.viz_image_ops.proofs.JoinedLemmas.{lists_more}
 use Rattle.viz_image_ops.proofs.MeanLemmas.{room_of, some_places, few_planes, place_sums_within, planes_are, reach_of, behind_more}
 use Rattle.viz_image_ops.proofs.means.push_planes.Goals as goal

@@ -1,7 +1,7 @@
-use Rattle.std.proofs.Common.{◌≡◌, ℕ, ◌-◌, ◌≤◌, ◌++◌, map, get_or, pos}
+use Rattle.std.proofs.Common.{◌≡◌, ◌-◌, ◌++◌, map, get_or, pos}
 use Rattle.viz_meaning.specs.ImageFilters.{sum_of}
 use Rattle.viz_image_ops.specs.Joined.{run_of}
-use Rattle.viz_image_ops.specs.Sums.{row_mean, window_first, window_behind}
+use Rattle.viz_image_ops.specs.Sums.{row_mean}
 use Rattle.viz_image_ops.proofs.MeanLemmas.{IsBehind}
 use Rattle.viz_image_ops.proofs.means.push_row.Given as goal
 

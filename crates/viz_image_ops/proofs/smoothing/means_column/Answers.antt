@@ -1,4 +1,4 @@
-use Rattle.std.proofs.Common.{◌≡◌, ◌*◌, ◌++◌, ℕ, ℤ, List, [], pos, map, length, get_or, ap, ap₂, ◌∙◌, sym, subst, arith}
+use Rattle.std.proofs.Common.{◌≡◌, ◌*◌, ◌++◌, ℕ, ℤ, List, pos, map, get_or, ap, ◌∙◌, subst, arith}
 use Rattle.viz_column.specs.Kinds.{fits}
 use Rattle.viz_extent.specs.Numbering.{index_at}
 use Rattle.viz_extent.specs.Parts.{grown}

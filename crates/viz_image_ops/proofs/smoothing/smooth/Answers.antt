@@ -1,5 +1,4 @@
 use Rattle.std.proofs.lemmas.Result.{IfOk-weaker}
-use Rattle.viz_extent.specs.Parts.{grown}
 use Rattle.viz_meaning.specs.ImageFilters.{smooth_within}
 use Rattle.viz_meaning.specs.WholeImages.{GivesOn}
 use Rattle.viz_image_ops.proofs.PartLemmas.{through_part}

@@ -1,4 +1,4 @@
-use Rattle.std.proofs.Common.{◌≡◌, ℕ, ℤ, List, pos, length, get_or, ap, ◌∙◌, sym}
+use Rattle.std.proofs.Common.{pos, length, get_or, ap, ◌∙◌}
 use Rattle.viz_column.specs.Numbers.{Numbers}
 use Rattle.viz_extent.specs.Numbering.{index_at}
 use Rattle.viz_extent.specs.Parts.{grown}

@@ -1,7 +1,5 @@
-use Rattle.std.proofs.Common.{◌≡◌, ◌<◌, ◌≤◌, ◌*◌, ◌^◌, ◌+◌, ◌-◌, ℕ, ℤ, take, drop, ◌+ℤ◌, ◌-ℤ◌, map, length, get_or, pos, ap, ◌∙◌, sym, subst, arith}
-use Rattle.std.proofs.lemmas.List.{length-map}
-use Rattle.viz_image_ops.specs.Sums.{IsWithin}
-use Rattle.viz_image_ops.proofs.SumLemmas.{length-list, number_in_list, place_within, sums_within, place_sums_more, place_sums_less}
+use Rattle.std.proofs.Common.{◌≡◌, ◌<◌, ◌≤◌, ◌*◌, ◌+◌, ℕ, ◌+ℤ◌, ◌-ℤ◌, length, get_or, pos, ap, ◌∙◌, sym, arith}
+use Rattle.viz_image_ops.proofs.SumLemmas.{number_in_list, sums_within, place_sums_more, place_sums_less}
 use Rattle.viz_image_ops.proofs.sums.move_terms.Goals as goal
 
 pub add_terms-requires-clause-room : goal.add_terms-requires-clause-room

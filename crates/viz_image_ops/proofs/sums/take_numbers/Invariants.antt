@@ -1,4 +1,4 @@
-use Rattle.std.proofs.Common.{◌≡◌, ℕ, ◌<◌, ◌≤◌, length, map, get_or, pos, ◌-ℤ◌}
+use Rattle.std.proofs.Common.{◌≡◌, ℕ, ◌<◌, ◌≤◌, map, get_or, pos, ◌-ℤ◌}
 use Rattle.viz_image_ops.proofs.sums.take_numbers.Given as goal
 
 -- the sums so far, and those that are left

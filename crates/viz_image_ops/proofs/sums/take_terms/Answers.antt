@@ -1,4 +1,4 @@
-use Rattle.std.proofs.Common.{◌≡◌, ◌<◌, ◌^◌, ℤ, ◌-ℤ◌, length, get_or, pos, ap, ◌∙◌, sym, subst, arith}
+use Rattle.std.proofs.Common.{◌<◌, ◌^◌, ℤ, ◌-ℤ◌, length, get_or, pos, ap, ◌∙◌, sym, subst, arith}
 use Rattle.viz_image_ops.specs.Sums.{IsWithin}
 use Rattle.viz_image_ops.proofs.SumLemmas.{difference_kept, stepped_more}
 use Rattle.viz_image_ops.proofs.sums.take_terms.Goals as goal

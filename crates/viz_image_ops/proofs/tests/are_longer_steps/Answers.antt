@@ -1,4 +1,4 @@
-use Rattle.std.proofs.Common.{◌≡◌, ap, ◌∙◌, sym, subst}
+use Rattle.std.proofs.Common.{ap, ◌∙◌, sym, subst}
 use Rattle.viz_extent.specs.Parts.{rate_of}
 use Rattle.viz_dataset.specs.Images.{Vector, IsSpacing}
 use Rattle.viz_meaning.specs.ImageFilters.{wider_steps}

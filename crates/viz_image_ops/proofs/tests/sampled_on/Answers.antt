@@ -1,6 +1,6 @@
-use Rattle.std.proofs.Common.{◌≡◌, subst, sym, arith}
+use Rattle.std.proofs.Common.{subst, arith}
 use Rattle.viz_extent.specs.Extent.{Bounds}
-use Rattle.viz_extent.specs.Parts.{rate_of, IsPart, sampled, spread}
+use Rattle.viz_extent.specs.Parts.{rate_of, IsPart}
 use Rattle.viz_image_ops.proofs.tests.sampled_on.Goals as goal
 
 itself : (b : Bounds) → IsPart b b
