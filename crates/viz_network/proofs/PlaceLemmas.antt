@@ -37,7 +37,7 @@ cone_grows net order t k x at n found =
     let within = slice_get_within order k x at in
     let tree : Node → Tree = λ v. (v, grow (above 255 net) v.inputs) in
     let e = grow_same order (above 255 net) (above 256 net) k
-        (λ j y l here. whole net order t 255 256 j y here (omega (arith, l, within, t.short)) (omega (arith, l, within, t.short))) n.inputs fed in
+    (λ j y l here. whole net order t 255 256 j y here (omega (arith, l, within, t.short)) (omega (arith, l, within, t.short))) n.inputs fed in
     ap (option_map tree) found ∙ ap (λ c. Some (n, c)) e
 
 module _ (net : Network) (order : List NodeId) (k : ℕ) (table : List ℕ) (known : ArePlaces net order k table) (t : IsTale net order) where
@@ -50,7 +50,7 @@ module _ (net : Network) (order : List NodeId) (k : ℕ) (table : List ℕ) (kno
       let rank = rank_some net id.0 node.0 node.1 in
       let p = known h.0.0 id rank.0 h.0.1 h.0.2 rank.1 in
       let told : place_told net table (Some id) ≡ Some p.0 =
-          ap (option_map (λ i. get_or table i 0)) rank.1 ∙ ap Some (get_or_from_slice_get table rank.0 p.0 0 p.2) in
+      ap (option_map (λ i. get_or table i 0)) rank.1 ∙ ap Some (get_or_from_slice_get table rank.0 p.0 0 p.2) in
       subst (λ o. AreFed order k (Some id ∷ inputs) (o ∷ map (place_told net table) inputs)) (sym told) (p.1, p.3, fed_places inputs h.1)
 
   -- with the place of one node more
@@ -120,8 +120,8 @@ more_steps net order o k r d table steps n places l first rank at is =
     } in
     record {
       each = λ j z atj. elim (last_or steps s j z atj) [
-        inl old ↦ first.each j z old |
-        inr e ↦ (let place : j ≡ k = e.0 ∙ first.count in
+        | inl old ↦ first.each j z old
+        | inr e ↦ (let place : j ≡ k = e.0 ∙ first.count in
             (ap (slice_get order) place ∙ here ∙ ap (λ q. Some q.node) (sym e.1), subst (λ q. IsStepOf net order q z) (sym place) (subst (IsStepOf net order k) (sym e.1) step)))
       ];
       places = more_places net order k table first.places t x n r here found rank within;

@@ -62,11 +62,7 @@ fn places_of(
 }
 
 /// A step for each node, in the order.
-pub fn steps_in(
-    alloc: Global,
-    nodes: &Nodes,
-    order: &[NodeId],
-) -> Result<Vec<Step>, AllocError>
+pub fn steps_in(alloc: Global, nodes: &Nodes, order: &[NodeId]) -> Result<Vec<Step>, AllocError>
     requires { IsOrder nodes.now.entries order.now }
     ensures { IfOk result (λ steps. AreSteps nodes.now.entries steps.items) }
 {

@@ -21,7 +21,7 @@ loop-id-preserved c =
     let size : c.len.result ≡ length c.loop-id.steps.items = search rules in
     let here : c.len.result ≡ k = size ∙ first.count in
     let more = more_steps net order c.requires k c.rank_in-rank.result _ c.loop-id.places c.loop-id.steps.items _ c.places_of-inputs.result
-        c.loop-id-test.true first c.rank_in-rank.ensures.value c.index.ensures c.places_of-inputs.ensures in
+    c.loop-id-test.true first c.rank_in-rank.ensures.value c.index.ensures c.places_of-inputs.ensures in
     record {
       first = subst (λ p. AreFirstSteps net order (k + 1) (set c.loop-id.places c.rank_in-rank.result p) c.push.new.self.items) (sym here)
           (subst (AreFirstSteps net order (k + 1) (set c.loop-id.places c.rank_in-rank.result k)) (sym c.in_ok-push.ensures.items) more);
@@ -31,4 +31,4 @@ pub returns : goal.returns
 returns c =
     let e : c.loop-id.id-index ≡ length c.args.order.now = omega (arith, c.loop-id-test.false, c.loop-id.auto) in
     all_steps c.args.nodes.now.entries c.args.order.now c.requires c.loop-id.places c.loop-id.steps.items
-        (subst (λ k. AreFirstSteps c.args.nodes.now.entries c.args.order.now k c.loop-id.places c.loop-id.steps.items) e c.loop-id.invariant.first)
+    (subst (λ k. AreFirstSteps c.args.nodes.now.entries c.args.order.now k c.loop-id.places c.loop-id.steps.items) e c.loop-id.invariant.first)
