@@ -49,14 +49,14 @@ from_two filter (Some (Image a)) None r h = h
 from_two filter (Some (Image a)) (Some (Mesh sheets)) r h = h
 from_two filter (Some (Image a)) (Some (Image b)) r h =
     on_grid (shared_grid (grid_of a.extent a.origin a.spacing) (grid_of b.extent b.origin b.spacing)) (filter (whole_of a) (whole_of b)) r
-        (IsOfTwo filter (Some (Image a)) (Some (Image b))) (λ g q w. w) h
+    (IsOfTwo filter (Some (Image a)) (Some (Image b))) (λ g q w. w) h
 
 pub made_of_two : (filter : WholeImage → WholeImage → WholeImage) (inputs : Inputs Dataset) (r : Result Dataset Cause) → IsFromTwo filter (fed_at 1 inputs) (fed_at 2 inputs) r
     → IsMadeWith (as_image (and_then (grid_at 1 (all_information inputs)) (λ g. and_then (grid_at 2 (all_information inputs)) (shared_grid g)))) (IsOfTwo filter (fed_at 1 inputs) (fed_at 2 inputs)) r
 made_of_two filter inputs r h =
     let made : Option Information → Option Information → Type 0 = λ o p. IsMadeWith (as_image (and_then (grid_in 1 o) (λ g. and_then (grid_in 2 p) (shared_grid g)))) (IsOfTwo filter (fed_at 1 inputs) (fed_at 2 inputs)) r in
     subst (λ o. made o (fed_at 2 (all_information inputs))) (sym (informed_at 1 inputs))
-        (subst (made (option_map information_of (fed_at 1 inputs))) (sym (informed_at 2 inputs)) (from_two filter (fed_at 1 inputs) (fed_at 2 inputs) r h))
+    (subst (made (option_map information_of (fed_at 1 inputs))) (sym (informed_at 2 inputs)) (from_two filter (fed_at 1 inputs) (fed_at 2 inputs) r h))
 
 -- a contour
 contoured : (forms : List Form) (d : Option Dataset) (r : Result Dataset Cause) → IsContouredBy forms d r
@@ -70,7 +70,7 @@ made_of_contour forms inputs r h =
     subst (λ o. IsMadeWith (and_then (either_in 1 o) (λ i. Ok OfMesh)) (IsSectionOf forms (fed_at 1 inputs)) r) (sym (informed_at 1 inputs)) (contoured forms (fed_at 1 inputs) r h)
 
 -- a writer
-Passes : Option Dataset → Result Dataset Cause → Type 0
+abbrev Passes : Option Dataset → Result Dataset Cause → Type 0
 Passes d r = (e : Dataset) × (d ≡ Some e) × (r ≡ Ok e)
 
 passed : (d : Option Dataset) (r : Result Dataset Cause) → IsPassed d r → IsMadeWith (either_in 1 (option_map information_of d)) (Passes d) r

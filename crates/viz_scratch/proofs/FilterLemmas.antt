@@ -1,5 +1,6 @@
 -- What filters of images make of whole images.
-use Rattle.std.proofs.Common.{◌≡◌, ℕ, suc, ◌*◌, ◌/◌, ◌≤◌, ◌^◌, ℤ, pos, negsuc, ◌*ℤ◌, ◌≤ℤ◌, ◌<ℤ◌, Bool, true, false, cond, ◌&&◌, nat_eq, int_le, Option, None, Some, Result, Ok, Err, refl, sym, ap, subst, ◌∙◌, arith}
+use Rattle.std.proofs.Common.{◌≡◌, ℕ, suc, ◌*◌, ◌/◌, ◌<◌, ◌≤◌, ◌^◌, ℤ, pos, negsuc, ◌*ℤ◌, ◌≤ℤ◌, ◌<ℤ◌, Bool, true, false, cond, ◌&&◌, nat_eq, int_le, Option, None, Some, Result, Ok, Err, refl, sym, ap, subst, ◌∙◌, arith}
+use Rattle.std.proofs.Math.Nat.{mul-pos}
 use Rattle.std.proofs.lemmas.Bool.Decides.{nat_tests}
 use Rattle.viz_dataset.specs.Images.{ImageData, IsImage, IsStep, IsSpacing}
 use Rattle.viz_dataset.specs.declared.dataset.Dataset.{Dataset}
@@ -39,6 +40,11 @@ pub one_made : (grid : Grid → Result Grid Cause) (filter : WholeImage → Whol
     → (filter (whole_of i)).extent ≡ g.extent → GivesOn filter i g.extent o → IsFromOne grid filter (Some (Image i)) (Ok (Image o))
 one_made grid filter i o g valid e extent gives =
     subst (λ r. IsOnGrid r (filter (whole_of i)) (Ok (Image o))) (sym e) (whole_made (filter (whole_of i)) g.extent o extent (gives (whole_of i) (on_itself i valid)))
+
+-- the same, where the image on the whole extent is known
+pub one_on : (filter : WholeImage → WholeImage) (i o : ImageData) (part : Bounds) → (filter (whole_of i)).extent ≡ part → IsOn (filter (whole_of i)) part o
+    → IsFromOne (λ g. Ok g) filter (Some (Image i)) (Ok (Image o))
+one_on filter i o part extent on = whole_made (filter (whole_of i)) part o extent on
 
 -- the extent of a crop
 pub crop_extent : (box : Bounds) (h g : Grid) → cropped box h ≡ Ok g → common h.extent box ≡ g.extent
@@ -80,7 +86,9 @@ same_bounds a b h =
     let e4 : a.y1 ≡ b.y1 = grind (arith, nat_tests) in
     let e5 : a.z0 ≡ b.z0 = grind (arith, nat_tests) in
     let e6 : a.z1 ≡ b.z1 = grind (arith, nat_tests) in
-    cc
+    let made : ℕ → ℕ → ℕ → ℕ → ℕ → ℕ → Bounds = λ x0 x1 y0 y1 z0 z1. record { x0 = x0; x1 = x1; y0 = y0; y1 = y1; z0 = z0; z1 = z1 } in
+    ap (λ n. made n a.x1 a.y0 a.y1 a.z0 a.z1) e1 ∙ ap (λ n. made b.x0 n a.y0 a.y1 a.z0 a.z1) e2 ∙ ap (λ n. made b.x0 b.x1 n a.y1 a.z0 a.z1) e3
+    ∙ ap (λ n. made b.x0 b.x1 b.y0 n a.z0 a.z1) e4 ∙ ap (λ n. made b.x0 b.x1 b.y0 b.y1 n a.z1) e5 ∙ ap (λ n. made b.x0 b.x1 b.y0 b.y1 b.z0 n) e6
 
 and_left : (a b : Bool) → (a && b) ≡ true → a ≡ true
 and_left true b h = refl
@@ -116,7 +124,7 @@ pub two_made : (op : Op) (a b o : ImageData) (g : Grid) → IsImage a → IsImag
 two_made op a b o g first second e gives =
     let shared = shared_is (image_grid a) (image_grid b) g e in
     subst (λ r. IsOnGrid r (arith_of op (whole_of a) (whole_of b)) (Ok (Image o))) (sym e)
-        (whole_made (arith_of op (whole_of a) (whole_of b)) g.extent o (ap (λ (z : Grid). z.extent) shared.first) (gives (whole_of a) (whole_of b) (on_itself a first) (on_itself b second)))
+    (whole_made (arith_of op (whole_of a) (whole_of b)) g.extent o (ap (λ (z : Grid). z.extent) shared.first) (gives (whole_of a) (whole_of b) (on_itself a first) (on_itself b second)))
 
 -- both inputs have the points that are asked for
 pub two_parts : (a b : ImageData) (g : Grid) → shared_grid (image_grid a) (image_grid b) ≡ Ok g → IsPart a.extent g.extent × IsPart b.extent g.extent
@@ -127,7 +135,11 @@ two_parts a b g e =
 
 -- a step times a rate, where it isn't too wide
 step_kept : (s : ℤ) (r : ℕ) → IsStep s → 1 ≤ r → int_le (longer_step s r) (pos (10 ^ 18)) ≡ true → IsStep (s *ℤ pos r)
-step_kept (pos m) r h l e = record { above = grind arith; most = grind (arith, nat_tests) }
+step_kept (pos m) r h l e =
+    let up = h.above in
+    let some : 0 < m = grind (arith, up) in
+    let p : 0 < m * r = mul-pos some l in
+    record { above = grind (arith, p); most = grind (arith, nat_tests, e) }
 step_kept (negsuc m) r h l e = (let up = h.above in let bad : ⊥ = grind arith in absurd bad)
 
 -- a sample has the points that it reads, and steps

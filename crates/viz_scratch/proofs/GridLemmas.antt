@@ -35,7 +35,9 @@ no_common a b h = none_of (has_points (common a b)) (λ t. h (point t))
         let up = ascend (common a b) t in
         let px = up.x in let py = up.y in let pz = up.z in
         record {
-          i = (common a b).x0; j = (common a b).y0; k = (common a b).z0;
+          i = (common a b).x0;
+          j = (common a b).y0;
+          k = (common a b).z0;
           first = record { x = record { at_least = omega arith; at_most = omega (arith, px) }; y = record { at_least = omega arith; at_most = omega (arith, py) }; z = record { at_least = omega arith; at_most = omega (arith, pz) } };
           second = record { x = record { at_least = omega arith; at_most = omega (arith, px) }; y = record { at_least = omega arith; at_most = omega (arith, py) }; z = record { at_least = omega arith; at_most = omega (arith, pz) } };
         }

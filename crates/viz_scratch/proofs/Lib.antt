@@ -5,4 +5,7 @@ pub mod RuleLemmas
 pub mod GridLemmas
 pub mod DataLemmas
 pub mod FilterLemmas
+pub mod MakesLemmas
+pub mod DataOneLemmas
+pub mod ScratchLemmas
 pub mod SectionLemmas

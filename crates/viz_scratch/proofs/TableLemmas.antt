@@ -1,6 +1,6 @@
 -- A table of what steps give grows by the rule.
 use Rattle.std.specs.Option.{option_copied}
-use Rattle.std.proofs.Common.{Bor, IsSome, ◌≡◌, ℕ, zero, suc, ◌+◌, ◌<◌, ◌≤◌, ◌⊎◌, inl, inr, Bool, true, false, nat_eq, List, [], ◌∷◌, ◌++◌, length, length-append, map, slice_get, set, get_or, Option, None, Some, Result, Ok, Err, refl, sym, ap, subst, ◌∙◌, arith}
+use Rattle.std.proofs.Common.{Bor, IsSome, IfSome, IfOk, ◌≡◌, ℕ, zero, suc, ◌+◌, ◌<◌, ◌≤◌, ◌⊎◌, inl, inr, Bool, true, false, nat_eq, List, [], ◌∷◌, ◌++◌, length, length-append, map, slice_get, set, get_or, Option, None, Some, Result, Ok, Err, refl, sym, ap, subst, ◌∙◌, arith}
 use Rattle.std.proofs.lemmas.Bool.{eqb-true}
 use Rattle.std.proofs.lemmas.Bool.Decides.{nat_tests}
 use Rattle.std.proofs.lemmas.List.{get_or-set_same, length-set}
@@ -13,8 +13,8 @@ use Rattle.viz_network.specs.Network.{Network, node_of}
 use Rattle.viz_network.specs.Cone.{Tree, grow, port, cone_of}
 use Rattle.viz_network.specs.Step.{nodes_of, AreFed, IsStepOf, AreSteps}
 use Rattle.viz_scratch.specs.Fold.{Inputs, NodeRule, filled, joined, IsMade, AreGiven, IsGiven}
-use Rattle.viz_scratch.specs.Steps.Table.{Table, fault_of, value_of, entry_at, value_at, first_of, first_fault, faulted, told, HasInputs, IsTable, always, is_read, IsReleased}
-use Rattle.viz_scratch.specs.Steps.Readers.{AreReadAt}
+use Rattle.viz_scratch.specs.Steps.Table.{Table, fault_of, value_of, entry_at, value_at, first_of, first_fault, faulted, told, HasInputs, IsTable, always, is_read, IsReleased, AreSoundIn}
+use Rattle.viz_scratch.specs.Steps.Readers.{AreReadAt, AreBefore, AreBehind}
 
 -- an item of a list with one more is one of the list, or the one more
 pub last_or : {A : Type 0} (xs : List A) (y : A) (j : ℕ) (x : A) → slice_get (xs ++ y ∷ []) j ≡ Some x → (slice_get xs j ≡ Some x) ⊎ ((j ≡ length xs) × (x ≡ y))
@@ -80,7 +80,7 @@ module _ {X : Type 0} (rule : NodeRule X) (net : Network) (order : List NodeId) 
   gathered (Some id ∷ inputs) (None ∷ places) f h = absurd f
   gathered (Some id ∷ inputs) (Some p ∷ places) f h =
       subst (AreGiven rule (port (cone_of net id.0) (grow (cone_of net) inputs))) (sym (told_fed table p places h.0.0 h.0.1))
-          (one_fed (cone_of net id.0) inputs h.0.0 (told table places) (given p id h.0.0 h.0.1 f.1) (gathered inputs places f.2 h.1))
+      (one_fed (cone_of net id.0) inputs h.0.0 (told table places) (given p id h.0.0 h.0.1 f.1) (gathered inputs places f.2 h.1))
 
 -- the node of a step
 pub step_node : (steps : List Step) (j : ℕ) (s : Step) → slice_get steps j ≡ Some s → slice_get (nodes_of steps) j ≡ Some s.node
@@ -108,7 +108,7 @@ module _ {X : Type 0} (rule : NodeRule X) (P : X → Type 0) (needs : ℕ → �
       let fed = subst (λ (v : Node). AreFed (nodes_of steps) k v.inputs s.inputs) same step.fed in
       let cone = step.cone ∙ ap (λ (v : Node). Some (v, grow (cone_of net) v.inputs)) same in
       subst (λ c. IsGiven rule c value) (sym cone)
-          (told table s.inputs, gathered rule net (nodes_of steps) k table t.given n.inputs s.inputs fed has, made)
+      (told table s.inputs, gathered rule net (nodes_of steps) k table t.given n.inputs s.inputs fed has, made)
 
   -- one step more that is evaluated
   pub more_table : (k : ℕ) (table : Table X) → IsTable rule P needs net steps k table → (s : Step) → slice_get steps k ≡ Some s → HasInputs table s.inputs
@@ -117,14 +117,14 @@ module _ {X : Type 0} (rule : NodeRule X) (P : X → Type 0) (needs : ℕ → �
   more_table k table t s at has n found value made sound = record {
     count = length-append table (Some value ∷ []) ∙ ap (λ q. q + 1) t.count;
     given = λ j id v here there. elim (last_or table (Some value) j (Some v) here) [
-      inl old ↦ t.given j id v old there |
-      inr e ↦ (let node : s.node ≡ id = (let f : Some s.node ≡ Some id = sym (step_node steps k s at) ∙ sym (ap (slice_get (nodes_of steps)) (e.0 ∙ t.count)) ∙ there in cc) in
+      | inl old ↦ t.given j id v old there
+      | inr e ↦ (let node : s.node ≡ id = (let f : Some s.node ≡ Some id = sym (step_node steps k s at) ∙ sym (ap (slice_get (nodes_of steps)) (e.0 ∙ t.count)) ∙ there in cc) in
           let one : value ≡ v = (let f : Some (Some value) ≡ Some (Some v) = ap Some (sym e.1) in cc) in
           subst (λ (i : NodeId). IsGiven rule (cone_of net i.0) v) node (subst (IsGiven rule (cone_of net s.node.0)) one (given_step k table t s at has n found value made)))
     ];
     sound = λ j x here. elim (last_or table (Some value) j (Some (Ok x)) here) [
-      inl old ↦ t.sound j x old |
-      inr e ↦ (let one : value ≡ Ok x = (let f : Some (Some value) ≡ Some (Some (Ok x)) = ap Some (sym e.1) in cc) in sound x one)
+      | inl old ↦ t.sound j x old
+      | inr e ↦ (let one : value ≡ Ok x = (let f : Some (Some value) ≡ Some (Some (Ok x)) = ap Some (sym e.1) in cc) in sound x one)
     ];
     kept = λ j l need. by j l need (nat_eq j k) refl;
   }
@@ -229,3 +229,58 @@ released_one {X} last k p table within here = record {
 pub lent_there : {A : Type 0} (o : Option (Bor A)) (x : A) → option_copied o ≡ Some x → IsSome o
 lent_there None x h = let bad : ⊥ = cc in absurd bad
 lent_there (Some b) x h = refl
+
+-- an entry that is there
+entry_there : {X : Type 0} (table : Table X) (p : ℕ) (v : Result X Fault) → entry_at table p ≡ Some v → slice_get table p ≡ Some (Some v)
+entry_there [] p v e = let bad : ⊥ = cc in absurd bad
+entry_there (x ∷ table) zero v e = ap Some e
+entry_there (x ∷ table) (suc p) v e = entry_there table p v e
+
+-- what feeds a port is sound
+pub sound_at : {X : Type 0} (P : X → Type 0) (table : Table X) (place : Option ℕ) → AreSoundIn P table → IfSome (value_at table place) P
+sound_at P table None h = tt
+sound_at {X} P table (Some p) h = by (entry_at table p) refl
+  where
+    by : (o : Option (Result X Fault)) → entry_at table p ≡ o → IfSome (value_of o) P
+    by None e = tt
+    by (Some (Err f)) e = tt
+    by (Some (Ok x)) e = h p x (entry_there table p (Ok x) e)
+
+-- a value that is sound
+pub sound_value : {X : Type 0} (P : X → Type 0) (value : Result X Fault) → IfOk value P → (x : X) → value ≡ Ok x → P x
+sound_value P (Ok y) h x e = let same : y ≡ x = cc in subst P same h
+sound_value P (Err f) h x e = let bad : ⊥ = cc in absurd bad
+
+-- each step stands behind what feeds it
+fed_before : (order : List NodeId) (k : ℕ) (inputs : List (Option NodeId)) (places : List (Option ℕ)) → AreFed order k inputs places → AreBefore k places
+fed_before order k [] [] f = tt
+fed_before order k [] (p ∷ places) f = absurd f
+fed_before order k (None ∷ inputs) [] f = absurd f
+fed_before order k (Some id ∷ inputs) [] f = absurd f
+fed_before order k (None ∷ inputs) (None ∷ places) f = fed_before order k inputs places f
+fed_before order k (None ∷ inputs) (Some p ∷ places) f = absurd f
+fed_before order k (Some id ∷ inputs) (None ∷ places) f = absurd f
+fed_before order k (Some id ∷ inputs) (Some p ∷ places) f = (f.0, fed_before order k inputs places f.2)
+
+pub behind_of : (net : Network) (steps : List Step) → AreSteps net steps → AreBehind steps
+behind_of net steps all k s at = let step = all.each k s at in fed_before (nodes_of steps) k step.node.inputs s.inputs step.fed
+
+-- a step that is there has a place below their number
+pub place_within : (steps : List Step) (p : ℕ) (id : NodeId) → slice_get (nodes_of steps) p ≡ Some id → p < length steps
+place_within [] p id at = let bad : ⊥ = cc in absurd bad
+place_within (s ∷ steps) zero id at = omega arith
+place_within (s ∷ steps) (suc p) id at = let l = place_within steps p id at in omega (arith, l)
+
+-- an entry that is lent
+pub lent_at : {A : Type 0} (xs : List A) (p : ℕ) (o : Option (Bor A)) (x : Bor A) → option_copied o ≡ slice_get xs p → o ≡ Some x → slice_get xs p ≡ Some x.now
+lent_at xs p o x e is = sym e ∙ ap option_copied is
+
+-- what holds of a value that was made, by what held of it
+pub if_ok_more : {A E : Type 0} {P Q : A → Type 0} (r : Result A E) → ((x : A) → P x → Q x) → IfOk r P → IfOk r Q
+if_ok_more (Ok x) f h = f x h
+if_ok_more (Err e) f h = tt
+
+-- a value of a table is sound
+pub sound_of_value : {X : Type 0} (P : X → Type 0) (table : Table X) (p : ℕ) (value : Result X Fault) → AreSoundIn P table → slice_get table p ≡ Some (Some value) → IfOk value P
+sound_of_value P table p (Ok x) h at = h p x at
+sound_of_value P table p (Err f) h at = tt

@@ -1,3 +1,4 @@
+pub mod Laws
 pub mod Written
 pub mod Scratch
 pub mod Data

@@ -1,17 +1,72 @@
 //! Evaluation from scratch.
 
-ghost use Rattle.std.specs.Prelude.{IsSome, IfOk};
+ghost use Rattle.std.specs.Prelude.{◌≡◌, IfOk, IsSome, Some, slice_get};
 ghost use Rattle.viz_legacy_read.specs.Reading.{IsSound};
+ghost use Rattle.viz_network.specs.Cone.{cone_of};
 ghost use Rattle.viz_network.specs.Network.{node_of};
+ghost use Rattle.viz_network.specs.Step.{AreSteps, nodes_of};
+ghost use Rattle.viz_scratch.specs.Data.{DataRule};
+ghost use Rattle.viz_scratch.specs.Fold.{IsGiven};
+ghost use Rattle.viz_scratch.specs.Information.{InformationRule};
 ghost use Rattle.viz_scratch.specs.Scratch.{IsScratch, Answers};
+ghost use Rattle.viz_scratch.specs.Steps.Made.{IsInformedAs};
 
-use crate::datasets::data_pass;
+use crate::datasets::{Held, data_pass};
 use crate::headers::information_pass;
 use crate::readers::{last_readers, place_of};
-use std::alloc::Global;
+use std::alloc::{AllocError, Global};
 use viz_base::{NodeId, Shared};
 use viz_dataset::Dataset;
-use viz_network::{Net, Stop};
+use viz_network::{Fault, Net, Step, Stop};
+
+// The first information fault at or above a node, whose step stands at this place.
+fn information_fault(
+    alloc: Global,
+    net: &Net,
+    steps: &[Step],
+    sink: usize,
+    node: NodeId,
+) -> Result<Option<Fault>, AllocError>
+    requires steps { AreSteps net.now steps.now }
+    requires at { slice_get (nodes_of steps.now) sink ≡ Some node }
+    ensures { IfOk result (IsInformedAs (IsGiven InformationRule (cone_of net.now node.0))) }
+{
+    let known = information_pass(alloc, net, steps)?;
+    match known.get(sink) {
+        Some(Some(Err(fault))) => Ok(Some(*fault)),
+        Some(Some(Ok(_))) => Ok(None),
+        _ => Err(AllocError),
+    }
+}
+
+// What a step gives.
+fn taken(table: &[Held], sink: usize) -> Result<Result<Shared<Dataset>, Fault>, AllocError>
+    ensures { IfOk result (λ value. slice_get table.now sink ≡ Some (Some value)) }
+{
+    match table.get(sink) {
+        Some(Some(Ok(dataset))) => Ok(Ok(dataset.copy()?)),
+        Some(Some(Err(fault))) => Ok(Err(*fault)),
+        _ => Err(AllocError),
+    }
+}
+
+// The dataset of a node, whose step stands at this place, or the first data fault.
+fn node_dataset(
+    alloc: Global,
+    net: &Net,
+    steps: &[Step],
+    sink: usize,
+    node: NodeId,
+) -> Result<Result<Shared<Dataset>, Fault>, AllocError>
+    requires steps { AreSteps net.now steps.now }
+    requires at { slice_get (nodes_of steps.now) sink ≡ Some node }
+    ensures value { IfOk result (IsGiven DataRule (cone_of net.now node.0)) }
+    ensures sound { IfOk result (λ value. IfOk value IsSound) }
+{
+    let last = last_readers(alloc, steps, sink)?;
+    let table = data_pass(alloc, net, steps, &last)?;
+    taken(&table, sink)
+}
 
 /// What a node of the network gives, evaluated from scratch: a dataset, which isn't copied on its
 /// way through a writer. Each dataset is given up behind the last node that reads it.
@@ -27,17 +82,14 @@ pub fn scratch(alloc: Global, net: &Net, node: NodeId) -> Result<Shared<Dataset>
     ensures sound { IfOk result IsSound }
 {
     let steps = net.steps(alloc)?;
-    let sink = place_of(&steps, node).unwrap();
-    let known = information_pass(alloc, net, &steps)?;
-    if let Some(Err(fault)) = &known[sink] {
-        return Err(Stop::Fault(*fault));
+    let Some(sink) = place_of(&steps, node) else {
+        return Err(Stop::Memory);
+    };
+    if let Some(fault) = information_fault(alloc, net, &steps, sink, node)? {
+        return Err(Stop::Fault(fault));
     }
-    drop(known);
-    let last = last_readers(alloc, &steps, sink)?;
-    let table = data_pass(alloc, net, &steps, &last)?;
-    match &table[sink] {
-        Some(Ok(dataset)) => Ok(dataset.copy()?),
-        Some(Err(fault)) => Err(Stop::Fault(*fault)),
-        None => Err(Stop::Memory),
+    match node_dataset(alloc, net, &steps, sink, node)? {
+        Ok(dataset) => Ok(dataset),
+        Err(fault) => Err(Stop::Fault(fault)),
     }
 }

@@ -58,10 +58,7 @@ fn of_file(node: &Node) -> Result<Information, Cause>
     }
 }
 
-fn own_information(
-    node: &Node,
-    inputs: &[Option<Information>; 8],
-) -> Result<Information, OwnStop>
+fn own_information(node: &Node, inputs: &[Option<Information>; 8]) -> Result<Information, OwnStop>
     ensures { Makes (InformationRule node.now inputs.now) result }
 {
     match &node.settings {

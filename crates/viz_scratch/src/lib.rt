@@ -13,10 +13,15 @@ mod filters;
 mod gathered;
 mod headers;
 mod information;
+mod laws;
 mod readers;
 mod section;
 mod stop;
 mod written;
 
 pub use evaluation::scratch;
+pub use laws::{equal_stamps_give_one, scratch_is_one};
 pub use written::{file_text, style_with, text_with};
+
+#[cfg(test)]
+mod tests;

@@ -45,11 +45,7 @@ fn raise(last: &mut Vec<usize>, places: &[Option<usize>], k: usize)
 
 /// Where each step is read last, and 0 where it isn't asked for; the step at `sink` is read behind
 /// all steps.
-pub fn last_readers(
-    alloc: Global,
-    steps: &[Step],
-    sink: usize,
-) -> Result<Vec<usize>, AllocError>
+pub fn last_readers(alloc: Global, steps: &[Step], sink: usize) -> Result<Vec<usize>, AllocError>
     requires within { sink < length steps.now }
     requires behind { AreBehind steps.now }
     ensures count { IfOk result (λ last. length last.items ≡ length steps.now) }

@@ -2,13 +2,10 @@
 
 ghost use Rattle.std.specs.Prelude.{◌≡◌};
 ghost use Rattle.viz_scratch.specs.declared.stop.OwnStop.TheVariants.{Cause as Caused, Memory};
-ghost use Rattle.viz_scratch.specs.Steps.Made.{of_read, of_work};
 
 use std::alloc::AllocError;
 use thiserror::Error;
-use viz_legacy_read::ReadStop;
 use viz_network::Cause;
-use viz_piece::WorkStop;
 
 /// Why one node makes nothing.
 #[derive(Debug, Drop, Error)]
@@ -34,27 +31,5 @@ impl From<AllocError> for OwnStop {
 
     fn from(_error: AllocError) -> OwnStop {
         OwnStop::Memory
-    }
-}
-
-impl From<ReadStop> for OwnStop {
-    ghost from_gives = { λ stop made. made ≡ of_read stop };
-
-    fn from(stop: ReadStop) -> OwnStop {
-        match stop {
-            ReadStop::File(fault) => OwnStop::Cause(Cause::BadFile(fault)),
-            ReadStop::Memory => OwnStop::Memory,
-        }
-    }
-}
-
-impl From<WorkStop> for OwnStop {
-    ghost from_gives = { λ stop made. made ≡ of_work stop };
-
-    fn from(stop: WorkStop) -> OwnStop {
-        match stop {
-            WorkStop::TooWide => OwnStop::Cause(Cause::TooWide),
-            WorkStop::Memory => OwnStop::Memory,
-        }
     }
 }

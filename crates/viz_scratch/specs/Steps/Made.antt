@@ -10,8 +10,10 @@ use Rattle.viz_sheet.specs.Sheet.{SheetData, IsFit}
 use Rattle.viz_meaning.specs.Section.{section_of}
 use Rattle.viz_meaning.specs.WholeImages.{WholeImage, whole_of}
 use Rattle.viz_network.specs.declared.fault.Cause.{Cause}
+use Rattle.viz_network.specs.declared.fault.Fault.{Fault}
 use Rattle.viz_network.specs.declared.fault.Cause.TheVariants.{Unconnected, WrongInput, BadFile, TooWide}
 use Rattle.viz_scratch.specs.declared.information.Grid.{Grid}
+use Rattle.viz_scratch.specs.declared.information.Information.{Information}
 use Rattle.viz_scratch.specs.declared.stop.OwnStop.{OwnStop}
 use Rattle.viz_scratch.specs.declared.stop.OwnStop.TheVariants.{Cause as Caused, Memory}
 use Rattle.viz_scratch.specs.Information.{grid_of, shared_grid}
@@ -24,10 +26,17 @@ abbrev pub of_read : ReadStop → OwnStop
 of_read (read.File fault) = Caused (BadFile fault)
 of_read read.Memory = Memory
 
--- a stop of a filter's work
-abbrev pub of_work : WorkStop → OwnStop
-of_work work.TooWide = Caused TooWide
-of_work work.Memory = Memory
+-- the mesh of a section as a dataset, or why there is none
+abbrev pub sectioned_of : Result (List SheetData) WorkStop → Result Dataset OwnStop
+sectioned_of (Ok sheets) = Ok (Mesh sheets)
+sectioned_of (Err work.TooWide) = Err (Caused TooWide)
+sectioned_of (Err work.Memory) = Err Memory
+
+-- the same dataset, unless memory ran out
+abbrev pub IsShared : Result Dataset OwnStop → Result Dataset OwnStop → Type 0
+IsShared made (Ok d) = made ≡ Ok d
+IsShared made (Err (Caused cause)) = made ≡ Err (Caused cause)
+IsShared made (Err Memory) = Unit {0}
 
 -- the rule has this result, unless memory ran out
 abbrev pub Makes : {X : Type 0} → (Result X Cause → Type 0) → Result X OwnStop → Type 0
@@ -78,3 +87,8 @@ IsPassed (Some d) r = r ≡ Ok d
 -- each section of the sheet fits
 abbrev pub HasFitSections : SheetData → Type 0
 HasFitSections s = (f : Form) → IsFit (section_of f s)
+
+-- the first information fault, or that there is none
+abbrev pub IsInformedAs : (Result Information Fault → Type 0) → Option Fault → Type 0
+IsInformedAs given (Some fault) = given (Err fault)
+IsInformedAs given None = (i : Information) × given (Ok i)

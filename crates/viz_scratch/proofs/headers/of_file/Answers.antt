@@ -10,7 +10,7 @@ returns-in-Ok c =
     let bytes = c.list.ensures ∙ c.get.ensures in
     let found = subst (λ b. IsInfo b c.in-Ok.info) bytes c.in-Ok.ensures.found in
     subst (IsHeaderOf c.args.node.now.file) (sym (ap (λ i. Ok i) c.of_header.ensures))
-        (subst (λ f. IsHeaderOf f (Ok (information_in c.in-Ok.info))) (sym c.in-Some.is) (header_given c.in-Some.file c.in-Ok.info found))
+    (subst (λ f. IsHeaderOf f (Ok (information_in c.in-Ok.info))) (sym c.in-Some.is) (header_given c.in-Some.file c.in-Ok.info found))
 
 pub returns-in-Err : goal.returns-in-Err
 returns-in-Err c =

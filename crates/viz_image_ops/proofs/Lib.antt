@@ -1,0 +1,9 @@
+pub mod JoinedLemmas
+pub mod PartLemmas
+pub mod RangeLemmas
+pub mod KeptLemmas
+pub mod SampleLemmas
+pub mod ArithLemmas
+pub mod SumLemmas
+pub mod MeanLemmas
+pub mod SmoothLemmas

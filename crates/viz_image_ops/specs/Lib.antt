@@ -1,0 +1,4 @@
+pub mod Determined
+pub mod Joined
+pub mod Steps
+pub mod Sums

@@ -1,0 +1,32 @@
+//! Filters of images, each on any part of its output.
+//!
+//! Contract: a call gives the part `out` of what its filter makes of the whole image, from inputs
+//! that contain what `out` asks for, and refuses nothing but for want of memory.
+//! Definitions: `viz_meaning`'s `specs/ImageFilters.antt` and `specs/WholeImages.antt`; the rules are
+//! those of docs/FORMATS.md, "Filters".
+#![tactic(auto)]
+
+mod arithmetic;
+mod cropping;
+mod lane;
+mod laws;
+mod means;
+mod sampling;
+mod smoothing;
+mod sums;
+mod thresholding;
+mod window;
+
+pub use arithmetic::arith;
+pub use cropping::crop;
+pub use laws::{parts_are_determined, samples_ask_within_the_whole, whole_thresholds_keep_each};
+pub use sampling::sample;
+pub use smoothing::smooth;
+pub use thresholding::threshold;
+
+#[cfg(test)]
+mod smooth_tests;
+#[cfg(test)]
+mod test_images;
+#[cfg(test)]
+mod tests;

@@ -1,0 +1,87 @@
+-- What a line of a journal says, however it is spelled, with its refusals (docs/FORMATS.md, "Journals").
+use Rattle.std.specs.Prelude.{ℕ, ℤ, pos, negsuc, List, [], ◌∷◌, codes, ok_or, Result, Ok, Err, if◌then◌else◌}
+use Rattle.viz_kinds.specs.Values.{is_text}
+use Rattle.viz_words.specs.declared.refusal.ScriptRefusal.{ScriptRefusal}
+use Rattle.viz_words.specs.declared.refusal.ScriptRefusal.TheVariants as refusal
+use Rattle.viz_words.specs.declared.command.Verb.{Verb}
+use Rattle.viz_words.specs.declared.command.Verb.TheVariants as verb
+use Rattle.viz_words.specs.Gives.{◌>>=◌, guard}
+use Rattle.viz_words.specs.Lines.{is_plain}
+use Rattle.viz_words.specs.Words.{words_of}
+use Rattle.viz_words.specs.Numbers.{number_of, number_in, natural_in}
+use Rattle.viz_words.specs.Names.{is_node_name, named_in}
+use Rattle.viz_words.specs.Commands.{verb_of, due, one, two}
+use Rattle.viz_words.specs.Edits.{edit_in}
+use Rattle.viz_journal.specs.declared.draft.Draft.{Draft}
+use Rattle.viz_journal.specs.declared.draft.Draft.TheVariants as draft
+use Rattle.viz_journal.specs.declared.draft.Told.{Told}
+use Rattle.viz_journal.specs.declared.draft.Line.{Line}
+use Rattle.viz_journal.specs.declared.draft.Line.TheVariants as line
+
+-- the greatest number of 32 bits
+abbrev pub greatest : ℕ
+greatest = 4294967295
+
+-- a command that may stand in a journal
+abbrev pub journal_verb : Verb → Result Verb ScriptRefusal
+journal_verb verb.Update = Err refusal.Word
+journal_verb verb.Audit = Err refusal.Word
+journal_verb v = Ok v
+
+-- the command behind the first word
+abbrev pub behind_verb : List (List ℕ) → Result Verb ScriptRefusal
+behind_verb [] = Ok verb.Missing
+behind_verb (word ∷ words) = verb_of words
+
+-- NODE LENGTH
+unfoldable pub load_draft : List (List ℕ) → Result Draft ScriptRefusal
+load_draft words = do
+  w ← two words
+  node ← named_in is_node_name w.0
+  len ← number_in w.1
+  Ok (draft.Load node len)
+
+abbrev pub edit_draft : Verb → List (List ℕ) → Result Draft ScriptRefusal
+edit_draft v words = edit_in v words >>= λ e. Ok (draft.Edit e)
+
+-- the edit of a command, or its load without the bytes
+abbrev pub draft_in : Verb → List (List ℕ) → Result Draft ScriptRefusal
+draft_in verb.Load words = load_draft words
+draft_in v words = edit_draft v words
+
+-- ACTOR COUNT and an edit
+unfoldable pub told_in : List ℕ → List (List ℕ) → Result Told ScriptRefusal
+told_in word words = do
+  number ← ok_or (number_of word) refusal.Word
+  any ← behind_verb words
+  known ← journal_verb any
+  counted ← due words
+  command ← due counted.1
+  drafted ← draft_in known command.1
+  count ← natural_in 0 greatest counted.0
+  actor ← natural_in 0 greatest word
+  Ok (record { actor = actor; count = count; draft = drafted })
+
+-- COUNT behind the word end
+unfoldable pub last_in : List (List ℕ) → Result Line ScriptRefusal
+last_in words = do
+  word ← one words
+  count ← natural_in 0 greatest word
+  Ok (line.Last count)
+
+abbrev pub entry_in : List ℕ → List (List ℕ) → Result Line ScriptRefusal
+entry_in word words = told_in word words >>= λ told. Ok (line.Entry told)
+
+-- what the words of a line say
+abbrev pub words_in : List (List ℕ) → Result Line ScriptRefusal
+words_in [] = Err refusal.Word
+words_in (word ∷ words) = if is_text word (codes "end") then last_in words else entry_in word words
+
+-- what a line says
+abbrev pub line_in : List ℕ → Result Line ScriptRefusal
+line_in text = guard (is_plain text) refusal.Word >>= λ plain. words_in (words_of text)
+
+-- the number of bytes that a load tells; none below zero
+abbrev pub size : ℤ → ℕ
+size (pos n) = n
+size (negsuc n) = 0

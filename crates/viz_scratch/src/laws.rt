@@ -1,0 +1,25 @@
+//! What evaluation from scratch keeps. A law is a function that does nothing: its contract holds of
+//! the definitions alone.
+
+ghost use Rattle.viz_scratch.specs.Laws.{ConesGiveOne, EqualStampsGiveOne, FilesAreOne};
+
+use viz_image_ops::parts_are_determined;
+use viz_legacy_read::files_are_definite;
+use viz_network::equal_stamps_are_equal_cones;
+
+/// What a node gives is one dataset or one fault, and depends on its cone alone; so is its file.
+pub fn scratch_is_one()
+    ensures cones { ConesGiveOne }
+    ensures files { FilesAreOne }
+{
+    files_are_definite();
+    parts_are_determined();
+}
+
+/// Where a node has equal stamps in the networks of a history and of a longer one, it gives the same
+/// in both.
+pub fn equal_stamps_give_one()
+    ensures { EqualStampsGiveOne }
+{
+    equal_stamps_are_equal_cones();
+}

@@ -1,0 +1,9 @@
+pub mod Lines
+pub mod Words
+pub mod Numbers
+pub mod Names
+pub mod Tables
+pub mod Gives
+pub mod Commands
+pub mod Edits
+pub mod Steps
