@@ -296,17 +296,6 @@ fn written<R: Threads + Wait + Sync + Abort>(
     Some(close(rt, hub, root))
 }
 
-fn may_go<T: Send>() {}
-
-fn may_be_shared<T: Sync>() {}
-
-#[test]
-fn passes_and_pins_go_to_other_threads_and_a_hub_is_shared() {
-    may_go::<Pass>();
-    may_go::<Pin>();
-    may_be_shared::<Hub>();
-}
-
 #[test]
 fn two_passes_make_a_thousand_edits_each(rt: HostRuntime) -> Result<(), Fail> {
     let mut writers = two_writers(rt.alloc(), 1000)?;
