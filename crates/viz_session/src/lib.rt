@@ -1,32 +1,15 @@
 //! The commands of the program, from their words to the status.
 //!
-//! Contract: a run has one outcome of its words, and is accounted for by it: what was called and
-//! written, the one line put, and the status. Definitions: `specs/Account.antt` and the files that it
-//! names; the rules are those of docs/FORMATS.md, "Report".
+//! Contract: what a run did, put and answered is what its command says: `specs/Runs.antt`, by the
+//! accounts of the three kinds of command. The rules are those of docs/FORMATS.md, "Words of a
+//! command" and "Report".
 #![tactic(auto)]
 
 mod command;
-mod contour;
-mod made;
-mod once;
-mod outcome;
-mod report;
 mod session;
-mod stop;
-mod threshold;
 
-pub use outcome::Status;
 pub use session::run;
+pub use viz_once::Status;
 
-#[cfg(test)]
-mod contour_tests;
-#[cfg(test)]
-mod contour_texts;
-#[cfg(test)]
-mod image_files;
-#[cfg(test)]
-mod mesh_files;
-#[cfg(test)]
-mod runs;
 #[cfg(test)]
 mod tests;

@@ -1,45 +1,26 @@
 //! The top call: one run of the program.
 
-ghost use Rattle.std.specs.Prelude.{◌≡◌, ◌⊎◌, ◌↔◌, None};
+ghost use Rattle.std.specs.Prelude.{◌≡◌, ◌⊎◌, ◌↔◌};
 ghost use Rattle.viz_base.specs.Faults.{Rose, one_more};
-ghost use Rattle.viz_session.specs.Account.{Serves, IsRun};
-ghost use Rattle.viz_session.specs.Command.{command_of};
-ghost use Rattle.viz_session.specs.Promises.{PutsLine, OthersStay, IsScript, IsDone, IsRefused, TellsCauses, IsFault, FirstRose};
-ghost use Rattle.viz_session.specs.Report.{usage_line};
+ghost use Rattle.viz_once.specs.Promises.{PutsLine};
+ghost use Rattle.viz_once.specs.Report.{usage_line};
+ghost use Rattle.viz_script_run.specs.Promises.{SomeRose};
+ghost use Rattle.viz_session.specs.Command.{command_of, AreNone};
+ghost use Rattle.viz_session.specs.Runs.{IsRun, IsDone, IsRefused, IsScript, IsFault, IsCutOff, OthersStay};
 
-use crate::command::command;
-use crate::once::serve;
-use crate::outcome::{Outcome, Status};
-use crate::report::report;
+use crate::command::{Command, command};
 use std::alloc::Global;
 use std::sync::Wait;
 use std::thread::Threads;
 use viz_base::{Bytes, Gate, Out, Port};
+use viz_once::{Status, run_once};
+use viz_replay::run_scratch;
+use viz_script_run::run_script;
 
-/// Serves the command by the first port, and calls no other.
-fn serve_first<P: Port>(alloc: Global, words: &[Bytes], ports: &mut [P]) -> Outcome
-    ensures { Serves P.Port (command_of words.now) result ports.old ports.new }
-{
-    let Some(once) = command(words) else {
-        return Outcome::Usage;
-    };
-    match ports {
-        [] => Outcome::NoPort,
-        [port, ..] => serve(alloc, &once, port),
-    }
-}
-
-/// The same over the list of ports.
-fn serve_words<P: Port>(alloc: Global, words: &[Bytes], ports: &mut Vec<P>) -> Outcome
-    ensures { Serves P.Port (command_of words.now) result ports.old.items ports.new.items }
-{
-    serve_first(alloc, words, ports.as_mut_slice())
-}
-
-/// Runs the command of the words, and puts one line.
+/// Runs the command of the words, and puts one text.
 ///
 /// `ports` are the actors' ports, the first one's first, `desk` the port of scripts and journals,
-/// and `gate` is what tasks pass. The statuses and lines are those of docs/FORMATS.md, "Report".
+/// and `gate` is what tasks pass. The statuses and texts are those of docs/FORMATS.md, "Report".
 pub fn run<R: Threads + Wait + Sync, P: Port + Send + Drop, O: Out, G: Gate + Sync>(
     _rt: &R,
     alloc: Global,
@@ -49,30 +30,37 @@ pub fn run<R: Threads + Wait + Sync, P: Port + Send + Drop, O: Out, G: Gate + Sy
     out: &mut O,
     _gate: &G,
 ) -> Status
-    // What the run was: one outcome of the words, what that did, and the line put of it.
-    ensures account { IsRun P.Port O.Out words.now desk.old desk.new
-        ports.old.items ports.new.items out.old out.new result }
+    // What the run was: the account of its command, and the text put of it.
+    ensures account { IsRun P.Port O.Out words.now desk.old desk.new ports.old.items ports.new.items
+        out.old out.new (command_of words.now) result }
 
     // What follows of it for each status.
-    ensures usage { (result ≡ Status.Usage) ↔ (command_of words.now ≡ None) }
-    ensures usage_line { command_of words.now ≡ None → PutsLine O.Out usage_line out.old out.new }
-    ensures script { IsScript (command_of words.now) ports.old.items result }
-    ensures done { result ≡ Status.Done → IsDone P.Port O.Out (command_of words.now)
-        ports.old.items ports.new.items out.old out.new }
-    ensures refused { result ≡ Status.Refused → IsRefused P.Port O.Out (command_of words.now)
-        ports.old.items ports.new.items out.old out.new }
-    ensures refuses { TellsCauses P.Port O.Out (command_of words.now)
-        ports.old.items ports.new.items out.old out.new result }
-    ensures fault { result ≡ Status.Fault → IsFault P.Port O.Out (command_of words.now)
-        ports.old.items ports.new.items out.old out.new }
-    ensures cause { result ≡ Status.Fault → FirstRose P.Port ports.old.items ports.new.items
-        ⊎ Rose (O.faults out.old) (O.faults out.new) }
+    ensures usage { (result ≡ Status.Usage) ↔ AreNone words.now }
+    ensures usage_line { AreNone words.now → PutsLine O.Out usage_line out.old out.new }
+    ensures script { result ≡ Status.Script → IsScript P.Port O.Out words.now desk.old desk.new
+        ports.old.items ports.new.items out.old out.new (command_of words.now) }
+    ensures done { result ≡ Status.Done → IsDone P.Port O.Out words.now desk.old desk.new
+        ports.old.items ports.new.items out.old out.new (command_of words.now) }
+    ensures refused { result ≡ Status.Refused → IsRefused P.Port O.Out words.now desk.old desk.new
+        ports.old.items ports.new.items out.old out.new (command_of words.now) }
+    ensures fault { result ≡ Status.Fault → IsFault P.Port O.Out words.now desk.old desk.new
+        ports.old.items ports.new.items out.old out.new (command_of words.now) }
+    ensures memory { result ≡ Status.Memory → IsCutOff P.Port O.Out words.now desk.old desk.new
+        ports.old.items ports.new.items out.old out.new (command_of words.now) }
+    ensures cause { result ≡ Status.Fault → Rose (P.faults desk.old) (P.faults desk.new)
+        ⊎ (SomeRose P.Port ports.old.items ports.new.items
+        ⊎ Rose (O.faults out.old) (O.faults out.new)) }
 
     // What is called and changed, whatever the status.
-    ensures desk { desk.new ≡ desk.old }
-    ensures others { OthersStay ports.old.items ports.new.items }
+    ensures others { OthersStay P.Port O.Out words.now desk.old desk.new ports.old.items
+        ports.new.items out.old out.new (command_of words.now) }
     ensures one_put { O.puts out.new ≡ one_more (O.puts out.old) }
 {
-    let outcome = serve_words(alloc, words, ports);
-    report(alloc, out, &outcome)
+    match command(words) {
+        Some(Command::Script { script, journal }) => {
+            run_script(alloc, script, journal, desk, ports, out)
+        }
+        Some(Command::Scratch(replay)) => run_scratch(alloc, &replay, desk, ports, out),
+        None => run_once(alloc, words, ports, out),
+    }
 }

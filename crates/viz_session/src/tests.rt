@@ -1,286 +1,228 @@
-//! Worked values, counted by hand: thresholds, refusals and faults over files in memory.
+//! Worked rows: scripts, their reports and journals, and prefixes of journals, over files in memory.
 
-use crate::contour_texts::FIRST_SURFACE;
-use crate::image_files::{
-    CORNER, CORNER_BINARY, CORNER_END, LARGE, LARGE_WRITTEN, PAST_TYPE, SQUARE, SQUARE_WRITTEN,
-};
-use crate::mesh_files::{CUT, FAR_LINE, FLOAT_POINTS, GRID, NO_CELLS, STRIP};
-use crate::runs::{desk, files, joined, output_of, port, ran, ran_on, replaced, words};
 use crate::{Status, run};
+use std::alloc::Global;
 use std::process::Abort;
 use std::sync::Wait;
 use std::test::Fail;
 use std::thread::Threads;
-use viz_base::{FILE_LIMIT, FailAt, MemoryOut, MemoryPort, NeverFails, OpenGate};
+use viz_base::{
+    Bytes, FILE_LIMIT, FailAt, FileEntry, MemoryOut, MemoryPort, OpenGate, Word,
+};
 
-const ONCE: &str = "once a.vtk o.vtk threshold 2 3";
+/// An image of 2 x 2 x 2 points, all 0 but the last, which is 9.
+const CORNER: &str = "# vtk DataFile Version 5.1
+vtk output
+ASCII
+DATASET STRUCTURED_POINTS
+DIMENSIONS 2 2 2
+SPACING 1 1 1
+ORIGIN 0 0 0
+POINT_DATA 8
+SCALARS ImageScalars int
+LOOKUP_TABLE default
+0 0 0 0 0 0 0 9 
+METADATA
+INFORMATION 0
 
-// The line over these bytes is Done, with this report, and writes this text.
-fn writes<R: Threads + Wait + Sync + AllocGlobal + Abort>(
-    rt: &R,
-    line: &str,
-    bytes: &[u8],
-    report: &str,
-    want: &[u8],
-) -> Result<(), Fail> {
-    let (status, told, ports) = ran_on(rt, rt.alloc(), line, bytes)?;
-    assert!(rt; status == Status::Done, "{line}: {told}");
-    assert_eq!(rt; told.as_str(), report, "{line}");
-    assert!(rt; output_of(&ports) == Some(want), "{line}");
-    Ok(())
+";
+
+/// A mesh without points.
+const EMPTY: &str = "# vtk DataFile Version 3.0
+vizrun fixed 10^-3
+ASCII
+DATASET POLYDATA
+POINTS 0 long
+POLYGONS 0 0
+";
+
+const LEVELS: &str = "1 add file src
+1 load src a.vtk
+1 add contour iso
+1 connect src iso 1
+1 set iso levels 5
+1 update iso one.vtk 1 1
+1 set iso levels 10
+1 update iso two.vtk 1 1
+";
+
+const LEVELS_REPORT: &str = "edit 1 1 at 1
+edit 1 2 at 2
+edit 1 3 at 3
+edit 1 4 at 4
+edit 1 5 at 5
+file 1 6 at 5 cells 6 points 7 ran 2
+edit 1 7 at 6
+";
+
+/// What a run left.
+struct Left {
+    status: Status,
+    text: String,
+    desk: MemoryPort,
+    ports: Vec<MemoryPort>,
 }
 
-#[test]
-fn values_outside_the_bounds_become_0(rt: HostRuntime) -> Result<(), Fail> {
-    let alloc = rt.alloc();
-    let least = "once a.vtk o.vtk threshold -9223372036854775808 9223372036854775807";
-    for (line, values, want) in [
-        // threshold-two-by-two
-        (ONCE, "1 2\n3 4\n", "0 2\n3 0\n"),
-        // With the lower bound above, nothing is kept.
-        ("once a.vtk o.vtk threshold 3 2", "1 2 3 4", "0 0\n0 0\n"),
-        // Both ends of 32 bits, between both ends of 64 bits.
-        (
-            least,
-            "-2147483648 2147483647 +0 007 \n\n",
-            "-2147483648 2147483647\n0 7\n",
-        ),
-    ] {
-        let text = joined(alloc, &[SQUARE.as_bytes(), values.as_bytes()])?;
-        let want = joined(alloc, &[SQUARE_WRITTEN.as_bytes(), want.as_bytes()])?;
-        writes(&rt, line, &text, "file cells 0 points 4\n", &want)?;
-    }
-    Ok(())
-}
-
-#[test]
-fn every_type_and_form_is_read(rt: HostRuntime) -> Result<(), Fail> {
-    let alloc = rt.alloc();
-    let square = joined(alloc, &[SQUARE.as_bytes(), b"1 2 3 4"])?;
-    let square = String::from_utf8(square)?;
-    let want = joined(alloc, &[SQUARE_WRITTEN.as_bytes(), b"0 2\n3 0\n"])?;
-    // A part of numbers of cells in front.
-    let cells = "CELL_DATA 1\nSCALARS c int\nLOOKUP_TABLE default\n7\nPOINT_DATA 4";
-    let text = replaced(alloc, square.as_str(), "POINT_DATA 4", cells)?;
-    writes(&rt, ONCE, text.as_bytes(), "file cells 0 points 4\n", &want)?;
-    // What was written is read again, with the same bytes.
-    writes(&rt, ONCE, &want, "file cells 0 points 4\n", &want)?;
-    // Bytes, which are signed, in BINARY; the type is kept.
-    let bytes = replaced(alloc, SQUARE, "ASCII", "BINARY")?;
-    let bytes = replaced(alloc, bytes.as_str(), "s int", "s char")?;
-    let bytes = joined(alloc, &[bytes.as_bytes(), b"\xff\x02\x03\x04"])?;
-    let chars = replaced(alloc, SQUARE_WRITTEN, "int", "char")?;
-    let chars = joined(alloc, &[chars.as_bytes(), b"0 2\n3 0\n"])?;
-    writes(&rt, ONCE, &bytes, "file cells 0 points 4\n", &chars)?;
-    // A number past signed 64 bits lies above every bound.
-    let line = "once a.vtk o.vtk threshold 5 9223372036854775807";
-    let (large, want) = (LARGE.as_bytes(), LARGE_WRITTEN.as_bytes());
-    writes(&rt, line, large, "file cells 0 points 3\n", want)
-}
-
-#[test]
-fn nothing_fails_over_a_port_that_never_does(rt: HostRuntime) -> Result<(), Fail> {
-    let alloc = rt.alloc();
-    let text = joined(alloc, &[SQUARE.as_bytes(), b"1 2 3 4"])?;
-    let port = NeverFails::new(alloc, files(alloc, &text)?, FILE_LIMIT);
-    let mut desk = NeverFails::new(alloc, Vec::new(alloc), FILE_LIMIT);
-    let (status, told, ports) = ran(&rt, alloc, ONCE, &mut desk, port, Vec::new(alloc))?;
-    assert!(rt; status == Status::Done);
-    assert_eq!(rt; told.as_str(), "file cells 0 points 4\n");
-    let port = ports.first().ok_or("no port")?;
-    let file = port.file("o.vtk").ok_or("no file")?;
-    let want = joined(alloc, &[SQUARE_WRITTEN.as_bytes(), b"0 2\n3 0\n"])?;
-    assert_eq!(rt; file.list(), want.as_slice());
-    Ok(())
-}
-
-// The line over these bytes, with this limit and with this call failing, puts this line and
-// leaves the output.
-fn leaves<R: Threads + Wait + Sync + AllocGlobal + Abort>(
-    rt: &R,
+fn port(
+    alloc: Global,
+    name: &str,
     bytes: &[u8],
     limit: u64,
-    call: u64,
-    status: Status,
-    want: &str,
-) -> Result<(), Fail> {
-    let alloc = rt.alloc();
-    let failing = vec![in alloc; FailAt { call, kept: 0 }]?;
-    let port = MemoryPort::new(alloc, files(alloc, bytes)?, limit, failing);
-    let (ended, told, ports) = ran(rt, alloc, ONCE, &mut desk(alloc), port, Vec::new(alloc))?;
-    assert!(rt; ended == status, "{told}");
-    assert_eq!(rt; told.as_str(), want);
-    assert!(rt; output_of(&ports) == Some(b"old".as_slice()), "{want}");
-    Ok(())
+    failing: Vec<FailAt>,
+) -> Result<MemoryPort, Fail> {
+    let mut files = Vec::new(alloc);
+    files.push(FileEntry {
+        name: Word::new(name.as_bytes()).ok_or("no name")?,
+        bytes: Bytes::new(bytes.to_vec(alloc)?),
+    })?;
+    Ok(MemoryPort::new(alloc, files, limit, failing))
 }
 
-#[test]
-fn refusals_leave_the_output(rt: HostRuntime) -> Result<(), Fail> {
-    let short = joined(rt.alloc(), &[CORNER_BINARY.as_bytes(), &[0; 31]])?;
-    let past = PAST_TYPE.as_bytes();
-    let (refused, fault) = (Status::Refused, Status::Fault);
-    // value-past-type and block-cut-short
-    let want = "refused fault:src:BadFile(ValueRange,163)\n";
-    leaves(&rt, past, 205, 9, refused, want)?;
-    let want = "refused fault:src:BadFile(Truncated,205)\n";
-    leaves(&rt, &short, 205, 9, refused, want)?;
-    leaves(&rt, &short, 204, 9, refused, "refused TooLong\n")?;
-    leaves(&rt, &short, 205, 1, fault, "fault read\n")
+fn words(alloc: Global, line: &str) -> Result<Vec<Bytes>, Fail> {
+    let mut words = Vec::new(alloc);
+    for word in line.split_whitespace() {
+        words.push(Bytes::new(word.as_bytes().to_vec(alloc)?))?;
+    }
+    Ok(words)
 }
 
-const THRESHOLD: &str = "once a.vtk o.vtk threshold 1 2";
-
-const CONTOUR: &str = "once a.vtk o.vtk contour 0";
-
-// The filter refuses these bytes with this line, and leaves the output.
-fn refuses<R: Threads + Wait + Sync + AllocGlobal + Abort>(
+// Runs the line over a desk whose one file is `s`, and a port.
+fn left<R: Threads + Wait + Sync>(
     rt: &R,
+    alloc: Global,
     line: &str,
-    bytes: &str,
-    want: &str,
+    script: &[u8],
+    first: MemoryPort,
+) -> Result<Left, Fail> {
+    let words = words(alloc, line)?;
+    let mut desk = port(alloc, "s", script, FILE_LIMIT, Vec::new(alloc))?;
+    let mut ports = vec![in alloc; first]?;
+    let mut out = MemoryOut::new(alloc, Vec::new(alloc));
+    let status = run(rt, alloc, &words, &mut desk, &mut ports, &mut out, &OpenGate);
+    let text = String::from_utf8(out.text().to_vec(alloc)?)?;
+    Ok(Left {
+        status,
+        text,
+        desk,
+        ports,
+    })
+}
+
+fn corner(alloc: Global, failing: Vec<FailAt>) -> Result<MemoryPort, Fail> {
+    port(alloc, "a.vtk", CORNER.as_bytes(), FILE_LIMIT, failing)
+}
+
+fn file<'a>(ports: &'a [MemoryPort], name: &str) -> Option<&'a [u8]> {
+    Some(ports.first()?.file(name)?.list())
+}
+
+#[test]
+fn a_changed_level_is_contoured_again(rt: HostRuntime) -> Result<(), Fail> {
+    // level-changed, and scratch-of-journal on its journal
+    let alloc = rt.alloc();
+    let first = corner(alloc, Vec::new(alloc))?;
+    let left = left(&rt, alloc, "run s j", LEVELS.as_bytes(), first)?;
+    assert!(rt; left.status == Status::Done, "{}", left.text);
+    let want = format!(in alloc; "{LEVELS_REPORT}file 1 8 at 6 cells 0 points 0 ran 2\n")?;
+    assert_eq!(rt; left.text.as_str(), want.as_str());
+    assert!(rt; file(&left.ports, "two.vtk") == Some(EMPTY.as_bytes()));
+    let journal = left.desk.file("j").ok_or("no journal")?.list();
+    let lines = "1 3 add contour iso\n1 4 connect src iso 1\n1 5 set iso levels 5\n1 6 set iso \
+                 levels 10\nend 6\n";
+    let front = "vizrun journal 1\n1 1 add file src\n1 2 load src 214\n";
+    let want = format!(in alloc; "{front}{CORNER}\n{lines}")?;
+    assert!(rt; journal == want.as_bytes());
+    replayed(&rt, alloc, journal, file(&left.ports, "one.vtk"))
+}
+
+// The journal's first five entries give this file, and all of them the empty one.
+fn replayed<R: Threads + Wait + Sync + Abort>(
+    rt: &R,
+    alloc: Global,
+    journal: &[u8],
+    one: Option<&[u8]>,
 ) -> Result<(), Fail> {
-    let (status, told, ports) = ran_on(rt, rt.alloc(), line, bytes.as_bytes())?;
-    assert!(rt; status == Status::Refused, "{line}: {told}");
-    assert_eq!(rt; told.as_str(), want, "{line}: {bytes}");
-    assert!(rt; output_of(&ports) == Some(b"old".as_slice()), "{line}");
-    Ok(())
-}
-
-#[test]
-fn a_mesh_has_no_threshold_by_its_header_alone(rt: HostRuntime) -> Result<(), Fail> {
-    let past = replaced(rt.alloc(), GRID, "4 0 1 2 3", "4 0 1 2 4")?;
-    for bytes in [
-        // A grid, polydata without an array, a mesh without cells, and a written surface.
-        GRID,
-        STRIP,
-        NO_CELLS,
-        FIRST_SURFACE,
-        // Faults behind the header: no number of points, points of floats, an index past the points.
-        CUT,
-        FLOAT_POINTS,
-        past.as_str(),
+    for (line, want, bytes) in [
+        ("scratch s 5 iso o.vtk", "file at 5 cells 6 points 7\n", one),
+        ("scratch s 99 iso o.vtk", "file at 6 cells 0 points 0\n", Some(EMPTY.as_bytes())),
+        ("scratch s 2 iso o.vtk", "refused Unknown at 2\n", None),
+        ("scratch s 3 iso o.vtk", "refused fault:iso:Unconnected(1) at 3\n", None),
     ] {
-        refuses(&rt, THRESHOLD, bytes, "refused fault:op:WrongInput(1)\n")?;
+        let first = MemoryPort::new(alloc, Vec::new(alloc), FILE_LIMIT, Vec::new(alloc));
+        let left = left(rt, alloc, line, journal, first)?;
+        assert_eq!(rt; left.text.as_str(), want);
+        assert!(rt; file(&left.ports, "o.vtk") == bytes, "{want}");
     }
     Ok(())
 }
 
 #[test]
-fn a_broken_mesh_has_no_contour(rt: HostRuntime) -> Result<(), Fail> {
+fn a_fault_of_a_port_is_one_line(rt: HostRuntime) -> Result<(), Fail> {
+    // write-fails-midway: the third call keeps 40 bytes
     let alloc = rt.alloc();
-    let past = replaced(alloc, GRID, "4 0 1 2 3", "4 0 1 2 4")?;
-    let floats = replaced(alloc, GRID, "4 int", "4 float")?;
-    for (bytes, want) in [
-        // No array of points to take the values from, and no number of points.
-        (STRIP, "refused fault:src:BadFile(NoArray,121)\n"),
-        (CUT, "refused fault:src:BadFile(Truncated,68)\n"),
-        // float-points-once, and a grid of such points
-        (FLOAT_POINTS, "refused fault:src:BadFile(FloatArray,61)\n"),
+    let failing = vec![in alloc; FailAt { call: 3, kept: 40 }]?;
+    let first = corner(alloc, failing)?;
+    let left = left(&rt, alloc, "run s j", LEVELS.as_bytes(), first)?;
+    assert!(rt; left.status == Status::Fault, "{}", left.text);
+    let want = format!(in alloc; "{LEVELS_REPORT}fault 1 8 write\n")?;
+    assert_eq!(rt; left.text.as_str(), want.as_str());
+    assert!(rt; file(&left.ports, "two.vtk") == EMPTY.as_bytes().get(..40));
+    assert!(rt; left.desk.file("j").is_some());
+    Ok(())
+}
+
+#[test]
+fn refusals_have_their_lines(rt: HostRuntime) -> Result<(), Fail> {
+    let alloc = rt.alloc();
+    let (script, refused, done) = (Status::Script, Status::Refused, Status::Done);
+    for (text, limit, status, want) in [
+        // script-refused, and the empty script
+        ("\n\n1 blend a\n", FILE_LIMIT, script, "script line 3 Word\n"),
+        ("2 remove a\n", FILE_LIMIT, script, "script line 1 ActorRange\n"),
+        ("", FILE_LIMIT, done, ""),
+        // a long file of usage-and-long-file
         (
-            floats.as_str(),
-            "refused fault:src:BadFile(FloatArray,70)\n",
+            "1 add file src\n1 load src a.vtk\n",
+            100,
+            refused,
+            "edit 1 1 at 1\nrefused 1 2 TooLong at 1\n",
         ),
-        // An index past the points.
-        (past.as_str(), "refused fault:src:BadFile(Index,116)\n"),
+        // cycle-refused
+        (
+            "1 add crop a\n1 add crop b\n1 connect a b 1\nphase\n1 connect b a 1\n",
+            100,
+            refused,
+            "edit 1 1 at 1\nedit 1 2 at 2\nedit 1 3 at 3\nrefused 1 4 WouldCycle at 3\n",
+        ),
+        ("1 load src b.vtk\n", 9, Status::Fault, "fault 1 1 read\n"),
     ] {
-        refuses(&rt, CONTOUR, bytes, want)?;
-    }
-    // A place past signed 64 bits, in thousandths.
-    let line = "once a.vtk o.vtk contour 2";
-    refuses(&rt, line, FAR_LINE, "refused fault:op:TooWide\n")
-}
-
-// Both filters refuse a header that has a fault: the form, and a dataset that isn't read.
-#[test]
-fn a_fault_of_the_header_comes_first(rt: HostRuntime) -> Result<(), Fail> {
-    let alloc = rt.alloc();
-    let form = replaced(alloc, GRID, "ASCII", "TEXT")?;
-    let other = replaced(alloc, STRIP, "POLYDATA", "STRUCTURED_GRID")?;
-    for line in [THRESHOLD, CONTOUR] {
-        let want = "refused fault:src:BadFile(Form,29)\n";
-        refuses(&rt, line, form.as_str(), want)?;
-        let want = "refused fault:src:BadFile(Unsupported,43)\n";
-        refuses(&rt, line, other.as_str(), want)?;
+        let first = port(alloc, "a.vtk", CORNER.as_bytes(), limit, Vec::new(alloc))?;
+        let left = left(&rt, alloc, "run s j", text.as_bytes(), first)?;
+        assert_eq!(rt; left.text.as_str(), want);
+        assert!(rt; left.status == status, "{want}");
+        assert_eq!(rt; left.desk.file("j").is_some(), status != script, "{want}");
     }
     Ok(())
 }
 
 #[test]
-fn other_words_are_no_command(rt: HostRuntime) -> Result<(), Fail> {
+fn other_words_are_usage(rt: HostRuntime) -> Result<(), Fail> {
     let alloc = rt.alloc();
-    for line in [
-        "",
-        "once a.vtk o.vtk threshold 2",
-        "once a.vtk o.vtk threshold 2 +3",
-        "once a.vtk o.vtk threshold 2 9223372036854775808",
-        "once a.vtk o.vtk contour",
-        "once a.vtk o.vtk contour 2 3",
-        "once a.vtk o.vtk contour -9223372036854775809",
-        "once a.vtk o.vtk Contour 2",
-        "once a.vtk .o.vtk threshold 2 3",
-        "once a.vtk a/o.vtk threshold 2 3",
-        "Once a.vtk o.vtk threshold 2 3",
+    for (line, status, want) in [
+        ("run s", Status::Usage, "vizrun: usage\n"),
+        ("run s j k", Status::Usage, "vizrun: usage\n"),
+        ("run .s j", Status::Usage, "vizrun: usage\n"),
+        ("scratch s 65537 a o", Status::Usage, "vizrun: usage\n"),
+        ("scratch s 1 a.b o", Status::Usage, "vizrun: usage\n"),
+        ("run t j", Status::Fault, "fault read\n"),
+        ("scratch t 1 a o", Status::Fault, "fault read\n"),
+        ("scratch s 1 a o", Status::Script, "script line 1 Word\n"),
+        ("once a.vtk o.vtk contour 10", Status::Done, "file cells 0 points 0\n"),
     ] {
-        let (ended, told, ports) = ran_on(&rt, alloc, line, CORNER.as_bytes())?;
-        assert!(rt; ended == Status::Usage, "{line}: {told}");
-        assert_eq!(rt; told.as_str(), "vizrun: usage\n", "{line}");
-        assert!(rt; output_of(&ports) == Some(b"old".as_slice()), "{line}");
-    }
-    // A name that no file has.
-    let line = "once c.vtk o.vtk threshold 2 3";
-    let (ended, told, _) = ran_on(&rt, alloc, line, CORNER.as_bytes())?;
-    assert!(rt; ended == Status::Fault);
-    assert_eq!(rt; told.as_str(), "fault read\n");
-    Ok(())
-}
-
-#[test]
-fn a_failed_write_keeps_some_bytes_and_a_failed_put_none(rt: HostRuntime) -> Result<(), Fail> {
-    let alloc = rt.alloc();
-    let good = joined(alloc, &[SQUARE.as_bytes(), b"1 2 3 4"])?;
-    for (call, put, status, want, kept) in [
-        (2, 9, Status::Fault, "fault write\n", "# vt"),
-        (9, 1, Status::Fault, "", SQUARE_WRITTEN),
-    ] {
-        let failing = vec![in alloc; FailAt { call, kept: 4 }]?;
-        let port = MemoryPort::new(alloc, files(alloc, &good)?, FILE_LIMIT, failing);
-        let puts = vec![in alloc; put]?;
-        let (ended, told, ports) = ran(&rt, alloc, ONCE, &mut desk(alloc), port, puts)?;
-        assert!(rt; ended == status, "{told}");
-        assert_eq!(rt; told.as_str(), want);
-        let written = output_of(&ports).ok_or("no file")?;
-        assert!(rt; written.starts_with(kept.as_bytes()), "{kept}");
-    }
-    Ok(())
-}
-
-#[test]
-fn the_first_port_alone_is_called(rt: HostRuntime) -> Result<(), Fail> {
-    let alloc = rt.alloc();
-    let words = words(alloc, ONCE)?;
-    let binary = joined(
-        alloc,
-        &[CORNER_BINARY.as_bytes(), &[0; 32], CORNER_END.as_bytes()],
-    )?;
-    for (count, status, want) in [
-        (0, Status::Script, "script line 0 ActorRange\n"),
-        (2, Status::Done, "file cells 1 points 8\n"),
-    ] {
-        let mut ports = Vec::new(alloc);
-        for _ in 0..count {
-            ports.push(port(alloc, &binary)?).ok().ok_or("no room")?;
-        }
-        let mut out = MemoryOut::new(alloc, Vec::new(alloc));
-        let mut desk = desk(alloc);
-        let ended = run(
-            &rt, alloc, &words, &mut desk, &mut ports, &mut out, &OpenGate,
-        );
-        assert!(rt; ended == status);
-        assert_eq!(rt; out.text(), want.as_bytes());
-        if let Some(second) = ports.get(1) {
-            let file = second.file("o.vtk").ok_or("no file")?;
-            assert_eq!(rt; file.list(), b"old".as_slice());
-        }
+        let first = corner(alloc, Vec::new(alloc))?;
+        let left = left(&rt, alloc, line, b"no journal", first)?;
+        assert_eq!(rt; left.text.as_str(), want, "{line}");
+        assert!(rt; left.status == status, "{line}");
     }
     Ok(())
 }

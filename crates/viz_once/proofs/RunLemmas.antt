@@ -1,0 +1,158 @@
+-- The promises of a run, from its account.
+use Rattle.std.proofs.Common.{◌≡◌, ℕ, List, [], ◌∷◌, ◌++◌, Option, Some, None, Ok, refl, sym, ap, subst, ◌∙◌, inl, inr}
+use Rattle.std.specs.Prelude.{IsTrue, ◌⊎◌}
+use Rattle.std.proofs.lemmas.List.{append_cancel_left}
+use Rattle.viz_base.specs.declared.port.Port as port
+use Rattle.viz_base.specs.declared.out.Out as out
+use Rattle.viz_base.specs.declared.call.Call.TheVariants.{Read}
+use Rattle.viz_base.specs.declared.call.ReadAnswer.{ReadAnswer}
+use Rattle.viz_base.specs.declared.call.ReadAnswer.TheVariants as read
+use Rattle.viz_base.specs.declared.call.WriteAnswer.TheVariants as write
+use Rattle.viz_once.specs.declared.outcome.Cause.{Cause}
+use Rattle.viz_once.specs.declared.outcome.Failed.{Failed}
+use Rattle.viz_once.specs.declared.outcome.Failed.TheVariants as call
+use Rattle.viz_once.specs.declared.outcome.Outcome.{Outcome}
+use Rattle.viz_once.specs.declared.outcome.Outcome.TheVariants as outcome
+use Rattle.viz_once.specs.declared.outcome.Status.{Status}
+use Rattle.viz_once.specs.declared.outcome.Status.TheVariants as status
+use Rattle.viz_once.specs.Account.{Deed, Nothing, Asked, Answered, calls_of, EndsUnwritten, EndsIn, Serves, IsPut, IsTold, HasFailed}
+use Rattle.viz_once.specs.Causes.{IsCause}
+use Rattle.viz_once.specs.Command.{Command}
+use Rattle.viz_once.specs.Outputs.{cells_made, points_made}
+use Rattle.viz_once.specs.Promises.{IsDone, IsRefused, TellsCauses, IsFault, FirstDid, FirstAnswered, GainsLine, fault_line}
+use Rattle.viz_once.specs.Report.{line_of}
+use Rattle.viz_once.proofs.CauseLemmas.{one_cause}
+use Rattle.viz_once.proofs.EndLemmas.{Answer, told_at, found_is, refused_ends}
+
+-- the line of what was told, where the put was answered by Ok
+line_is : {O : Type 0} (m : out.Ghosts O) (told o : Outcome) (a : Answer) (old new : O) → IsPut m told a old new → told ≡ o → a ≡ Ok tt → GainsLine m (line_of o) old new
+line_is m told o a old new put is ok =
+    let p : IsPut m o (Ok tt) old new = subst (λ (b : Answer). IsPut m o b old new) ok (subst (λ (x : Outcome). IsPut m x a old new) is put) in
+    p.text
+
+-- the same of an equal outcome
+as_told : {O : Type 0} (m : out.Ghosts O) (told o : Outcome) (old new : O) → GainsLine m (line_of told) old new → told ≡ o → GainsLine m (line_of o) old new
+as_told m told o old new lines is = subst (λ (x : Outcome). GainsLine m (line_of x) old new) is lines
+
+-- ---- what a served command did, by its outcome
+
+-- the deed of a written file
+written_deed : (c : Command) (deed : Deed) (cells points : ℕ) → EndsIn c deed (outcome.Written cells points)
+    → (bytes : List ℕ) × (d : _) × (deed ≡ Answered bytes d write.Written) × EndsIn c (Answered bytes d write.Written) (outcome.Written cells points)
+written_deed c Nothing cells points h = absurd (let e : outcome.Written cells points ≡ outcome.Memory = h in cc)
+written_deed c (Asked (read.Given bytes)) cells points h = absurd (elim h [
+  | inl e ↦ let bad : outcome.Written cells points ≡ outcome.Memory = e in cc
+  | inr r ↦ let bad : outcome.Written cells points ≡ outcome.Refused r.0 = r.2 in cc
+])
+written_deed c (Asked (read.TooLong taken)) cells points h = absurd (let e : outcome.Written cells points ≡ outcome.Refused h.0 = h.2 in cc)
+written_deed c (Asked read.Failed) cells points h = absurd (let e : outcome.Written cells points ≡ outcome.Fault call.Read = h in cc)
+written_deed c (Answered bytes d write.Written) cells points h = (bytes, d, refl, h)
+written_deed c (Answered bytes d write.Failed) cells points h = absurd (let e : outcome.Written cells points ≡ outcome.Fault call.Write = h.1 in cc)
+
+-- the deed of a refusal
+refused_deed : (c : Command) (deed : Deed) (cause : Cause) → EndsIn c deed (outcome.Refused cause)
+    → (answer : ReadAnswer) × (deed ≡ Asked answer) × IsCause c.filter answer cause
+refused_deed c Nothing cause h = absurd (let e : outcome.Refused cause ≡ outcome.Memory = h in cc)
+refused_deed c (Asked (read.Given bytes)) cause h = (
+  read.Given bytes,
+  refl,
+  elim h [
+    | inl e ↦ absurd (let bad : outcome.Refused cause ≡ outcome.Memory = e in cc)
+    | inr r ↦ let same : cause ≡ r.0 = (let e : outcome.Refused cause ≡ outcome.Refused r.0 = r.2 in cc) in subst (IsCause c.filter (read.Given bytes)) (sym same) r.1
+  ],
+)
+refused_deed c (Asked (read.TooLong taken)) cause h =
+    let same : cause ≡ h.0 = (let e : outcome.Refused cause ≡ outcome.Refused h.0 = h.2 in cc) in
+    (read.TooLong taken, refl, subst (IsCause c.filter (read.TooLong taken)) (sym same) h.1)
+refused_deed c (Asked read.Failed) cause h = absurd (let e : outcome.Refused cause ≡ outcome.Fault call.Read = h in cc)
+refused_deed c (Answered bytes d write.Written) cause h = absurd (let e : outcome.Refused cause ≡ outcome.Written _ _ = h.1 in cc)
+refused_deed c (Answered bytes d write.Failed) cause h = absurd (let e : outcome.Refused cause ≡ outcome.Fault call.Write = h.1 in cc)
+
+-- the deed of a failed call
+failed_deed : (c : Command) (deed : Deed) (failed : Failed) → EndsIn c deed (outcome.Fault failed) → HasFailed deed × (line_of (outcome.Fault failed) ≡ fault_line deed)
+failed_deed c Nothing failed h = absurd (let e : outcome.Fault failed ≡ outcome.Memory = h in cc)
+failed_deed c (Asked (read.Given bytes)) failed h = absurd (elim h [
+  | inl e ↦ let bad : outcome.Fault failed ≡ outcome.Memory = e in cc
+  | inr r ↦ let bad : outcome.Fault failed ≡ outcome.Refused r.0 = r.2 in cc
+])
+failed_deed c (Asked (read.TooLong taken)) failed h = absurd (let e : outcome.Fault failed ≡ outcome.Refused h.0 = h.2 in cc)
+failed_deed c (Asked read.Failed) failed h = (tt, ap line_of h)
+failed_deed c (Answered bytes d write.Written) failed h = absurd (let e : outcome.Fault failed ≡ outcome.Written _ _ = h.1 in cc)
+failed_deed c (Answered bytes d write.Failed) failed h = (tt, ap line_of h.1)
+
+-- ---- what a run did
+
+module _ {P : Type 0} (m : port.Ghosts P) where
+  -- the first port served a command
+  served : (words : Option Command) (o : Outcome) (old new : List P) → Serves m words o old new → (o ≡ outcome.Usage → ⊥) → (o ≡ outcome.NoPort → ⊥)
+      → (c : Command) × (deed : Deed) × (words ≡ Some c) × EndsIn c deed o × FirstDid m c deed old new
+  served None o old new h no_usage no_lack = absurd (no_usage h.0)
+  served (Some c) o [] new h no_usage no_lack = absurd (no_lack h.0)
+  served (Some c) o (p ∷ ps) [] h no_usage no_lack = absurd h
+  served (Some c) o (p ∷ ps) (q ∷ qs) h no_usage no_lack = (c, h.0.0, refl, h.0.1, (h.0.2, h.1))
+
+  module _ {O : Type 0} (l : out.Ghosts O) (words : Option Command) (old new : List P) (before after : O) (found : Outcome) (ended : Status)
+      (serves : Serves m words found old new) (told : IsTold l found ended before after) where
+    told_as : (o : Outcome) → told.0 ≡ o → (outcome.Memory ≡ o → ⊥) → Serves m words o old new
+    told_as o is apart = subst (λ (x : Outcome). Serves m words x old new) (found_is found told.0 o told.2 is apart) serves
+
+    pub done-Run : ended ≡ status.Done → IsDone m l words old new before after
+    done-Run is =
+        let w = told_at told.0 told.1 ended status.Done told.3 is in
+        let o = outcome.Written w.0 w.1 in
+        let s = served words o old new (told_as o w.2 (λ e. cc)) (λ e. cc) (λ e. cc) in
+        let d = written_deed s.0 s.1 w.0 w.1 s.3 in
+        let ends = d.3.1 in
+        let lines = line_is l told.0 o told.1 before after told.4 w.2 w.3 in
+        (s.0, d.0, d.1, s.2, d.3.0, subst (λ (x : Deed). FirstDid m s.0 x old new) d.2 s.4, as_told l o (outcome.Written (cells_made s.0.filter d.1) (points_made s.0.filter d.1)) before after lines ends)
+
+    pub refused-Run : ended ≡ status.Refused → IsRefused m l words old new before after
+    refused-Run is =
+        let w = told_at told.0 told.1 ended status.Refused told.3 is in
+        let o = outcome.Refused w.0 in
+        let s = served words o old new (told_as o w.1 (λ e. cc)) (λ e. cc) (λ e. cc) in
+        let d = refused_deed s.0 s.1 w.0 s.3 in
+        (s.0, d.0, w.0, s.2, d.2, subst (λ (x : Deed). FirstDid m s.0 x old new) d.1 s.4, line_is l told.0 o told.1 before after told.4 w.1 w.2)
+
+    pub fault-Run : ended ≡ status.Fault → IsFault m l words old new before after
+    fault-Run is = elim (told_at told.0 told.1 ended status.Fault told.3 is) [
+      | inl w ↦
+          let o = outcome.Fault w.0 in
+          let s = served words o old new (told_as o w.1 (λ e. cc)) (λ e. cc) (λ e. cc) in
+          let d = failed_deed s.0 s.1 w.0 s.3 in
+          let lines = line_is l told.0 o told.1 before after told.4 w.1 w.2 in
+          inl (s.0, s.1, s.2, d.0, s.4, λ t. lines t ∙ ap (λ (x : List ℕ). l.text before ++ x) d.1)
+      | inr failed ↦ inr (told.4.cause failed)
+    ]
+
+-- ---- where a cause holds
+
+-- a deed of one read is that read
+asked_deed : (c : Command) (deed : Deed) (answer : ReadAnswer) → calls_of c deed ≡ Read c.input answer ∷ [] → deed ≡ Asked answer
+asked_deed c Nothing answer e = absurd cc
+asked_deed c (Asked other) answer e = cc
+asked_deed c (Answered bytes d other) answer e = absurd cc
+
+-- the outcome of a command that is refused for a cause
+refused_or_memory : (c : Command) (answer : ReadAnswer) (cause : Cause) (o : Outcome) → IsCause c.filter answer cause → EndsUnwritten c answer o
+    → (o ≡ outcome.Memory) ⊎ (o ≡ outcome.Refused cause)
+refused_or_memory c (read.Given bytes) cause o is (inl memory) = inl memory
+refused_or_memory c (read.Given bytes) cause o is (inr r) = inr (r.2 ∙ ap outcome.Refused (one_cause c.filter (read.Given bytes) r.0 cause r.1 is))
+refused_or_memory c (read.TooLong taken) cause o is r = inr (r.2 ∙ ap outcome.Refused (one_cause c.filter (read.TooLong taken) r.0 cause r.1 is))
+refused_or_memory c read.Failed cause o is r = absurd is
+
+module _ {P : Type 0} (m : port.Ghosts P) where
+  refused_at : (c : Command) (answer : ReadAnswer) (cause : Cause) (o : Outcome) (old new : List P) → IsCause c.filter answer cause → IsTrue m.tells_calls
+      → FirstAnswered m c answer old new → Serves m (Some c) o old new → (o ≡ outcome.Memory) ⊎ (o ≡ outcome.Refused cause)
+  refused_at c answer cause o [] new is tells asked h = absurd asked
+  refused_at c answer cause o (p ∷ ps) [] is tells asked h = absurd asked
+  refused_at c answer cause o (p ∷ ps) (q ∷ qs) is tells asked h =
+      let deed = h.0.0 in
+      let same : calls_of c deed ≡ Read c.input answer ∷ [] = append_cancel_left (m.calls p) (calls_of c deed) (Read c.input answer ∷ []) (sym (h.0.2.calls tells) ∙ asked.0) in
+      refused_or_memory c answer cause o is (subst (λ (d : Deed). EndsIn c d o) (asked_deed c deed answer same) h.0.1)
+
+  pub refuses-Run : {O : Type 0} (l : out.Ghosts O) (words : Option Command) (old new : List P) (before after : O) (found : Outcome) (ended : Status)
+      → Serves m words found old new → IsTold l found ended before after → TellsCauses m l words old new before after ended
+  refuses-Run l words old new before after found ended serves told = λ c answer cause e is tells asked.
+      let found_so = refused_at c answer cause found old new is tells asked (subst (λ (w : Option Command). Serves m w found old new) e serves) in
+      refused_ends l cause before after found told.0 told.1 ended found_so told.2 told.3 told.4

@@ -1,0 +1,226 @@
+-- The promises of a run of a journal's prefix, from its account.
+use Rattle.std.proofs.Common.{◌≡◌, ◌≢◌, ℕ, ◌+◌, ◌≤◌, List, [], ◌∷◌, Option, None, Some, Result, Ok, Err, refl, sym, ap, subst, ◌∙◌, inl, inr, arith}
+use Rattle.std.specs.Prelude.{◌⊎◌}
+use Rattle.viz_base.specs.Faults.{Rose}
+use Rattle.viz_base.specs.declared.port.Port as port
+use Rattle.viz_base.specs.declared.out.Out as out
+use Rattle.viz_base.specs.declared.call.ReadAnswer.{ReadAnswer}
+use Rattle.viz_base.specs.declared.call.ReadAnswer.TheVariants as read
+use Rattle.viz_base.specs.declared.refusal.WriteRefusal.{WriteRefusal}
+use Rattle.viz_base.specs.declared.refusal.WriteRefusal.TheVariants as writing
+use Rattle.viz_journal.specs.declared.entry.JournalEntry.{JournalEntry}
+use Rattle.viz_journal.specs.Reading.{journal_of}
+use Rattle.viz_once.specs.Promises.{FirstOnly, FirstRose, OthersStay, GainsLine, PutsLine}
+use Rattle.viz_once.specs.declared.outcome.Status.{Status}
+use Rattle.viz_once.specs.declared.outcome.Status.TheVariants as status
+use Rattle.viz_words.specs.declared.refusal.ScriptRefusal.{ScriptRefusal}
+use Rattle.viz_report.specs.declared.line.Line.{Line}
+use Rattle.viz_report.specs.declared.line.Line.TheVariants as line
+use Rattle.viz_report.specs.declared.line.Reason.{Reason}
+use Rattle.viz_account.specs.Account.{faults_told, RoseBy}
+use Rattle.viz_script_run.specs.Told.{IsPut}
+use Rattle.viz_script_run.proofs.RunLemmas.{gains, puts, rose_by}
+use Rattle.viz_replay.specs.declared.came.Came.{Came}
+use Rattle.viz_replay.specs.declared.came.Came.TheVariants as came
+use Rattle.viz_replay.specs.Replay.{Replay, IsAsked, IsRefusal, IsUpdated, EndsIn, IsRan}
+use Rattle.viz_replay.specs.Told.{line_of, update_status, status_of, fault_over, status_after, Settles, IsTold}
+use Rattle.viz_replay.specs.Promises.{IsUpdatedFrom, IsDone, IsRefused, IsScript, IsFault}
+
+abbrev pub Answer : Type 0
+Answer = Result (Unit {0}) WriteRefusal
+
+-- ---- what was told, and what the put answered, by the status
+
+abbrev pub ToldBy : Came → Answer → Status → Type 0
+ToldBy c a status.Done = (at : ℕ) × (cells : ℕ) × (points : ℕ) × (ran : ℕ) × (c ≡ came.Updated (line.File at cells points ran)) × (a ≡ Ok tt)
+ToldBy c a status.Refused = (reason : Reason) × (at : ℕ) × (c ≡ came.Updated (line.Refused reason at)) × (a ≡ Ok tt)
+ToldBy c a status.Script = (c ≡ came.NoPort) ⊎ ((n : ℕ) × (r : ScriptRefusal) × (c ≡ came.Refused n r))
+ToldBy c a status.Fault = (c ≡ came.Unread) ⊎ ((c ≡ came.Updated line.WriteFault) ⊎ (a ≡ Err writing.Failed))
+ToldBy c a status.Usage = ⊥
+ToldBy c a status.Memory = Unit {0}
+
+told_line : (l : Line) (a : Answer) → a ≡ Ok tt → ToldBy (came.Updated l) a (update_status l)
+told_line (line.File at cells points ran) a ok = (at, cells, points, ran, refl, ok)
+told_line (line.Refused reason at) a ok = (reason, at, refl, ok)
+told_line line.WriteFault a ok = inr (inl refl)
+told_line (line.Edit at) a ok = tt
+told_line line.ReadFault a ok = tt
+told_line line.Memory a ok = tt
+
+failed_line : (l : Line) (a : Answer) → a ≡ Err writing.Failed → ToldBy (came.Updated l) a (fault_over (update_status l))
+failed_line (line.File at cells points ran) a failed = inr (inr failed)
+failed_line (line.Refused reason at) a failed = inr (inr failed)
+failed_line line.WriteFault a failed = inr (inr failed)
+failed_line (line.Edit at) a failed = tt
+failed_line line.ReadFault a failed = tt
+failed_line line.Memory a failed = tt
+
+told_by : (c : Came) (a : Answer) → ToldBy c a (status_after c a)
+told_by came.NoPort (Ok done) = inl refl
+told_by came.NoPort (Err writing.Failed) = inl refl
+told_by came.NoPort (Err writing.Memory) = tt
+told_by came.Unread (Ok done) = inl refl
+told_by came.Unread (Err writing.Failed) = inl refl
+told_by came.Unread (Err writing.Memory) = tt
+told_by (came.Refused n r) (Ok done) = inr (n, r, refl)
+told_by (came.Refused n r) (Err writing.Failed) = inr (n, r, refl)
+told_by (came.Refused n r) (Err writing.Memory) = tt
+told_by (came.Updated l) (Ok done) = told_line l (Ok tt) refl
+told_by (came.Updated l) (Err writing.Failed) = failed_line l (Err writing.Failed) refl
+told_by (came.Updated l) (Err writing.Memory) = tt
+told_by came.Memory (Ok done) = tt
+told_by came.Memory (Err writing.Failed) = tt
+told_by came.Memory (Err writing.Memory) = tt
+
+told_at : (c : Came) (a : Answer) (ended known : Status) → ended ≡ status_after c a → ended ≡ known → ToldBy c a known
+told_at c a ended known e is = subst (ToldBy c a) (sym e ∙ is) (told_by c a)
+
+-- what is told was found, where it isn't want of memory
+found_is : (found told c : Came) → Settles found told → told ≡ c → (came.Memory ≡ c → ⊥) → found ≡ c
+found_is found told c settles is apart = elim settles [
+  | inl same ↦ sym same ∙ is
+  | inr memory ↦ absurd (apart (sym memory ∙ is))
+]
+
+-- ---- what was done, by how the run ended
+
+module _ {P : Type 0} (m : port.Ghosts P) (c : Replay) (old new : List P) where
+  updated : (answer : Option ReadAnswer) (l : Line) → EndsIn m c answer (came.Updated l) old new
+      → (bytes : List ℕ) × (answer ≡ Some (read.Given bytes)) × ((entries : List JournalEntry) × (journal_of bytes ≡ Ok entries) × IsUpdated m c entries l old new)
+  updated None l h = absurd h
+  updated (Some read.Failed) l h = absurd h
+  updated (Some (read.TooLong taken)) l h = absurd h
+  updated (Some (read.Given bytes)) l h = (bytes, refl, h)
+
+  unread : (answer : Option ReadAnswer) → EndsIn m c answer came.Unread old new → (answer ≡ Some read.Failed) × (new ≡ old)
+  unread None h = absurd h
+  unread (Some read.Failed) h = (refl, h)
+  unread (Some (read.TooLong taken)) h = absurd h
+  unread (Some (read.Given bytes)) h = absurd h
+
+  no_port : (answer : Option ReadAnswer) → EndsIn m c answer came.NoPort old new → (answer ≡ None) × ((old ≡ []) × (new ≡ []))
+  no_port None h = (refl, h)
+  no_port (Some read.Failed) h = absurd h
+  no_port (Some (read.TooLong taken)) h = absurd h
+  no_port (Some (read.Given bytes)) h = absurd h
+
+  refused_journal : (answer : Option ReadAnswer) (n : ℕ) (r : ScriptRefusal) → EndsIn m c answer (came.Refused n r) old new
+      → (a : ReadAnswer) × (answer ≡ Some a) × IsRefusal a n r × (new ≡ old)
+  refused_journal None n r h = absurd h
+  refused_journal (Some read.Failed) n r h = (read.Failed, refl, h.0, h.1)
+  refused_journal (Some (read.TooLong taken)) n r h = (read.TooLong taken, refl, h.0, h.1)
+  refused_journal (Some (read.Given bytes)) n r h = (read.Given bytes, refl, h.0, h.1)
+
+as_line : {O : Type 0} (m : out.Ghosts O) (told c : Came) (a : Answer) (old new : O) → told ≡ c → IsPut m (line_of told) a old new → IsPut m (line_of c) a old new
+as_line m told c a old new is put = subst (λ (x : Came). IsPut m (line_of x) a old new) is put
+
+-- ---- the promises
+
+module _ {P O : Type 0} (m : port.Ghosts P) (o : out.Ghosts O) (c : Replay) (desk new_desk : P) (old new : List P) (before after : O) (ended : Status)
+    (found : Came) (ran : IsRan m c found desk new_desk old new) (telling : IsTold o found ended before after) where
+  asked_is : (answer : Option ReadAnswer) → ran.0 ≡ answer → IsAsked m c.journal answer desk new_desk
+  asked_is answer is = subst (λ (a : Option ReadAnswer). IsAsked m c.journal a desk new_desk) is ran.2
+
+  ends_in : (r : Came) → found ≡ r → EndsIn m c ran.0 r old new
+  ends_in r is = subst (λ (x : Came). EndsIn m c ran.0 x old new) is ran.1
+
+  found_line : (l : Line) → telling.0 ≡ came.Updated l → found ≡ came.Updated l
+  found_line l is = found_is found telling.0 (came.Updated l) telling.2 is (λ e. let bad : came.Memory ≡ came.Updated l = e in cc)
+
+  updated_from : (l : Line) → telling.0 ≡ came.Updated l → IsUpdatedFrom m c l desk new_desk old new
+  updated_from l is =
+      let u = updated m c old new ran.0 l (ends_in (came.Updated l) (found_line l is)) in
+      (u.0, u.2, u.3, u.4, asked_is (Some (read.Given u.0)) u.1)
+
+  line_put : (r : Came) → telling.0 ≡ r → IsPut o (line_of r) telling.1 before after
+  line_put r is = as_line o telling.0 r telling.1 before after is telling.4
+
+  pub done : ended ≡ status.Done → IsDone m o c desk new_desk old new before after
+  done is =
+      let t = told_at telling.0 telling.1 ended status.Done telling.3 is in
+      let l : Line = line.File t.0 t.1 t.2 t.3 in
+      (t.0, t.1, t.2, t.3, updated_from l t.4, gains o (line_of (came.Updated l)) before after telling.1 t.5 (line_put (came.Updated l) t.4))
+
+  pub refused : ended ≡ status.Refused → IsRefused m o c desk new_desk old new before after
+  refused is =
+      let t = told_at telling.0 telling.1 ended status.Refused telling.3 is in
+      let l : Line = line.Refused t.0 t.1 in
+      (t.0, t.1, updated_from l t.2, gains o (line_of (came.Updated l)) before after telling.1 t.3 (line_put (came.Updated l) t.2))
+
+  pub script : ended ≡ status.Script → IsScript m o c desk new_desk old new before after
+  script is = elim (told_at telling.0 telling.1 ended status.Script telling.3 is) [
+    | inl e ↦
+      let f = found_is found telling.0 came.NoPort telling.2 e (λ bad. let b : came.Memory ≡ came.NoPort = bad in cc) in
+      let d = no_port m c old new ran.0 (ends_in came.NoPort f) in
+      inl (d.1, d.2, asked_is None d.0, puts o (line_of came.NoPort) before after telling.1 (line_put came.NoPort e))
+    | inr t ↦
+      let f = found_is found telling.0 (came.Refused t.0 t.1) telling.2 t.2 (λ bad. let b : came.Memory ≡ came.Refused t.0 t.1 = bad in cc) in
+      let d = refused_journal m c old new ran.0 t.0 t.1 (ends_in (came.Refused t.0 t.1) f) in
+      inr (d.0, t.0, t.1, d.2, d.3, asked_is (Some d.0) d.1, puts o (line_of (came.Refused t.0 t.1)) before after telling.1 (line_put (came.Refused t.0 t.1) t.2))
+  ]
+
+  pub fault : ended ≡ status.Fault → IsFault m o c desk new_desk old new before after
+  fault is = elim (told_at telling.0 telling.1 ended status.Fault telling.3 is) [
+    | inl e ↦
+      let f = found_is found telling.0 came.Unread telling.2 e (λ bad. let b : came.Memory ≡ came.Unread = bad in cc) in
+      let d = unread m c old new ran.0 (ends_in came.Unread f) in
+      inl (asked_is (Some read.Failed) d.0, d.1, puts o (line_of came.Unread) before after telling.1 (line_put came.Unread e))
+    | inr t ↦ elim t [
+      | inl e ↦ inr (inl (updated_from line.WriteFault e, puts o (line_of (came.Updated line.WriteFault)) before after telling.1 (line_put (came.Updated line.WriteFault) e)))
+      | inr failed ↦ inr (inr (telling.4.cause failed))
+    ]
+  ]
+
+  first_rose : (entries : List JournalEntry) (before_ports after_ports : List P) → IsUpdated m c entries line.WriteFault before_ports after_ports → FirstRose m before_ports after_ports
+  first_rose entries [] after_ports u = absurd u
+  first_rose entries (p ∷ ps) [] u = absurd u
+  first_rose entries (p ∷ ps) (q ∷ qs) u = (rose_by 0 (m.faults p) (m.faults q) u.0.faults, u.1)
+
+  pub cause : ended ≡ status.Fault → Rose (m.faults desk) (m.faults new_desk) ⊎ (FirstRose m old new ⊎ Rose (o.faults before) (o.faults after))
+  cause is = elim (fault is) [
+    | inl read ↦ inl (read.0.cause refl)
+    | inr t ↦ elim t [
+      | inl written ↦ inr (inl (first_rose written.0.1 old new written.0.3))
+      | inr put ↦ inr (inr put)
+    ]
+  ]
+
+  first_only : (entries : List JournalEntry) (l : Line) (before_ports after_ports : List P) → IsUpdated m c entries l before_ports after_ports → OthersStay before_ports after_ports
+  first_only entries l [] after_ports u = absurd u
+  first_only entries l (p ∷ ps) [] u = absurd u
+  first_only entries l (p ∷ ps) (q ∷ qs) u = u.1
+
+  same_ports : (before_ports after_ports : List P) → after_ports ≡ before_ports → OthersStay before_ports after_ports
+  same_ports before_ports after_ports is = subst (OthersStay before_ports) (sym is) (stay before_ports)
+    where
+      stay : (ports : List P) → OthersStay ports ports
+      stay [] = refl
+      stay (p ∷ ps) = refl
+
+  others_in : (answer : Option ReadAnswer) (r : Came) → EndsIn m c answer r old new → OthersStay old new
+  others_in None came.NoPort h = same_ports old new (h.1 ∙ sym h.0)
+  others_in None came.Memory h = same_ports old new h
+  others_in None came.Unread h = absurd h
+  others_in None (came.Refused n r) h = absurd h
+  others_in None (came.Updated l) h = absurd h
+  others_in (Some read.Failed) came.Unread h = same_ports old new h
+  others_in (Some read.Failed) (came.Refused n r) h = same_ports old new h.1
+  others_in (Some read.Failed) came.NoPort h = absurd h
+  others_in (Some read.Failed) came.Memory h = absurd h
+  others_in (Some read.Failed) (came.Updated l) h = absurd h
+  others_in (Some (read.TooLong taken)) (came.Refused n r) h = same_ports old new h.1
+  others_in (Some (read.TooLong taken)) came.NoPort h = absurd h
+  others_in (Some (read.TooLong taken)) came.Unread h = absurd h
+  others_in (Some (read.TooLong taken)) came.Memory h = absurd h
+  others_in (Some (read.TooLong taken)) (came.Updated l) h = absurd h
+  others_in (Some (read.Given bytes)) (came.Refused n r) h = same_ports old new h.1
+  others_in (Some (read.Given bytes)) came.Memory h = same_ports old new h
+  others_in (Some (read.Given bytes)) (came.Updated l) h = first_only h.0 l old new h.2
+  others_in (Some (read.Given bytes)) came.NoPort h = absurd h
+  others_in (Some (read.Given bytes)) came.Unread h = absurd h
+
+  pub others : OthersStay old new
+  others = others_in ran.0 found ran.1
+
+  pub no_usage : ended ≢ status.Usage
+  no_usage is = told_at telling.0 telling.1 ended status.Usage telling.3 is

@@ -1,0 +1,4 @@
+pub mod Replay
+pub mod Told
+pub mod Served
+pub mod Promises

@@ -1,0 +1,49 @@
+-- What a run of a journal's prefix promises of its status, its line, its calls and the files (docs/FORMATS.md, "Report").
+use Rattle.std.specs.Prelude.{◌≡◌, ℕ, List, [], ◌⊎◌, Option, None, Some, Ok}
+use Rattle.viz_base.specs.Faults.{Rose}
+use Rattle.viz_base.specs.declared.port.Port as port
+use Rattle.viz_base.specs.declared.out.Out as out
+use Rattle.viz_base.specs.declared.call.ReadAnswer.{ReadAnswer}
+use Rattle.viz_base.specs.declared.call.ReadAnswer.TheVariants as read
+use Rattle.viz_journal.specs.declared.entry.JournalEntry.{JournalEntry}
+use Rattle.viz_journal.specs.Reading.{journal_of}
+use Rattle.viz_once.specs.Promises.{GainsLine, PutsLine}
+use Rattle.viz_once.specs.Report.{no_port_line, read_fault_line, write_fault_line}
+use Rattle.viz_report.specs.declared.line.Line.{Line}
+use Rattle.viz_report.specs.declared.line.Line.TheVariants as line
+use Rattle.viz_report.specs.declared.line.Reason.{Reason}
+use Rattle.viz_words.specs.declared.refusal.ScriptRefusal.{ScriptRefusal}
+use Rattle.viz_script_run.specs.Told.{refused_script}
+use Rattle.viz_replay.specs.Replay.{Replay, IsAsked, IsRefusal, IsUpdated, entries_at}
+use Rattle.viz_replay.specs.Told.{file_line, refused_line}
+
+-- the journal was read, the sink was updated on the network of its first entries, with this line, and nothing else was done
+abbrev pub IsUpdatedFrom : {P : Type 0} → port.Ghosts P → Replay → Line → P → P → List P → List P → Type 0
+IsUpdatedFrom m c l desk new_desk old new =
+    (bytes : List ℕ) × (entries : List JournalEntry) × (journal_of bytes ≡ Ok entries) × IsUpdated m c entries l old new
+    × IsAsked m c.journal (Some (read.Given bytes)) desk new_desk
+
+-- a run that answers Done wrote the file of the sink, and told its numbers
+abbrev pub IsDone : {P O : Type 0} → port.Ghosts P → out.Ghosts O → Replay → P → P → List P → List P → O → O → Type 0
+IsDone m o c desk new_desk old new before after =
+    (at : ℕ) × (cells : ℕ) × (points : ℕ) × (ran : ℕ) × IsUpdatedFrom m c (line.File at cells points ran) desk new_desk old new
+    × GainsLine o (file_line at cells points) before after
+
+-- a run that answers Refused found no file of the sink, and told why
+abbrev pub IsRefused : {P O : Type 0} → port.Ghosts P → out.Ghosts O → Replay → P → P → List P → List P → O → O → Type 0
+IsRefused m o c desk new_desk old new before after =
+    (reason : Reason) × (at : ℕ) × IsUpdatedFrom m c (line.Refused reason at) desk new_desk old new × GainsLine o (refused_line reason at) before after
+
+-- a run that answers Script: there is no port, and the desk wasn't used; or the journal is refused for this
+abbrev pub IsScript : {P O : Type 0} → port.Ghosts P → out.Ghosts O → Replay → P → P → List P → List P → O → O → Type 0
+IsScript m o c desk new_desk old new before after =
+    ((old ≡ []) × (new ≡ []) × IsAsked m c.journal None desk new_desk × PutsLine o no_port_line before after)
+    ⊎ ((answer : ReadAnswer) × (n : ℕ) × (r : ScriptRefusal) × IsRefusal answer n r × (new ≡ old)
+    × IsAsked m c.journal (Some answer) desk new_desk × PutsLine o (refused_script n r) before after)
+
+-- a run that answers Fault: the read of the journal failed, or the write of the file, and that was told; or the put failed
+abbrev pub IsFault : {P O : Type 0} → port.Ghosts P → out.Ghosts O → Replay → P → P → List P → List P → O → O → Type 0
+IsFault m o c desk new_desk old new before after =
+    (IsAsked m c.journal (Some read.Failed) desk new_desk × (new ≡ old) × PutsLine o read_fault_line before after)
+    ⊎ ((IsUpdatedFrom m c line.WriteFault desk new_desk old new × PutsLine o write_fault_line before after)
+    ⊎ Rose (o.faults before) (o.faults after))

@@ -1,0 +1,82 @@
+-- What a run of a journal's prefix did: at the desk and at the first port (docs/DEFINITIONS.md, "The account of a run").
+use Rattle.std.specs.Prelude.{◌≡◌, ℕ, ◌≤◌, min, List, [], ◌∷◌, ◌++◌, ◌⊎◌, length, take, Option, None, Some, Ok, Err, IsTrue}
+use Rattle.viz_base.specs.Faults.{Rose}
+use Rattle.viz_base.specs.Files.{Files, SameFiles}
+use Rattle.viz_base.specs.declared.port.Port as port
+use Rattle.viz_base.specs.declared.call.Call.{Call}
+use Rattle.viz_base.specs.declared.call.Call.TheVariants.{Read}
+use Rattle.viz_base.specs.declared.call.ReadAnswer.{ReadAnswer}
+use Rattle.viz_base.specs.declared.call.ReadAnswer.TheVariants as read
+use Rattle.viz_journal.specs.declared.entry.JournalEntry.{JournalEntry}
+use Rattle.viz_journal.specs.Reading.{edits_of, journal_of}
+use Rattle.viz_network.specs.Network.{Network}
+use Rattle.viz_network.specs.History.{net_of}
+use Rattle.viz_once.specs.Account.{TellsFile}
+use Rattle.viz_once.specs.Promises.{FirstOnly}
+use Rattle.viz_report.specs.declared.line.Line.{Line}
+use Rattle.viz_account.specs.Served.{Updates}
+use Rattle.viz_words.specs.declared.refusal.ScriptRefusal.{ScriptRefusal}
+use Rattle.viz_words.specs.declared.refusal.ScriptRefusal.TheVariants as refusal
+use Rattle.viz_replay.specs.declared.came.Came.{Came}
+use Rattle.viz_replay.specs.declared.came.Came.TheVariants as came
+
+-- the network of so many first entries, or of all where there are fewer
+abbrev pub network_at : ℕ → List JournalEntry → Network
+network_at n entries = net_of (edits_of (take n entries))
+
+-- how many entries that are
+abbrev pub entries_at : ℕ → List JournalEntry → ℕ
+entries_at n entries = min n (length entries)
+
+-- the words of the command: the journal's name, how many entries, the name of the sink, and that of the file
+pub record Replay : Type 0 where
+  pub journal : List ℕ
+  pub count : ℕ
+  pub sink : List ℕ
+  pub output : List ℕ
+
+-- ---- the desk
+
+-- the calls of a read that was answered so, or of none
+abbrev pub asked : List ℕ → Option ReadAnswer → List Call
+asked journal None = []
+asked journal (Some answer) = Read journal answer ∷ []
+
+-- the files around it
+abbrev pub FilesAround : List ℕ → Option ReadAnswer → ℕ → Files → Files → Type 0
+FilesAround journal None limit old new = SameFiles old new
+FilesAround journal (Some answer) limit old new = TellsFile old limit journal answer × SameFiles old new
+
+-- the journal was read, with this answer, or its read wasn't answered
+pub record IsAsked {P : Type 0} (m : port.Ghosts P) (journal : List ℕ) (answer : Option ReadAnswer) (old new : P) : Type 0 where
+  pub calls : IsTrue m.tells_calls → m.calls new ≡ m.calls old ++ asked journal answer
+  pub files : IsTrue m.tells_files → FilesAround journal answer (m.limit old) (m.files old) (m.files new)
+  pub cause : answer ≡ Some read.Failed → Rose (m.faults old) (m.faults new)
+  pub later : m.faults old ≤ m.faults new
+  pub limit : m.limit new ≡ m.limit old
+
+-- ---- how it ended
+
+-- why a journal is refused, by what its read answered
+abbrev pub IsRefusal : ReadAnswer → ℕ → ScriptRefusal → Type 0
+IsRefusal (read.TooLong taken) line r = (line ≡ 0) × (r ≡ refusal.TooLong)
+IsRefusal (read.Given bytes) line r = journal_of bytes ≡ Err (line, r)
+IsRefusal read.Failed line r = ⊥
+
+-- the first port was used for an update of the sink on the network of the journal's first entries, and no other was
+abbrev pub IsUpdated : {P : Type 0} → port.Ghosts P → Replay → List JournalEntry → Line → List P → List P → Type 0
+IsUpdated m c entries line old new = FirstOnly (Updates m (network_at c.count entries) (entries_at c.count entries) c.sink c.output line) old new
+
+-- how a run ended whose read was answered so, and what was done at the ports: they are called only for a journal
+abbrev pub EndsIn : {P : Type 0} → port.Ghosts P → Replay → Option ReadAnswer → Came → List P → List P → Type 0
+EndsIn m c None came.NoPort old new = (old ≡ []) × (new ≡ [])
+EndsIn m c None came.Memory old new = new ≡ old
+EndsIn m c (Some read.Failed) came.Unread old new = new ≡ old
+EndsIn m c (Some answer) (came.Refused line r) old new = IsRefusal answer line r × (new ≡ old)
+EndsIn m c (Some (read.Given bytes)) came.Memory old new = new ≡ old
+EndsIn m c (Some (read.Given bytes)) (came.Updated line) old new = (entries : List JournalEntry) × (journal_of bytes ≡ Ok entries) × IsUpdated m c entries line old new
+EndsIn m c answer ended old new = ⊥
+
+-- a run over a desk and ports; where there is no port the desk isn't used
+abbrev pub IsRan : {P : Type 0} → port.Ghosts P → Replay → Came → P → P → List P → List P → Type 0
+IsRan m c ended desk new_desk old new = (answer : Option ReadAnswer) × EndsIn m c answer ended old new × IsAsked m c.journal answer desk new_desk

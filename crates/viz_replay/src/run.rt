@@ -1,0 +1,53 @@
+//! One run of the words `scratch JOURNAL N SINK OUT`.
+
+ghost use Rattle.std.specs.Prelude.{◌≡◌, ◌≢◌, ◌⊎◌};
+ghost use Rattle.viz_base.specs.Faults.{Rose, one_more};
+ghost use Rattle.viz_once.specs.Promises.{FirstRose, OthersStay};
+ghost use Rattle.viz_replay.specs.declared.came.Came.{Came as End};
+ghost use Rattle.viz_replay.specs.Promises.{IsDone, IsRefused, IsFault, IsScript};
+ghost use Rattle.viz_replay.specs.Replay.{IsRan};
+ghost use Rattle.viz_replay.specs.Served.{replay_of};
+ghost use Rattle.viz_replay.specs.Told.{IsTold};
+
+use crate::report::report;
+use crate::serving::{Replay, serve};
+use std::alloc::Global;
+use viz_base::{Out, Port};
+use viz_once::Status;
+
+/// Writes the file of a node in the network of a journal's first entries, evaluated from scratch,
+/// by the first port, and puts one line.
+///
+/// The statuses and lines are those of docs/FORMATS.md, "Report".
+pub fn run_scratch<P: Port, O: Out>(
+    alloc: Global,
+    command: &Replay<'_>,
+    desk: &mut P,
+    ports: &mut Vec<P>,
+    out: &mut O,
+) -> Status
+    // What the run was: how it ended, and the line put of it.
+    ensures account { (came : End) × IsRan P.Port (replay_of command.now) came desk.old desk.new
+        ports.old.items ports.new.items × IsTold O.Out came result out.old out.new }
+
+    // What follows of it for each status.
+    ensures script { result ≡ Status.Script → IsScript P.Port O.Out (replay_of command.now)
+        desk.old desk.new ports.old.items ports.new.items out.old out.new }
+    ensures done { result ≡ Status.Done → IsDone P.Port O.Out (replay_of command.now)
+        desk.old desk.new ports.old.items ports.new.items out.old out.new }
+    ensures refused { result ≡ Status.Refused → IsRefused P.Port O.Out (replay_of command.now)
+        desk.old desk.new ports.old.items ports.new.items out.old out.new }
+    ensures fault { result ≡ Status.Fault → IsFault P.Port O.Out (replay_of command.now)
+        desk.old desk.new ports.old.items ports.new.items out.old out.new }
+    ensures cause { result ≡ Status.Fault → Rose (P.faults desk.old) (P.faults desk.new)
+        ⊎ (FirstRose P.Port ports.old.items ports.new.items
+        ⊎ Rose (O.faults out.old) (O.faults out.new)) }
+    ensures usage { result ≢ Status.Usage }
+
+    // What is called and changed, whatever the status.
+    ensures others { OthersStay ports.old.items ports.new.items }
+    ensures one_put { O.puts out.new ≡ one_more (O.puts out.old) }
+{
+    let came = serve(alloc, command, desk, ports);
+    report(alloc, out, &came)
+}

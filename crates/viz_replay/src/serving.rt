@@ -1,0 +1,90 @@
+//! A journal read, and its sink updated.
+
+ghost use Rattle.std.specs.Prelude.{◌≡◌, min, length, Ok};
+ghost use Rattle.viz_journal.specs.Reading.{journal_of};
+ghost use Rattle.viz_replay.specs.Replay.{EndsIn, IsRan, IsUpdated, entries_at};
+ghost use Rattle.viz_replay.specs.Served.{replay_of, IsServed};
+
+use crate::came::Came;
+use crate::network::network_of;
+use std::alloc::Global;
+use viz_account::update;
+use viz_base::{Port, ReadRefusal, Word};
+use viz_journal::{JournalEntry, read_journal};
+use viz_words::{ScriptRefusal, ScriptStop};
+
+/// The words of the command.
+#[derive(Clone, Copy, Debug)]
+pub struct Replay<'a> {
+    /// The journal's name at the desk.
+    pub journal: &'a str,
+    /// How many of its first entries count.
+    pub count: u32,
+    /// The node whose file is written.
+    pub sink: Word,
+    /// The name of that file.
+    pub output: Word,
+}
+
+/// How many entries count.
+fn entries_at(count: u32, entries: &[JournalEntry]) -> u32
+    ensures { result ≡ entries_at count entries.now }
+{
+    match u32::try_from(entries.len()) {
+        Ok(all) => count.min(all),
+        Err(_) => count,
+    }
+}
+
+/// Updates the sink by the first port.
+fn serve_entries<P: Port>(
+    alloc: Global,
+    command: &Replay<'_>,
+    entries: &[JournalEntry],
+    ports: &mut [P],
+) -> Came
+    ensures { IsServed P.Port (replay_of command.now) entries.now result ports.old ports.new }
+{
+    let [port, ..] = ports else {
+        return Came::Memory;
+    };
+    let Ok(net) = network_of(alloc, entries, command.count) else {
+        return Came::Memory;
+    };
+    let at = entries_at(command.count, entries);
+    Came::Updated(update(alloc, &net, at, port, &command.sink, &command.output))
+}
+
+/// Reads the journal from the desk, and updates the sink on the network of its first entries.
+pub fn serve<P: Port>(
+    alloc: Global,
+    command: &Replay<'_>,
+    desk: &mut P,
+    ports: &mut Vec<P>,
+) -> Came
+    ensures { IsRan P.Port (replay_of command.now) result desk.old desk.new
+        ports.old.items ports.new.items }
+{
+    if ports.is_empty() {
+        return Came::NoPort;
+    }
+    let bytes = match desk.read(alloc, command.journal) {
+        Ok(bytes) => bytes,
+        Err(ReadRefusal::Failed) => return Came::Unread,
+        Err(ReadRefusal::TooLong(_)) => {
+            return Came::Refused {
+                line: 0,
+                refusal: ScriptRefusal::TooLong,
+            };
+        }
+        Err(ReadRefusal::Memory) => return Came::Memory,
+    };
+    match read_journal(alloc, bytes.list()) {
+        Ok(entries) => {
+            drop(bytes);
+            serve_entries(alloc, command, &entries, ports)
+        }
+        Err(ScriptStop::Refused { line, refusal }) => Came::Refused { line, refusal },
+        Err(ScriptStop::Memory) => Came::Memory,
+    }
+}

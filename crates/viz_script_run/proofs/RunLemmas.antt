@@ -1,0 +1,309 @@
+-- The promises of a run of a script, from its account.
+use Rattle.std.proofs.Common.{◌≡◌, ◌≢◌, ℕ, ◌+◌, ◌≤◌, Bool, true, false, not, cond, ◌||◌, List, [], ◌∷◌, ◌++◌, Result, Ok, Err, refl, sym, ap, subst, ◌∙◌, inl, inr, true≢false, ⊎_elim, arith}
+use Rattle.std.specs.Prelude.{◌⊎◌, IsTrue, flat_map}
+use Rattle.std.specs.List.{list_any}
+use Rattle.std.proofs.lemmas.Bool.{or_cases}
+use Rattle.std.proofs.lemmas.List.Folds.{list_any-append}
+use Rattle.viz_base.specs.Faults.{Rose}
+use Rattle.viz_base.specs.Texts.{AppendsPrefix}
+use Rattle.viz_base.specs.declared.port.Port as port
+use Rattle.viz_base.specs.declared.out.Out as out
+use Rattle.viz_base.specs.declared.call.ReadAnswer.{ReadAnswer}
+use Rattle.viz_base.specs.declared.call.ReadAnswer.TheVariants as read
+use Rattle.viz_base.specs.declared.call.WriteAnswer.{WriteAnswer}
+use Rattle.viz_base.specs.declared.call.WriteAnswer.TheVariants as write
+use Rattle.viz_base.specs.declared.refusal.WriteRefusal.{WriteRefusal}
+use Rattle.viz_base.specs.declared.refusal.WriteRefusal.TheVariants as writing
+use Rattle.viz_core.specs.declared.entry.Entry.{Entry}
+use Rattle.viz_once.specs.Account.{TextAfter}
+use Rattle.viz_once.specs.Promises.{GainsLine, PutsLine}
+use Rattle.viz_once.specs.declared.outcome.Status.{Status}
+use Rattle.viz_once.specs.declared.outcome.Status.TheVariants as status
+use Rattle.viz_script.specs.Orders.{Asked as Command}
+use Rattle.viz_words.specs.declared.refusal.ScriptRefusal.{ScriptRefusal}
+use Rattle.viz_report.specs.declared.line.Line.{Line}
+use Rattle.viz_report.specs.declared.line.Line.TheVariants as line
+use Rattle.viz_report.specs.Report.{lines_text}
+use Rattle.viz_account.specs.Account.{faults_told, RoseBy, IsActor, AreActors}
+use Rattle.viz_script_run.specs.declared.ran.Ran.{Ran}
+use Rattle.viz_script_run.specs.declared.ran.Ran.TheVariants as ran
+use Rattle.viz_script_run.specs.Deeds.{Deed, Nothing, Asked, Kept, IsDoneAt, HasFailed, IsAccounted, IsServed, EndsIn, IsRan, actors_over, is_written}
+use Rattle.viz_script_run.specs.Told.{text_of, refused_script, is_memory, is_fault, is_refused, served_status, status_of, status_at_fault, status_after, HasMadeText, Settles, IsPut, IsTold}
+use Rattle.viz_script_run.specs.Promises.{IsRefusal, IsScriptRefused, IsServedBy, IsReported, IsServedWithFault, IsUnread, IsCutOff, SomeRose}
+
+abbrev pub Answer : Type 0
+Answer = Result (Unit {0}) WriteRefusal
+
+-- ---- what was told, and what the put answered, by the status
+
+-- statuses of lines, by what they have
+abbrev pub by_lines : Bool → Bool → Bool → Status
+by_lines memory fault refused = cond memory status.Memory (cond fault status.Fault (cond refused status.Refused status.Done))
+
+-- the lines' status with a fault, and without a journal
+abbrev pub HasFault : List Line → Bool → Type 0
+HasFault lines kept = (list_any is_memory lines ≡ false) × ((list_any is_fault lines || not kept) ≡ true)
+
+abbrev pub ToldBy : Ran → Answer → Status → Type 0
+ToldBy r a status.Done = (lines : List Line) × (r ≡ ran.Served lines true) × (served_status lines true ≡ status.Done) × (a ≡ Ok tt)
+ToldBy r a status.Refused = (lines : List Line) × (r ≡ ran.Served lines true) × (served_status lines true ≡ status.Refused) × (a ≡ Ok tt)
+ToldBy r a status.Script = (line : ℕ) × (why : ScriptRefusal) × (r ≡ ran.Refused line why) × ((a ≡ Err writing.Memory) → ⊥)
+ToldBy r a status.Fault =
+    ((r ≡ ran.Unread) × ((a ≡ Err writing.Memory) → ⊥))
+    ⊎ ((lines : List Line) × (kept : Bool) × (r ≡ ran.Served lines kept) × (list_any is_memory lines ≡ false)
+    × ((((list_any is_fault lines || not kept) ≡ true) × (a ≡ Ok tt)) ⊎ (a ≡ Err writing.Failed)))
+ToldBy r a status.Usage = ⊥
+ToldBy r a status.Memory = Unit {0}
+
+no_memory : (let a : Answer = Ok tt in a) ≡ Err writing.Memory → ⊥
+no_memory e = let bad : (let a : Answer = Ok tt in a) ≡ Err writing.Memory = e in cc
+
+failed_is_no_memory : (let a : Answer = Err writing.Failed in a) ≡ Err writing.Memory → ⊥
+failed_is_no_memory e = let bad : (let a : Answer = Err writing.Failed in a) ≡ Err writing.Memory = e in cc
+
+kept_all : (fault kept : Bool) → (fault || not kept) ≡ false → kept ≡ true
+kept_all fault true e = refl
+kept_all true false e = absurd (true≢false e)
+kept_all false false e = absurd (true≢false e)
+
+module _ (lines : List Line) (kept : Bool) where
+  status_is : (m f r : Bool) → list_any is_memory lines ≡ m → (list_any is_fault lines || not kept) ≡ f → list_any is_refused lines ≡ r
+      → served_status lines kept ≡ by_lines m f r
+  status_is m f r em ef er =
+      ap (λ (x : Bool). by_lines x (list_any is_fault lines || not kept) (list_any is_refused lines)) em
+      ∙ ap (λ (x : Bool). by_lines m x (list_any is_refused lines)) ef
+      ∙ ap (λ (x : Bool). by_lines m f x) er
+
+  whole : (ended : Status) → kept ≡ true → served_status lines kept ≡ ended → (r : Ran) → r ≡ ran.Served lines kept
+      → (all : List Line) × (r ≡ ran.Served all true) × (served_status all true ≡ ended) × ((let a : Answer = Ok tt in a) ≡ Ok tt)
+  whole ended kept_is is r e = (lines, e ∙ ap (λ (k : Bool). ran.Served lines k) kept_is, subst (λ (k : Bool). served_status lines k ≡ ended) kept_is is, refl)
+
+  served_told : (m f r : Bool) → list_any is_memory lines ≡ m → (list_any is_fault lines || not kept) ≡ f → list_any is_refused lines ≡ r
+      → ToldBy (ran.Served lines kept) (Ok tt) (by_lines m f r)
+  served_told true f r em ef er = tt
+  served_told false true r em ef er = inr (lines, kept, refl, em, inl (ef, refl))
+  served_told false false true em ef er =
+      whole status.Refused (kept_all (list_any is_fault lines) kept ef) (status_is false false true em ef er) (ran.Served lines kept) refl
+  served_told false false false em ef er =
+      whole status.Done (kept_all (list_any is_fault lines) kept ef) (status_is false false false em ef er) (ran.Served lines kept) refl
+
+  failed_told : (m : Bool) → list_any is_memory lines ≡ m → ToldBy (ran.Served lines kept) (Err writing.Failed) (cond m status.Memory status.Fault)
+  failed_told true em = tt
+  failed_told false em = inr (lines, kept, refl, em, inr refl)
+
+told_by : (r : Ran) (a : Answer) → ToldBy r a (status_after r a)
+told_by ran.Unread (Ok done) = inl (refl, no_memory)
+told_by ran.Unread (Err writing.Failed) = inl (refl, failed_is_no_memory)
+told_by ran.Unread (Err writing.Memory) = tt
+told_by (ran.Refused line why) (Ok done) = (line, why, refl, no_memory)
+told_by (ran.Refused line why) (Err writing.Failed) = (line, why, refl, failed_is_no_memory)
+told_by (ran.Refused line why) (Err writing.Memory) = tt
+told_by (ran.Served lines kept) (Ok done) = served_told lines kept (list_any is_memory lines) (list_any is_fault lines || not kept) (list_any is_refused lines) refl refl refl
+told_by (ran.Served lines kept) (Err writing.Failed) = failed_told lines kept (list_any is_memory lines) refl
+told_by (ran.Served lines kept) (Err writing.Memory) = tt
+told_by ran.Memory (Ok done) = tt
+told_by ran.Memory (Err writing.Failed) = tt
+told_by ran.Memory (Err writing.Memory) = tt
+
+told_at : (r : Ran) (a : Answer) (ended known : Status) → ended ≡ status_after r a → ended ≡ known → ToldBy r a known
+told_at r a ended known e is = subst (ToldBy r a) (sym e ∙ is) (told_by r a)
+
+-- what is told was found, where it isn't want of memory
+found_is : (found told o : Ran) → Settles found told → told ≡ o → (ran.Memory ≡ o → ⊥) → found ≡ o
+found_is found told o settles is apart = elim settles [
+  | inl same ↦ sym same ∙ is
+  | inr memory ↦ absurd (apart (sym memory.1 ∙ is))
+]
+
+-- ---- what was done, by how the run ended
+
+module _ {P : Type 0} (m : port.Ghosts P) (old new : List P) where
+  served_deed : (deed : Deed) (lines : List Line) (kept : Bool) → EndsIn m deed (ran.Served lines kept) old new
+      → (bytes : List ℕ) × (text : List ℕ) × (answer : WriteAnswer) × (deed ≡ Kept bytes text answer) × IsAccounted m bytes lines text old new × (kept ≡ is_written answer)
+  served_deed Nothing lines kept h = absurd h
+  served_deed (Asked read.Failed) lines kept h = absurd h
+  served_deed (Asked (read.TooLong taken)) lines kept h = absurd h
+  served_deed (Asked (read.Given bytes)) lines kept h = absurd h
+  served_deed (Kept bytes text answer) lines kept h = (bytes, text, answer, refl, h.0, h.1)
+
+  refused_deed : (deed : Deed) (line : ℕ) (why : ScriptRefusal) → EndsIn m deed (ran.Refused line why) old new
+      → (answer : ReadAnswer) × (deed ≡ Asked answer) × IsRefusal (actors_over old) answer line why × (new ≡ old)
+  refused_deed Nothing line why h = absurd h
+  refused_deed (Asked read.Failed) line why h = absurd h
+  refused_deed (Asked (read.TooLong taken)) line why h = (read.TooLong taken, refl, (h.0, h.1), h.2)
+  refused_deed (Asked (read.Given bytes)) line why h = (read.Given bytes, refl, h.0, h.1)
+  refused_deed (Kept bytes text answer) line why h = absurd h
+
+  unread_deed : (deed : Deed) → EndsIn m deed ran.Unread old new → (deed ≡ Asked read.Failed) × (new ≡ old)
+  unread_deed Nothing h = absurd h
+  unread_deed (Asked read.Failed) h = (refl, h)
+  unread_deed (Asked (read.TooLong taken)) h = absurd h
+  unread_deed (Asked (read.Given bytes)) h = absurd h
+  unread_deed (Kept bytes text answer) h = absurd h
+
+written_is : (answer : WriteAnswer) → true ≡ is_written answer → answer ≡ write.Written
+written_is write.Written e = refl
+written_is write.Failed e = absurd (true≢false e)
+
+failed_is : (answer : WriteAnswer) → not (is_written answer) ≡ true → answer ≡ write.Failed
+failed_is write.Written e = absurd (true≢false (sym e))
+failed_is write.Failed e = refl
+
+-- ---- the text
+
+module _ {O : Type 0} (m : out.Ghosts O) (text : List ℕ) (old new : O) where
+  gains : (a : Answer) → a ≡ Ok tt → IsPut m text a old new → GainsLine m text old new
+  gains a ok put = (subst (λ (b : Answer). IsPut m text b old new) ok put).text_after
+
+  puts : (a : Answer) → IsPut m text a old new → PutsLine m text old new
+  puts (Ok done) put = λ t. inl (put.text_after t)
+  puts (Err writing.Failed) put = λ t. inr (inl (put.cause refl, put.text_after t))
+  puts (Err writing.Memory) put = λ t. inr (inr (put.text_after t, put.answered))
+
+as_text : {O : Type 0} (m : out.Ghosts O) (told o : Ran) (a : Answer) (old new : O) → told ≡ o → IsPut m (text_of told) a old new → IsPut m (text_of o) a old new
+as_text m told o a old new is put = subst (λ (x : Ran). IsPut m (text_of x) a old new) is put
+
+-- ---- counts of faults
+
+one_fault : (ls : List Line) → list_any is_fault ls ≡ true → (n : ℕ) × (faults_told ls ≡ n + 1)
+one_fault [] e = absurd (true≢false (sym e))
+one_fault (line.ReadFault ∷ ls) e = (faults_told ls, refl)
+one_fault (line.WriteFault ∷ ls) e = (faults_told ls, refl)
+one_fault (line.Edit at ∷ ls) e = one_fault ls e
+one_fault (line.File at cells points ran ∷ ls) e = one_fault ls e
+one_fault (line.Refused reason at ∷ ls) e = one_fault ls e
+one_fault (line.Memory ∷ ls) e = one_fault ls e
+
+rose_by : (n old new : ℕ) → RoseBy (n + 1) old new → Rose old new
+rose_by n old new r = elim r.risen [
+  | inl more ↦ inl (omega (arith, more))
+  | inr most ↦ inr most
+]
+
+any_flat : (xs ys : List Line) → list_any is_fault (xs ++ ys) ≡ true → (list_any is_fault xs ≡ true) ⊎ (list_any is_fault ys ≡ true)
+any_flat xs ys e = or_cases (list_any is_fault xs) (list_any is_fault ys) (sym (list_any-append is_fault xs ys) ∙ e)
+
+module _ {P : Type 0} (m : port.Ghosts P) (limit : ℕ) (h : List Entry) (ends : List ℕ) where
+  some_rose : (passes : List (List ℕ)) (script : List (List (List Command))) (told : List (List (List Line))) (before after : List P)
+      → AreActors m limit h passes script told ends before after → list_any is_fault (flat_map (λ (phases : List (List Line)). flat_map (λ (ls : List Line). ls) phases) told) ≡ true → SomeRose m before after
+  some_rose [] [] [] before after a e = absurd (true≢false (sym e))
+  some_rose [] [] (l ∷ told) before after a e = absurd a
+  some_rose [] (s ∷ script) told before after a e = absurd a
+  some_rose (p ∷ passes) [] told before after a e = absurd a
+  some_rose (p ∷ passes) (s ∷ script) [] before after a e = absurd a
+  some_rose (p ∷ passes) (s ∷ script) (l ∷ told) [] after a e = absurd a
+  some_rose (p ∷ passes) (s ∷ script) (l ∷ told) (b ∷ before) [] a e = absurd a
+  some_rose (p ∷ passes) (s ∷ script) (l ∷ told) (b ∷ before) (c ∷ after) a e =
+      ⊎_elim (λ mine.
+        let f = one_fault (flat_map (λ (ls : List Line). ls) l) mine in
+        inl (rose_by f.0 (m.faults b) (m.faults c) (subst (λ (n : ℕ). RoseBy n (m.faults b) (m.faults c)) f.1 a.0.faults)))
+      (λ others. inr (some_rose passes script told before after a.1 others))
+      (any_flat (flat_map (λ (ls : List Line). ls) l) (flat_map (λ (phases : List (List Line)). flat_map (λ (ls : List Line). ls) phases) told) e)
+
+-- ---- the promises
+
+module _ {P O : Type 0} (m : port.Ghosts P) (o : out.Ghosts O) (script journal : List ℕ) (desk new_desk : P) (old new : List P) (before after : O) (ended : Status)
+    (found : Ran) (came : IsRan m script journal found desk new_desk old new) (telling : IsTold o found ended before after) where
+  deed_is : (deed : Deed) → came.0 ≡ deed → IsDoneAt m script journal deed desk new_desk
+  deed_is deed is = subst (λ (d : Deed). IsDoneAt m script journal d desk new_desk) is came.2
+
+  ends_in : (r : Ran) → found ≡ r → EndsIn m came.0 r old new
+  ends_in r is = subst (λ (x : Ran). EndsIn m came.0 x old new) is came.1
+
+  served_lines : (lines : List Line) (kept : Bool) → found ≡ ran.Served lines kept
+      → (answer : WriteAnswer) × IsServedBy m script journal lines answer desk new_desk old new × (kept ≡ is_written answer)
+  served_lines lines kept is =
+      let d = served_deed m old new came.0 lines kept (ends_in (ran.Served lines kept) is) in
+      (d.2, (d.0, d.1, d.4, deed_is (Kept d.0 d.1 d.2) d.3), d.5)
+
+  found_served : (lines : List Line) (kept : Bool) → telling.0 ≡ ran.Served lines kept → found ≡ ran.Served lines kept
+  found_served lines kept is = found_is found telling.0 (ran.Served lines kept) telling.2 is (λ e. let bad : ran.Memory ≡ ran.Served lines kept = e in cc)
+
+  text_put : (r : Ran) → telling.0 ≡ r → IsPut o (text_of r) telling.1 before after
+  text_put r is = as_text o telling.0 r telling.1 before after is telling.4
+
+  reported : (known : Status) → (lines : List Line) × (telling.0 ≡ ran.Served lines true) × (served_status lines true ≡ known) × (telling.1 ≡ Ok tt)
+      → IsReported m o script journal known desk new_desk old new before after
+  reported known t =
+      let s = served_lines t.0 true (found_served t.0 true t.1) in (
+        t.0,
+        subst (λ (answer : WriteAnswer). IsServedBy m script journal t.0 answer desk new_desk old new) (written_is s.0 s.2) s.1,
+        t.2,
+        gains o (lines_text 1 1 t.0) before after telling.1 t.3 (text_put (ran.Served t.0 true) t.1),
+      )
+
+  pub done : ended ≡ status.Done → IsReported m o script journal status.Done desk new_desk old new before after
+  done is = reported status.Done (told_at telling.0 telling.1 ended status.Done telling.3 is)
+
+  pub refused : ended ≡ status.Refused → IsReported m o script journal status.Refused desk new_desk old new before after
+  refused is = reported status.Refused (told_at telling.0 telling.1 ended status.Refused telling.3 is)
+
+  pub script_refused : ended ≡ status.Script → IsScriptRefused m o script journal desk new_desk old new before after
+  script_refused is =
+      let t = told_at telling.0 telling.1 ended status.Script telling.3 is in
+      let f = found_is found telling.0 (ran.Refused t.0 t.1) telling.2 t.2 (λ e. let bad : ran.Memory ≡ ran.Refused t.0 t.1 = e in cc) in
+      let d = refused_deed m old new came.0 t.0 t.1 (ends_in (ran.Refused t.0 t.1) f) in
+      (d.0, t.0, t.1, d.2, deed_is (Asked d.0) d.1, d.3, puts o (refused_script t.0 t.1) before after telling.1 (text_put (ran.Refused t.0 t.1) t.2))
+
+  unread : telling.0 ≡ ran.Unread → IsUnread m o script journal desk new_desk old new before after
+  unread is =
+      let f = found_is found telling.0 ran.Unread telling.2 is (λ e. let bad : ran.Memory ≡ ran.Unread = e in cc) in
+      let d = unread_deed m old new came.0 (ends_in ran.Unread f) in
+      (deed_is (Asked read.Failed) d.0, d.1, puts o (text_of ran.Unread) before after telling.1 (text_put ran.Unread is))
+
+  why : (lines : List Line) (kept : Bool) (answer : WriteAnswer) → kept ≡ is_written answer
+      → (((list_any is_fault lines || not kept) ≡ true) × (telling.1 ≡ Ok tt)) ⊎ (telling.1 ≡ Err writing.Failed)
+      → (list_any is_fault lines ≡ true) ⊎ ((answer ≡ write.Failed) ⊎ Rose (o.faults before) (o.faults after))
+  why lines kept answer is (inl t) =
+      ⊎_elim (λ (line : list_any is_fault lines ≡ true). inl line) (λ (lost : not kept ≡ true). inr (inl (failed_is answer (sym (ap not is) ∙ lost)))) (or_cases (list_any is_fault lines) (not kept) t.0)
+  why lines kept answer is (inr failed) = inr (inr (telling.4.cause failed))
+
+  pub fault : ended ≡ status.Fault → IsServedWithFault m o script journal desk new_desk old new before after ⊎ IsUnread m o script journal desk new_desk old new before after
+  fault is = elim (told_at telling.0 telling.1 ended status.Fault telling.3 is) [
+    | inl t ↦ inr (unread t.0)
+    | inr t ↦
+      let s = served_lines t.0 t.1 (found_served t.0 t.1 t.2) in
+      inl (t.0, s.0, s.1, t.3, why t.0 t.1 s.0 s.2 t.4, puts o (lines_text 1 1 t.0) before after telling.1 (text_put (ran.Served t.0 t.1) t.2))
+  ]
+
+  rose_in : (lines : List Line) (answer : WriteAnswer) → IsServedBy m script journal lines answer desk new_desk old new
+      → (list_any is_fault lines ≡ true) ⊎ ((answer ≡ write.Failed) ⊎ Rose (o.faults before) (o.faults after))
+      → Rose (m.faults desk) (m.faults new_desk) ⊎ (SomeRose m old new ⊎ Rose (o.faults before) (o.faults after))
+  rose_in lines answer s (inl line) =
+      inr (inl (some_rose m _ s.2.history s.2.account.ends s.2.account.passes _ s.2.told old new s.2.account.actors (sym (ap (list_any is_fault) s.2.lines_are) ∙ line)))
+  rose_in lines answer s (inr (inl lost)) = inl ((subst (λ (a : WriteAnswer). IsDoneAt m script journal (Kept s.0 s.1 a) desk new_desk) lost s.3).cause tt)
+  rose_in lines answer s (inr (inr text)) = inr (inr text)
+
+  pub cause : ended ≡ status.Fault → Rose (m.faults desk) (m.faults new_desk) ⊎ (SomeRose m old new ⊎ Rose (o.faults before) (o.faults after))
+  cause is = elim (fault is) [
+    | inl s ↦ rose_in s.0 s.1 s.2 s.4
+    | inr u ↦ inl (u.0.cause tt)
+  ]
+
+  cut_off_in : (deed : Deed) (r : Ran) → EndsIn m deed r old new → IsDoneAt m script journal deed desk new_desk → IsCutOff m script journal desk new_desk old new
+  cut_off_in Nothing ran.Memory h d = inl h
+  cut_off_in Nothing ran.Unread h d = absurd h
+  cut_off_in Nothing (ran.Refused line r) h d = absurd h
+  cut_off_in Nothing (ran.Served lines kept) h d = absurd h
+  cut_off_in (Asked read.Failed) ran.Unread h d = inl h
+  cut_off_in (Asked read.Failed) ran.Memory h d = absurd h
+  cut_off_in (Asked read.Failed) (ran.Refused line r) h d = absurd h
+  cut_off_in (Asked read.Failed) (ran.Served lines kept) h d = absurd h
+  cut_off_in (Asked (read.TooLong taken)) (ran.Refused line r) h d = inl h.2
+  cut_off_in (Asked (read.TooLong taken)) ran.Memory h d = absurd h
+  cut_off_in (Asked (read.TooLong taken)) ran.Unread h d = absurd h
+  cut_off_in (Asked (read.TooLong taken)) (ran.Served lines kept) h d = absurd h
+  cut_off_in (Asked (read.Given bytes)) (ran.Refused line r) h d = inl h.1
+  cut_off_in (Asked (read.Given bytes)) ran.Memory h d = elim h [ inl same ↦ inl same | inr served ↦ inr (inl (bytes, served, d)) ]
+  cut_off_in (Asked (read.Given bytes)) ran.Unread h d = absurd h
+  cut_off_in (Asked (read.Given bytes)) (ran.Served lines kept) h d = absurd h
+  cut_off_in (Kept bytes text answer) (ran.Served lines kept) h d = inr (inr (lines, answer, (bytes, text, h.0, d)))
+  cut_off_in (Kept bytes text answer) ran.Memory h d = absurd h
+  cut_off_in (Kept bytes text answer) ran.Unread h d = absurd h
+  cut_off_in (Kept bytes text answer) (ran.Refused line r) h d = absurd h
+
+  pub cut_off : IsCutOff m script journal desk new_desk old new
+  cut_off = cut_off_in came.0 found came.1 came.2
+
+  pub no_usage : ended ≢ status.Usage
+  no_usage is = told_at telling.0 telling.1 ended status.Usage telling.3 is

@@ -1,0 +1,104 @@
+-- What a run of a script did: at the desk, at the ports, and how it ended (docs/DEFINITIONS.md, "The account of a script").
+use Rattle.std.specs.Prelude.{◌≡◌, ℕ, ◌≤◌, Bool, true, false, List, [], ◌∷◌, ◌++◌, ◌⊎◌, flat_map, Option, Some, Result, Ok, Err, IsTrue}
+use Rattle.viz_base.specs.Faults.{Rose}
+use Rattle.viz_base.specs.Files.{Files, SameFiles, SameOthers}
+use Rattle.viz_base.specs.declared.port.Port as port
+use Rattle.viz_base.specs.declared.call.Call.{Call}
+use Rattle.viz_base.specs.declared.call.Call.TheVariants.{Read, Write}
+use Rattle.viz_base.specs.declared.call.ReadAnswer.{ReadAnswer}
+use Rattle.viz_base.specs.declared.call.ReadAnswer.TheVariants as read
+use Rattle.viz_base.specs.declared.call.WriteAnswer.{WriteAnswer}
+use Rattle.viz_base.specs.declared.call.WriteAnswer.TheVariants as write
+use Rattle.viz_core.specs.declared.entry.Entry.{Entry}
+use Rattle.viz_once.specs.Account.{TellsFile, LeavesText}
+use Rattle.viz_script.specs.Script.{Stepped, script_of, phase_limit}
+use Rattle.viz_words.specs.declared.refusal.ScriptRefusal.{ScriptRefusal}
+use Rattle.viz_words.specs.declared.refusal.ScriptRefusal.TheVariants as refusal
+use Rattle.viz_report.specs.declared.line.Line.{Line}
+use Rattle.viz_report.specs.Report.{lines_text, report}
+use Rattle.viz_account.specs.Account.{IsAccountOf}
+use Rattle.viz_script_run.specs.declared.ran.Ran.{Ran}
+use Rattle.viz_script_run.specs.declared.ran.Ran.TheVariants as ran
+use Rattle.viz_script_run.specs.Groups.{by_actor}
+use Rattle.viz_script_run.specs.Journals.{journal_of}
+
+-- ---- the desk
+
+-- what was done at the desk: no call that was answered; a read of the script; or that, and a write of the journal
+pub data Deed : Type 0 where
+  Nothing : Deed
+  Asked : ReadAnswer → Deed
+  Kept : List ℕ → List ℕ → WriteAnswer → Deed
+
+-- the calls of a deed, by the names of script and journal
+abbrev pub calls_of : List ℕ → List ℕ → Deed → List Call
+calls_of script journal Nothing = []
+calls_of script journal (Asked answer) = Read script answer ∷ []
+calls_of script journal (Kept bytes text answer) = Read script (read.Given bytes) ∷ Write journal text answer ∷ []
+
+-- the files around a deed: what was read stood there, what was written stands there, and all else is as before
+abbrev pub FilesAround : List ℕ → List ℕ → Deed → ℕ → Files → Files → Type 0
+FilesAround script journal Nothing limit old new = SameFiles old new
+FilesAround script journal (Asked answer) limit old new = TellsFile old limit script answer × SameFiles old new
+FilesAround script journal (Kept bytes text answer) limit old new = (old script ≡ Some bytes) × LeavesText journal text answer new × SameOthers journal old new
+
+-- a deed that ended with a failed call
+abbrev pub HasFailed : Deed → Type 0
+HasFailed (Asked read.Failed) = Unit {0}
+HasFailed (Kept bytes text write.Failed) = Unit {0}
+HasFailed deed = ⊥
+
+-- this was done at the desk: its calls and its files where it tells them, and its count of faults
+pub record IsDoneAt {P : Type 0} (m : port.Ghosts P) (script journal : List ℕ) (deed : Deed) (old new : P) : Type 0 where
+  pub calls : IsTrue m.tells_calls → m.calls new ≡ m.calls old ++ calls_of script journal deed
+  pub files : IsTrue m.tells_files → FilesAround script journal deed (m.limit old) (m.files old) (m.files new)
+  pub cause : HasFailed deed → Rose (m.faults old) (m.faults new)
+  pub later : m.faults old ≤ m.faults new
+  pub limit : m.limit new ≡ m.limit old
+
+-- ---- the ports
+
+-- how many actors a script may have over these ports: one, where there is a port
+abbrev pub actors_over : {P : Type 0} → List P → ℕ
+actors_over [] = 0
+actors_over (p ∷ ps) = 1
+
+-- the most entries of the history of a script
+abbrev pub history_limit : ℕ
+history_limit = 65536
+
+-- the account of the script of these bytes: a history, whose journal is this text, and a line for each command, whose report is that of these lines
+pub record IsAccounted {P : Type 0} (m : port.Ghosts P) (bytes : List ℕ) (lines : List Line) (text : List ℕ) (old new : List P) : Type 0 where
+  pub steps : List Stepped
+  pub history : List Entry
+  pub told : List (List (List Line))
+  pub reads : script_of (actors_over old) bytes ≡ Ok steps
+  pub account : IsAccountOf m history_limit (by_actor (actors_over old) phase_limit steps) history told old new
+  pub lines_are : lines ≡ flat_map (λ phases. flat_map (λ ls. ls) phases) told
+  pub report_is : lines_text 1 1 lines ≡ report phase_limit told
+  pub journal : text ≡ journal_of account.passes history
+
+-- ---- how it ended
+
+-- the script of these bytes was served, though memory ran out then
+abbrev pub IsServed : {P : Type 0} → port.Ghosts P → List ℕ → List P → List P → Type 0
+IsServed m bytes old new = (lines : List Line) × (text : List ℕ) × IsAccounted m bytes lines text old new
+
+-- whether a write was done
+abbrev pub is_written : WriteAnswer → Bool
+is_written write.Written = true
+is_written write.Failed = false
+
+-- how a run ended that did this at the desk, and what it did at the ports: they are called only for a script
+abbrev pub EndsIn : {P : Type 0} → port.Ghosts P → Deed → Ran → List P → List P → Type 0
+EndsIn m Nothing ran.Memory old new = new ≡ old
+EndsIn m (Asked read.Failed) ran.Unread old new = new ≡ old
+EndsIn m (Asked (read.TooLong taken)) (ran.Refused line r) old new = (line ≡ 0) × (r ≡ refusal.TooLong) × (new ≡ old)
+EndsIn m (Asked (read.Given bytes)) (ran.Refused line r) old new = (script_of (actors_over old) bytes ≡ Err (line, r)) × (new ≡ old)
+EndsIn m (Asked (read.Given bytes)) ran.Memory old new = (new ≡ old) ⊎ IsServed m bytes old new
+EndsIn m (Kept bytes text answer) (ran.Served lines kept) old new = IsAccounted m bytes lines text old new × (kept ≡ is_written answer)
+EndsIn m deed came old new = ⊥
+
+-- a run of a script over a desk and ports
+abbrev pub IsRan : {P : Type 0} → port.Ghosts P → List ℕ → List ℕ → Ran → P → P → List P → List P → Type 0
+IsRan m script journal came desk new_desk old new = (deed : Deed) × EndsIn m deed came old new × IsDoneAt m script journal deed desk new_desk

@@ -1,0 +1,75 @@
+-- What a run of a script promises of its status, its text, its calls and the files (docs/FORMATS.md, "Report").
+use Rattle.std.specs.Prelude.{◌≡◌, ℕ, true, false, List, [], ◌∷◌, ◌⊎◌, Err}
+use Rattle.std.specs.List.{list_any}
+use Rattle.viz_base.specs.Faults.{Rose}
+use Rattle.viz_base.specs.declared.port.Port as port
+use Rattle.viz_base.specs.declared.out.Out as out
+use Rattle.viz_base.specs.declared.call.ReadAnswer.{ReadAnswer}
+use Rattle.viz_base.specs.declared.call.ReadAnswer.TheVariants as read
+use Rattle.viz_base.specs.declared.call.WriteAnswer.{WriteAnswer}
+use Rattle.viz_base.specs.declared.call.WriteAnswer.TheVariants as write
+use Rattle.viz_once.specs.Promises.{GainsLine, PutsLine}
+use Rattle.viz_once.specs.Report.{read_fault_line}
+use Rattle.viz_once.specs.declared.outcome.Status.{Status}
+use Rattle.viz_once.specs.declared.outcome.Status.TheVariants as status
+use Rattle.viz_script.specs.Script.{script_of}
+use Rattle.viz_words.specs.declared.refusal.ScriptRefusal.{ScriptRefusal}
+use Rattle.viz_words.specs.declared.refusal.ScriptRefusal.TheVariants as refusal
+use Rattle.viz_report.specs.declared.line.Line.{Line}
+use Rattle.viz_report.specs.Report.{lines_text}
+use Rattle.viz_script_run.specs.Deeds.{Asked, Kept, IsDoneAt, IsAccounted, IsServed, actors_over, is_written}
+use Rattle.viz_script_run.specs.Told.{refused_script, served_status, is_memory, is_fault}
+
+-- ---- scripts that are refused
+
+-- why a script is refused, by what its read answered: it is too long for the desk, or isn't a script for so many actors
+abbrev pub IsRefusal : ℕ → ReadAnswer → ℕ → ScriptRefusal → Type 0
+IsRefusal actors (read.TooLong taken) line r = (line ≡ 0) × (r ≡ refusal.TooLong)
+IsRefusal actors (read.Given bytes) line r = script_of actors bytes ≡ Err (line, r)
+IsRefusal actors read.Failed line r = ⊥
+
+-- a run that answers Script: the script was read, and is refused for this; no port was called
+abbrev pub IsScriptRefused : {P O : Type 0} → port.Ghosts P → out.Ghosts O → List ℕ → List ℕ → P → P → List P → List P → O → O → Type 0
+IsScriptRefused m o script journal desk new_desk old new before after =
+    (answer : ReadAnswer) × (line : ℕ) × (r : ScriptRefusal) × IsRefusal (actors_over old) answer line r
+    × IsDoneAt m script journal (Asked answer) desk new_desk × (new ≡ old) × PutsLine o (refused_script line r) before after
+
+-- ---- scripts that are served
+
+-- the script was read, its commands were served by this account, the journal's write was answered so, and it is the last call of the desk
+abbrev pub IsServedBy : {P : Type 0} → port.Ghosts P → List ℕ → List ℕ → List Line → WriteAnswer → P → P → List P → List P → Type 0
+IsServedBy m script journal lines answer desk new_desk old new =
+    (bytes : List ℕ) × (text : List ℕ) × IsAccounted m bytes lines text old new × IsDoneAt m script journal (Kept bytes text answer) desk new_desk
+
+-- a run that answers Done or Refused: the journal was written, and the report put; the lines have this status
+abbrev pub IsReported : {P O : Type 0} → port.Ghosts P → out.Ghosts O → List ℕ → List ℕ → Status → P → P → List P → List P → O → O → Type 0
+IsReported m o script journal ended desk new_desk old new before after =
+    (lines : List Line) × IsServedBy m script journal lines write.Written desk new_desk old new × (served_status lines true ≡ ended)
+    × GainsLine o (lines_text 1 1 lines) before after
+
+-- a served script whose run had a fault: at a line, at the journal, or at the report; no line tells of want of memory
+abbrev pub IsServedWithFault : {P O : Type 0} → port.Ghosts P → out.Ghosts O → List ℕ → List ℕ → P → P → List P → List P → O → O → Type 0
+IsServedWithFault m o script journal desk new_desk old new before after =
+    (lines : List Line) × (answer : WriteAnswer) × IsServedBy m script journal lines answer desk new_desk old new × (list_any is_memory lines ≡ false)
+    × ((list_any is_fault lines ≡ true) ⊎ ((answer ≡ write.Failed) ⊎ Rose (o.faults before) (o.faults after)))
+    × PutsLine o (lines_text 1 1 lines) before after
+
+-- the script's read failed, no port was called, and that was told
+abbrev pub IsUnread : {P O : Type 0} → port.Ghosts P → out.Ghosts O → List ℕ → List ℕ → P → P → List P → List P → O → O → Type 0
+IsUnread m o script journal desk new_desk old new before after =
+    IsDoneAt m script journal (Asked read.Failed) desk new_desk × (new ≡ old) × PutsLine o read_fault_line before after
+
+-- a run that answers Memory: no port was called, or there is an account all the same, whose journal alone may have been written
+abbrev pub IsCutOff : {P : Type 0} → port.Ghosts P → List ℕ → List ℕ → P → P → List P → List P → Type 0
+IsCutOff m script journal desk new_desk old new =
+    (new ≡ old)
+    ⊎ (((bytes : List ℕ) × IsServed m bytes old new × IsDoneAt m script journal (Asked (read.Given bytes)) desk new_desk)
+    ⊎ ((lines : List Line) × (answer : WriteAnswer) × IsServedBy m script journal lines answer desk new_desk old new))
+
+-- ---- counts
+
+-- the count of faults of some port rose
+abbrev pub SomeRose : {P : Type 0} → port.Ghosts P → List P → List P → Type 0
+SomeRose m [] new = ⊥
+SomeRose m (p ∷ ps) [] = ⊥
+SomeRose m (p ∷ ps) (q ∷ qs) = Rose (m.faults p) (m.faults q) ⊎ SomeRose m ps qs

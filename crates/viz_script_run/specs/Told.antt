@@ -1,0 +1,108 @@
+-- The text that a run of a script puts, and its status (docs/FORMATS.md, "Report").
+use Rattle.std.specs.Prelude.{◌≡◌, ℕ, ◌≤◌, Bool, true, false, not, cond, ◌||◌, List, ◌++◌, ◌⊎◌, codes, Result, Ok, Err, IsTrue}
+use Rattle.std.specs.List.{list_any}
+use Rattle.std.specs.Fmt.{decimal}
+use Rattle.viz_base.specs.Faults.{Rose, one_more, answers_after}
+use Rattle.viz_base.specs.declared.out.Out as out
+use Rattle.viz_base.specs.declared.refusal.WriteRefusal.{WriteRefusal}
+use Rattle.viz_base.specs.declared.refusal.WriteRefusal.TheVariants as writing
+use Rattle.viz_once.specs.Account.{TextAfter}
+use Rattle.viz_once.specs.Report.{read_fault_line, memory_line}
+use Rattle.viz_once.specs.declared.outcome.Status.{Status}
+use Rattle.viz_once.specs.declared.outcome.Status.TheVariants as status
+use Rattle.viz_words.specs.declared.refusal.ScriptRefusal.{ScriptRefusal}
+use Rattle.viz_words.specs.declared.refusal.ScriptRefusal.TheVariants as refusal
+use Rattle.viz_report.specs.declared.line.Line.{Line}
+use Rattle.viz_report.specs.declared.line.Line.TheVariants as line
+use Rattle.viz_report.specs.Report.{lines_text}
+use Rattle.viz_script_run.specs.declared.ran.Ran.{Ran}
+use Rattle.viz_script_run.specs.declared.ran.Ran.TheVariants as ran
+
+-- ---- the text
+
+-- the word of a refusal
+abbrev pub refusal_word : ScriptRefusal → List ℕ
+refusal_word refusal.Word = codes "Word"
+refusal_word refusal.Arity = codes "Arity"
+refusal_word refusal.Number = codes "Number"
+refusal_word refusal.Name = codes "Name"
+refusal_word refusal.ActorRange = codes "ActorRange"
+refusal_word refusal.Phase = codes "Phase"
+refusal_word refusal.TooLong = codes "TooLong"
+refusal_word refusal.Edit = codes "Edit"
+
+-- the line of a script or journal that is refused
+unfoldable pub refused_script : ℕ → ScriptRefusal → List ℕ
+refused_script line r = codes "script line " ++ decimal line ++ codes " " ++ refusal_word r ++ codes "\n"
+
+-- the text of a run
+abbrev pub text_of : Ran → List ℕ
+text_of ran.Unread = read_fault_line
+text_of (ran.Refused line r) = refused_script line r
+text_of (ran.Served lines kept) = lines_text 1 1 lines
+text_of ran.Memory = memory_line
+
+-- ---- the status
+
+abbrev pub is_memory : Line → Bool
+is_memory line.Memory = true
+is_memory l = false
+
+abbrev pub is_fault : Line → Bool
+is_fault line.ReadFault = true
+is_fault line.WriteFault = true
+is_fault l = false
+
+abbrev pub is_refused : Line → Bool
+is_refused (line.Refused reason at) = true
+is_refused l = false
+
+-- the status of lines, the whole of which was put, by whether the journal was written: want of memory comes first, then faults, then refusals
+abbrev pub served_status : List Line → Bool → Status
+served_status lines kept = cond (list_any is_memory lines) status.Memory
+    (cond (list_any is_fault lines || not kept) status.Fault (cond (list_any is_refused lines) status.Refused status.Done))
+
+-- the status where the whole text was put
+abbrev pub status_of : Ran → Status
+status_of ran.Unread = status.Fault
+status_of (ran.Refused line r) = status.Script
+status_of (ran.Served lines kept) = served_status lines kept
+status_of ran.Memory = status.Memory
+
+-- the status where the put failed: a refused script and want of memory come first
+abbrev pub status_at_fault : Ran → Status
+status_at_fault ran.Unread = status.Fault
+status_at_fault (ran.Refused line r) = status.Script
+status_at_fault (ran.Served lines kept) = cond (list_any is_memory lines) status.Memory status.Fault
+status_at_fault ran.Memory = status.Memory
+
+-- the status of a run, by what the put of its text answered
+abbrev pub status_after : Ran → Result (Unit {0}) WriteRefusal → Status
+status_after r (Ok done) = status_of r
+status_after r (Err writing.Failed) = status_at_fault r
+status_after r (Err writing.Memory) = status.Memory
+
+-- ---- the put
+
+-- a run whose text takes memory
+abbrev pub HasMadeText : Ran → Type 0
+HasMadeText (ran.Refused line r) = Unit {0}
+HasMadeText (ran.Served lines kept) = Unit {0}
+HasMadeText r = ⊥
+
+-- the run that is told: want of memory, where memory ran out at the making of its text
+abbrev pub Settles : Ran → Ran → Type 0
+Settles found told = (told ≡ found) ⊎ (HasMadeText found × (told ≡ ran.Memory))
+
+-- a text was put once, with this answer
+pub record IsPut {O : Type 0} (m : out.Ghosts O) (text : List ℕ) (answer : Result (Unit {0}) WriteRefusal) (old new : O) : Type 0 where
+  pub text_after : IsTrue m.tells_text → TextAfter text answer (m.text old) (m.text new)
+  pub cause : answer ≡ Err writing.Failed → Rose (m.faults old) (m.faults new)
+  pub later : m.faults old ≤ m.faults new
+  pub once : m.puts new ≡ one_more (m.puts old)
+  pub answered : m.answered new ≡ answers_after (m.answered old) answer
+
+-- a run was told, and the status belongs to it
+abbrev pub IsTold : {O : Type 0} → out.Ghosts O → Ran → Status → O → O → Type 0
+IsTold m found ended old new =
+    (told : Ran) × (answer : Result (Unit {0}) WriteRefusal) × Settles found told × (ended ≡ status_after told answer) × IsPut m (text_of told) answer old new

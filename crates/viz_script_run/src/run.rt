@@ -1,0 +1,55 @@
+//! One run of a script.
+
+ghost use Rattle.std.specs.Prelude.{◌≡◌, ◌≢◌, ◌⊎◌};
+ghost use Rattle.viz_base.specs.Faults.{Rose, one_more};
+ghost use Rattle.viz_script_run.specs.declared.ran.Ran.{Ran as Came};
+ghost use Rattle.viz_script_run.specs.Deeds.{IsRan};
+ghost use Rattle.viz_script_run.specs.Promises.{IsScriptRefused, IsReported, IsServedWithFault, IsUnread, IsCutOff, SomeRose};
+ghost use Rattle.viz_script_run.specs.Told.{IsTold};
+
+use crate::report::report;
+use crate::serving::serve_script;
+use std::alloc::Global;
+use viz_base::{Out, Port};
+use viz_once::Status;
+
+/// Runs the script of this name: reads it from the desk, serves its commands by the ports, writes
+/// the journal of all accepted edits to the desk, and puts the report.
+///
+/// `ports` are the actors' ports, the first one's first. The statuses and texts are those of
+/// docs/FORMATS.md, "Report".
+pub fn run_script<P: Port, O: Out>(
+    alloc: Global,
+    script: &str,
+    journal: &str,
+    desk: &mut P,
+    ports: &mut Vec<P>,
+    out: &mut O,
+) -> Status
+    // What the run was: how far it came, and the text put of it.
+    ensures account { (ran : Came) × IsRan P.Port script.now journal.now ran desk.old desk.new
+        ports.old.items ports.new.items × IsTold O.Out ran result out.old out.new }
+
+    // What follows of it for each status.
+    ensures script { result ≡ Status.Script → IsScriptRefused P.Port O.Out script.now journal.now
+        desk.old desk.new ports.old.items ports.new.items out.old out.new }
+    ensures done { result ≡ Status.Done → IsReported P.Port O.Out script.now journal.now Status.Done
+        desk.old desk.new ports.old.items ports.new.items out.old out.new }
+    ensures refused { result ≡ Status.Refused → IsReported P.Port O.Out script.now journal.now
+        Status.Refused desk.old desk.new ports.old.items ports.new.items out.old out.new }
+    ensures fault { result ≡ Status.Fault
+        → IsServedWithFault P.Port O.Out script.now journal.now desk.old desk.new
+            ports.old.items ports.new.items out.old out.new
+        ⊎ IsUnread P.Port O.Out script.now journal.now desk.old desk.new
+            ports.old.items ports.new.items out.old out.new }
+    ensures cause { result ≡ Status.Fault → Rose (P.faults desk.old) (P.faults desk.new)
+        ⊎ (SomeRose P.Port ports.old.items ports.new.items
+        ⊎ Rose (O.faults out.old) (O.faults out.new)) }
+    ensures memory { result ≡ Status.Memory → IsCutOff P.Port script.now journal.now
+        desk.old desk.new ports.old.items ports.new.items }
+    ensures usage { result ≢ Status.Usage }
+    ensures one_put { O.puts out.new ≡ one_more (O.puts out.old) }
+{
+    let ran = serve_script(alloc, script, journal, desk, ports);
+    report(alloc, out, &ran)
+}
