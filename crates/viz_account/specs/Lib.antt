@@ -1,0 +1,6 @@
+pub mod Account
+pub mod Served
+pub mod Lines
+pub mod Written
+pub mod Counts
+pub mod Steps

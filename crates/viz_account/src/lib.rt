@@ -1,0 +1,19 @@
+//! The account of a script: a history, a line for each command, and what each actor did at its port.
+//!
+//! Contract: the commands of one actor are served in order over a core and a port, and their lines
+//! are an account of them; the text of lines is that of the report. Definitions:
+//! `specs/Account.antt`, `specs/Lines.antt`, `specs/Report.antt`; the rules are those of
+//! docs/FORMATS.md, "Reports".
+#![tactic(auto)]
+
+mod actor;
+mod counts;
+mod made;
+mod running;
+mod serving;
+mod updating;
+
+pub use actor::Actor;
+pub use viz_report::{Line, Reason};
+pub use serving::{serve, serve_all};
+pub use updating::update;
