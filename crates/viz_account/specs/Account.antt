@@ -56,9 +56,11 @@ faults_told (line.ReadFault ∷ ls) = faults_told ls + 1
 faults_told (line.WriteFault ∷ ls) = faults_told ls + 1
 faults_told (l ∷ ls) = faults_told ls
 
--- a count of faults rose by at least so much, or stands at the greatest count
-abbrev pub RoseBy : ℕ → ℕ → ℕ → Type 0
-RoseBy n old new = (old + n ≤ new) ⊎ (new ≡ most_faults)
+-- a count of faults rose by at least so much, or stands at the greatest count; it didn't fall, and is as before or within 64 bits
+pub record RoseBy (n old new : ℕ) : Type 0 where
+  pub risen : (old + n ≤ new) ⊎ (new ≡ most_faults)
+  pub later : old ≤ new
+  pub counted : (new ≡ old) ⊎ (new ≤ most_faults)
 
 -- ---- an actor, and all actors
 

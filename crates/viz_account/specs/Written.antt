@@ -40,7 +40,7 @@ Ascends (x ∷ y ∷ xs) = (x < y) × Ascends (y ∷ xs)
 pub record IsRan (net : Network) (sink ran : ℕ) : Type 0 where
   pub ids : List ℕ
   pub once : Ascends ids
-  pub all : (x : ℕ) → Contains x ids ↔ Runs net sink x
+  pub all : (x : ℕ) → Contains ids x ↔ Runs net sink x
   pub count : ran ≡ length ids
 
 -- the file of a node is this text, of so many cells and points, for which so many nodes run

@@ -3,8 +3,8 @@
 ghost use Rattle.std.specs.Prelude.{◌≡◌, IfSome};
 ghost use Rattle.viz_account.specs.Served.{Updates};
 
-use viz_report::{Line, Reason};
-use crate::made::{MakeStop, Made, made_of};
+use viz_report::Line;
+use crate::made::made_of;
 use std::alloc::Global;
 use viz_base::{Port, Word, WriteRefusal};
 use viz_network::Net;
@@ -28,21 +28,9 @@ pub fn update<P: Port>(
 ) -> Line
     ensures updates { Updates P.Port net.now at node.now file.now result port.old port.new }
 {
-    let made = match made_of(alloc, net, node) {
+    let made = match made_of(alloc, net, at, node) {
         Ok(made) => made,
-        Err(MakeStop::Unknown) => {
-            return Line::Refused {
-                reason: Reason::Unknown,
-                at,
-            };
-        }
-        Err(MakeStop::Fault { fault, node }) => {
-            return Line::Refused {
-                reason: Reason::Fault { fault, node },
-                at,
-            };
-        }
-        Err(MakeStop::Memory) => return Line::Memory,
+        Err(line) => return line,
     };
     let Some(name) = file_name(file) else {
         return Line::Memory;
