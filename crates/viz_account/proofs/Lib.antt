@@ -1,3 +1,5 @@
 mod HistoryLemmas
 mod AccountLemmas
 mod MadeLemmas
+mod AboveLemmas
+mod RanLemmas

@@ -1,6 +1,8 @@
 -- What an update writes: the file of a node, with the numbers that its line tells (docs/FORMATS.md, "Report").
-use Rattle.std.specs.Prelude.{◌≡◌, ◌↔◌, ℕ, ◌<◌, Bool, true, false, List, [], ◌∷◌, length, Some, Result, Ok}
+use Rattle.std.specs.Prelude.{◌≡◌, ◌↔◌, ℕ, Bool, true, false, List, length, Some, Result, Ok}
 use Rattle.std.specs.List.{Contains}
+use Rattle.std.specs.List.Sorted.{IsStrictlySortedBy}
+use Rattle.std.specs.Ordering.{nat_cmp}
 use Rattle.viz_dataset.specs.declared.dataset.Dataset.{Dataset}
 use Rattle.viz_kinds.specs.declared.settings.Settings.{Settings}
 use Rattle.viz_kinds.specs.declared.settings.Settings.TheVariants.{Writer}
@@ -30,16 +32,10 @@ pub record Runs (net : Network) (sink x : ℕ) : Type 0 where
   pub upstream : has_node x (cone_of net sink) ≡ true
   pub works : is_writer node.settings ≡ false
 
--- the numbers ascend strictly, so that none stands twice
-abbrev pub Ascends : List ℕ → Type 0
-Ascends [] = Unit {0}
-Ascends (x ∷ []) = Unit {0}
-Ascends (x ∷ y ∷ xs) = (x < y) × Ascends (y ∷ xs)
-
 -- how many nodes work for an update of the sink, each counted once
 pub record IsRan (net : Network) (sink ran : ℕ) : Type 0 where
   pub ids : List ℕ
-  pub once : Ascends ids
+  pub once : IsStrictlySortedBy nat_cmp ids
   pub all : (x : ℕ) → Contains ids x ↔ Runs net sink x
   pub count : ran ≡ length ids
 
