@@ -3,3 +3,4 @@ mod AccountLemmas
 mod MadeLemmas
 mod AboveLemmas
 mod RanLemmas
+mod CountLemmas
