@@ -4,3 +4,4 @@ mod MadeLemmas
 mod AboveLemmas
 mod RanLemmas
 mod CountLemmas
+mod ScriptLemmas

@@ -8,12 +8,14 @@
 
 mod actor;
 mod counts;
+mod laws;
 mod made;
 mod running;
 mod serving;
 mod updating;
 
 pub use actor::Actor;
+pub use laws::{accounts_hold_later, one_actor_is_accounted_for};
 pub use viz_report::{Line, Reason};
 pub use serving::{serve, serve_all};
 pub use updating::update;

@@ -1,0 +1,22 @@
+-- What follows for accounts (docs/DEFINITIONS.md, "The account of a script").
+use Rattle.std.specs.Prelude.{◌≡◌, ℕ, ◌+◌, ◌<◌, ◌≤◌, nat_eq, if◌then◌else◌, List, [], ◌∷◌, ◌++◌, length, flat_map}
+use Rattle.viz_base.specs.declared.call.Call.{Call}
+use Rattle.viz_base.specs.declared.port.Port as port
+use Rattle.viz_core.specs.declared.entry.Entry.{Entry}
+use Rattle.viz_core.specs.History.{own_of, IsLegal}
+use Rattle.viz_script.specs.Orders.{Asked}
+use Rattle.viz_report.specs.declared.line.Line.{Line}
+use Rattle.viz_account.specs.Account.{edited, AreTold, IsAccountOf}
+use Rattle.viz_account.specs.Served.{ServesAll}
+
+-- lines that tell of commands in a history tell of them in each longer one
+abbrev pub HoldLater : Type 0
+HoldLater = (limit : ℕ) (h more : List Entry) (passes : List ℕ) (low : ℕ) (os : List Asked) (ls : List Line) (calls : List Call) (last : ℕ)
+    → AreTold limit h passes low os ls calls last → AreTold limit (h ++ more) passes low os ls calls last
+
+-- the commands of one actor, served over a history that begins without entries and gains none but its own, are accounted for, in whatever phases they stand
+abbrev pub OneActor : {P : Type 0} → port.Ghosts P → Type 0
+OneActor {P} m = (limit pass : ℕ) (h : List Entry) (phases : List (List Asked)) (ls : List Line) (p q : P) (others : List P)
+    → IsLegal h → length h ≤ limit → own_of pass h ≡ h → ServesAll m limit pass (flat_map (λ os. os) phases) ls [] h p q
+    → (lines : List (List Line)) × (flat_map (λ l. l) lines ≡ ls) × (length lines ≡ length phases)
+    × IsAccountOf m limit (phases ∷ []) h (lines ∷ []) (p ∷ others) (q ∷ others)

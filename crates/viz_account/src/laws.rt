@@ -1,0 +1,17 @@
+//! Laws on accounts. A law is a function that does nothing: its contract holds of the definitions
+//! alone.
+
+ghost use Rattle.viz_account.specs.Laws.{HoldLater, OneActor};
+
+use viz_base::Port;
+
+/// Lines that tell of commands in a history tell of them in each longer one.
+pub fn accounts_hold_later()
+    ensures { HoldLater }
+{}
+
+/// What one actor did by `serve_all`, from a core without entries on, is the account of its script,
+/// in whatever phases its commands stand.
+pub fn one_actor_is_accounted_for<P: Port>()
+    ensures { OneActor P.Port }
+{}
