@@ -19,3 +19,6 @@ pub use laws::{accounts_hold_later, one_actor_is_accounted_for};
 pub use viz_report::{Line, Reason};
 pub use serving::{serve, serve_all};
 pub use updating::update;
+
+#[cfg(test)]
+mod tests;

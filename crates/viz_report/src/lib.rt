@@ -14,3 +14,5 @@ pub use laws::one_actor_is_reported_in_order;
 pub use line::{Line, Reason};
 pub use text::{put_lines, report_text};
 
+#[cfg(test)]
+mod tests;
