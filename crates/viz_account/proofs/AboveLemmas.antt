@@ -180,6 +180,7 @@ module _ (net : Network) (steps : List Step) (good : AreSteps net steps) (k : �
         forth x (j, m, inl w) = (j, m, inl (omega (arith, w.0), w.1))
         forth x (j, m, inr w) =
             ⊎_elim (λ (l : j < k). (j, m, inr (l, w.1))) (λ (g : k ≤ j). absurd (bare (subst (λ i. slice_get marks i ≡ Some true) (let e : j ≡ k = omega (arith, g, w.0) in e) m))) (cases_lt j k)
+
         back : (x : ℕ) → IsLeft net steps marks k x → IsLeft net steps marks (k + 1) x
         back x (j, m, inl w) =
             ⊎_elim (λ (l : k < j). (j, m, inl (omega (arith, l), w.1))) (λ (g : j ≤ k). absurd (bare (subst (λ i. slice_get marks i ≡ Some true) (let e : j ≡ k = omega (arith, g, w.0) in e) m))) (cases_lt k j)
@@ -191,14 +192,17 @@ module _ (net : Network) (steps : List Step) (good : AreSteps net steps) (k : �
       where
         new : List Bool
         new = all_marked marks s.inputs
+
         keep : (j : ℕ) → slice_get marks j ≡ Some true → slice_get new j ≡ Some true
         keep j m = all_keeps marks s.inputs j m
+
         here : (x : ℕ) → (x ≡ s.node.0) ⊎ Feeds net (nodes_of steps) x s.inputs → IsLeft net steps new k x
         here x (inl is) = (k, keep k mine, inl (omega arith, (s.node, node_at steps k s at, is)))
         here x (inr (i, p, id, there, found, h)) =
             let below = inputs_below i p there in
             let within = slice_get_within marks k true mine in
             (p, all_new marks s.inputs i p there (omega (arith, below, within)), inr (below, (id, found, h)))
+
         forth : (x : ℕ) → IsLeft net steps marks (k + 1) x → IsLeft net steps new k x
         forth x (j, m, inl w) = (j, keep j m, inl (omega (arith, w.0), w.1))
         forth x (j, m, inr (l, (id, found, h))) =
@@ -208,8 +212,10 @@ module _ (net : Network) (steps : List Step) (good : AreSteps net steps) (k : �
             let is : id ≡ s.node = same_node id (subst (λ i. slice_get (nodes_of steps) i ≡ Some id) e found) in
             here x (step_down x (subst (λ (z : NodeId). has_node x (cone_of net z.0) ≡ true) is h)))
             (cases_lt j k)
+
         whole : (x : ℕ) → has_node x (cone_of net s.node.0) ≡ true → IsLeft net steps marks (k + 1) x
         whole x h = (k, mine, inr (omega arith, (s.node, node_at steps k s at, h)))
+
         old : (x j : ℕ) → slice_get marks j ≡ Some true → ((k ≤ j) × IsAt steps j x) ⊎ ((j < k) × LiesAbove net steps j x) → IsLeft net steps marks (k + 1) x
         old x j m (inr w) = (j, m, inr (omega (arith, w.0), w.1))
         old x j m (inl (g, (id, found, is))) =
@@ -219,9 +225,11 @@ module _ (net : Network) (steps : List Step) (good : AreSteps net steps) (k : �
             let one : id ≡ s.node = same_node id (subst (λ i. slice_get (nodes_of steps) i ≡ Some id) e found) in
             whole x (step_here x (is ∙ ap (λ (z : NodeId). z.0) one)))
             (cases_lt k j)
+
         fresh : (x j i : ℕ) → slice_get s.inputs i ≡ Some (Some j) → ((k ≤ j) × IsAt steps j x) ⊎ ((j < k) × LiesAbove net steps j x) → IsLeft net steps marks (k + 1) x
         fresh x j i there (inl w) = let bad : ⊥ = omega (arith, w.0, inputs_below i j there) in absurd bad
         fresh x j i there (inr (l, (id, found, h))) = whole x (step_up x (i, j, id, there, found, h))
+
         back : (x : ℕ) → IsLeft net steps new k x → IsLeft net steps marks (k + 1) x
         back x (j, m, w) = ⊎_elim (λ (o : slice_get marks j ≡ Some true). old x j o w) (λ r. fresh x j r.0 r.1 w) (all_cases marks s.inputs j m)
 

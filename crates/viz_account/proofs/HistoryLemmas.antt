@@ -91,14 +91,17 @@ edits_told pass count e old new (answer.Done n) r =
       own = ap (places (pass ∷ [])) r.0.history ∙ places_grow pass old.history x (has_head pass []) ∙ ap (λ m. places (pass ∷ []) old.history ++ m ∷ []) (sym r.1);
       told = (
         n,
-        (refl, record {
-          index = length old.history;
-          entry = x;
-          place = r.1;
-          there = ap (λ t. slice_get t (length old.history)) r.0.history ∙ slice_get-end old.history x;
-          own = has_head pass [];
-          asked = refl;
-        }),
+        (
+          refl,
+          record {
+            index = length old.history;
+            entry = x;
+            place = r.1;
+            there = ap (λ t. slice_get t (length old.history)) r.0.history ∙ slice_get-end old.history x;
+            own = has_head pass [];
+            asked = refl;
+          },
+        ),
         omega (arith, r.1),
         omega (arith, len, r.1),
       );

@@ -5,3 +5,4 @@ mod AboveLemmas
 mod RanLemmas
 mod CountLemmas
 mod ScriptLemmas
+mod OnceLemmas

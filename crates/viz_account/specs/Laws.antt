@@ -20,3 +20,17 @@ OneActor {P} m = (limit pass : ℕ) (h : List Entry) (phases : List (List Asked)
     → IsLegal h → length h ≤ limit → own_of pass h ≡ h → ServesAll m limit pass (flat_map (λ os. os) phases) ls [] h p q
     → (lines : List (List Line)) × (flat_map (λ l. l) lines ≡ ls) × (length lines ≡ length phases)
     × IsAccountOf m limit (phases ∷ []) h (lines ∷ []) (p ∷ others) (q ∷ others)
+
+-- how often a number stands in a list
+abbrev pub times : ℕ → List ℕ → ℕ
+times n [] = 0
+times n (m ∷ ms) = if nat_eq n m then times n ms + 1 else times n ms
+
+-- the positions that all lines of edits tell, by actor and phase
+abbrev pub all_edited : List (List (List Line)) → List ℕ
+all_edited lines = flat_map (λ actor. flat_map (λ ls. flat_map edited ls) actor) lines
+
+-- each entry of an account's history is told by just one line
+abbrev pub EntriesAreToldOnce : {P : Type 0} → port.Ghosts P → Type 0
+EntriesAreToldOnce {P} m = (limit : ℕ) (script : List (List (List Asked))) (h : List Entry) (lines : List (List (List Line))) (before after : List P)
+    → IsAccountOf m limit script h lines before after → (k : ℕ) → k < length h → times (k + 1) (all_edited lines) ≡ 1

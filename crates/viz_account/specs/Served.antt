@@ -32,7 +32,7 @@ pub record Serves {P : Type 0} (m : port.Ghosts P) (limit pass : ℕ) (o : Asked
   pub further : Extends old new
   pub own : places (pass ∷ []) new ≡ places (pass ∷ []) old ++ edited l
   pub gained : (n : ℕ) × (mine : List Call) × (IsTrue m.tells_calls → m.calls after ≡ m.calls before ++ mine) × Tells limit new (pass ∷ []) n o l mine
-    × (least (length old) l ≤ n) × (n ≤ length new)
+      × (least (length old) l ≤ n) × (n ≤ length new)
   pub faults : RoseBy (faults_told (l ∷ [])) (m.faults before) (m.faults after)
 
 -- a list of commands by a pass, in order
@@ -40,7 +40,7 @@ pub record ServesAll {P : Type 0} (m : port.Ghosts P) (limit pass : ℕ) (os : L
   pub further : Extends old new
   pub own : places (pass ∷ []) new ≡ places (pass ∷ []) old ++ flat_map edited ls
   pub gained : (mine : List Call) × (last : ℕ) × (IsTrue m.tells_calls → m.calls after ≡ m.calls before ++ mine)
-    × AreTold limit new (pass ∷ []) (length old) os ls mine last × (last ≤ length new)
+      × AreTold limit new (pass ∷ []) (length old) os ls mine last × (last ≤ length new)
   pub faults : RoseBy (faults_told ls) (m.faults before) (m.faults after)
   pub idle : os ≡ [] → after ≡ before
 

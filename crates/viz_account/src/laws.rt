@@ -1,7 +1,7 @@
 //! Laws on accounts. A law is a function that does nothing: its contract holds of the definitions
 //! alone.
 
-ghost use Rattle.viz_account.specs.Laws.{HoldLater, OneActor};
+ghost use Rattle.viz_account.specs.Laws.{EntriesAreToldOnce, HoldLater, OneActor};
 
 use viz_base::Port;
 
@@ -14,4 +14,9 @@ pub fn accounts_hold_later()
 /// in whatever phases its commands stand.
 pub fn one_actor_is_accounted_for<P: Port>()
     ensures { OneActor P.Port }
+{}
+
+/// Each entry of an account's history is told by just one line, that of its edit.
+pub fn entries_are_told_once<P: Port>()
+    ensures { EntriesAreToldOnce P.Port }
 {}

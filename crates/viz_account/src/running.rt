@@ -42,14 +42,7 @@ fn mark_all(marks: &mut Vec<bool>, inputs: &[Option<usize>])
 }
 
 // Marks what feeds the step at this place, where the step has a mark.
-fn pass_on(
-    net: &Net,
-    steps: &[Step],
-    sink: usize,
-    place: usize,
-    step: &Step,
-    marks: &mut Vec<bool>,
-)
+fn pass_on(net: &Net, steps: &[Step], sink: usize, place: usize, step: &Step, marks: &mut Vec<bool>)
     requires steps { AreSteps net.now steps.now }
     requires at { slice_get steps.now place ≡ Some step.now }
     requires marks { AreMarks net.now steps.now sink (place + 1) marks.old.items }

@@ -7,12 +7,12 @@ ghost use Rattle.viz_account.specs.Served.{commands, IsCounted, GoesOnAlone, Ser
 ghost use Rattle.viz_account.specs.Steps.Edits.{line_of, count_after, Edits};
 
 use crate::actor::Actor;
-use viz_report::{Line, Reason};
 use crate::updating::{file_name, update};
 use std::alloc::{AllocError, Global};
 use viz_base::{Bytes, Port, ReadRefusal, Shared, Word};
 use viz_core::{Core, EditAnswer};
 use viz_network::Edit;
+use viz_report::{Line, Reason};
 use viz_script::{Order, Step};
 
 // The line of an edit's answer.
@@ -165,9 +165,11 @@ pub fn serve<P: Port>(
     match order {
         Order::Do(edit) => make_copy(core, actor, edit),
         Order::Load { node, file } => load(alloc, core, actor, port, node, file),
-        Order::Update { node, file, shape: _ } => {
-            update(alloc, core.net(), core.front(), port, node, file)
-        }
+        Order::Update {
+            node,
+            file,
+            shape: _,
+        } => { update(alloc, core.net(), core.front(), port, node, file) }
         Order::Audit { .. } => Line::Memory,
     }
 }

@@ -15,7 +15,8 @@ const CORNER: &str = "# vtk DataFile Version 5.1\nvtk output\nASCII\nDATASET STR
     LOOKUP_TABLE default\n0 0 0 0 0 0 0 9 \nMETADATA\nINFORMATION 0\n\n";
 
 // A mesh whose points are no whole numbers.
-const FLOATS: &str = "# vtk DataFile Version 3.0\nt\nASCII\nDATASET POLYDATA\nPOINTS 1 float\n0 0 0\n";
+const FLOATS: &str =
+    "# vtk DataFile Version 3.0\nt\nASCII\nDATASET POLYDATA\nPOINTS 1 float\n0 0 0\n";
 
 // The contour of the corner at 5.
 const SURFACE: &str = "# vtk DataFile Version 3.0\nvizrun fixed 10^-3\nASCII\nDATASET POLYDATA\n\
@@ -185,7 +186,13 @@ fn write_fails_midway(rt: HostRuntime) -> Result<(), Fail> {
     let alloc = rt.alloc();
     let mut port = port(alloc, FILE_LIMIT, Some(FailAt { call: 3, kept: 40 }))?;
     let script = "1 set iso levels 10\n1 update iso two.vtk 1 1\n";
-    goes_on(&rt, alloc, &mut port, script, "edit 1 7 at 6\nfault 1 8 write\n")?;
+    goes_on(
+        &rt,
+        alloc,
+        &mut port,
+        script,
+        "edit 1 7 at 6\nfault 1 8 write\n",
+    )?;
     holds(&rt, &port, "one.vtk", SURFACE);
     holds(&rt, &port, "two.vtk", &EMPTY[..40]);
     Ok(())

@@ -3,11 +3,11 @@
 ghost use Rattle.std.specs.Prelude.{◌≡◌, IfSome};
 ghost use Rattle.viz_account.specs.Served.{Updates};
 
-use viz_report::Line;
 use crate::made::made_of;
 use std::alloc::Global;
 use viz_base::{Port, Word, WriteRefusal};
 use viz_network::Net;
+use viz_report::Line;
 
 /// The name of a file as a port takes it; None where it is no text.
 pub fn file_name(file: &Word) -> Option<&str>

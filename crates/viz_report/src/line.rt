@@ -15,10 +15,7 @@ pub enum Reason {
     /// No node has the name of an update.
     Unknown,
     /// The node of an update has no file for this fault, of the node of this name.
-    Fault {
-        fault: Fault,
-        node: Word,
-    },
+    Fault { fault: Fault, node: Word },
 }
 
 /// What a command came to: a line of the report. `at` is the number of entries of the history that

@@ -69,7 +69,10 @@ fn a_fault_names_its_node(rt: HostRuntime) -> Result<(), Fail> {
         (Cause::WrongInput(1), "WrongInput(1)"),
         (Cause::GridsDiffer, "GridsDiffer"),
         (bad_file(FileKind::ValueRange), "BadFile(ValueRange,163)"),
-        (bad_file(FileKind::CellType(-4)), "BadFile(CellType(-4),163)"),
+        (
+            bad_file(FileKind::CellType(-4)),
+            "BadFile(CellType(-4),163)",
+        ),
     ] {
         let want = format!(in alloc; "refused 3 2 fault:src:{want} at 4")?;
         let reason = fault(cause)?;
