@@ -3,7 +3,7 @@
 //! Contract: the commands of one actor are served in order over a core and a port, and their lines
 //! are an account of them; the text of lines is that of the report. Definitions:
 //! `specs/Account.antt`, `specs/Lines.antt`, `specs/Report.antt`; the rules are those of
-//! docs/FORMATS.md, "Reports".
+//! docs/FORMATS.md, "Report".
 #![tactic(auto)]
 
 mod actor;

@@ -1,4 +1,4 @@
--- The text of a report (docs/FORMATS.md, "Reports").
+-- The text of a report (docs/FORMATS.md, "Report").
 use Rattle.std.specs.Prelude.{ℕ, zero, suc, ◌+◌, List, [], ◌∷◌, ◌++◌, length, map, codes}
 use Rattle.std.specs.Fmt.{decimal}
 use Rattle.viz_report.specs.declared.line.Line.{Line}

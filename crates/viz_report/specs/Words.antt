@@ -1,4 +1,4 @@
--- The words of a refused command (docs/FORMATS.md, "Reports").
+-- The words of a refused command (docs/FORMATS.md, "Report").
 use Rattle.std.specs.Prelude.{ℕ, List, ◌++◌, codes}
 use Rattle.std.specs.Fmt.{decimal, signed_decimal}
 use Rattle.viz_lex.specs.declared.fault.FileFault.{FileFault}

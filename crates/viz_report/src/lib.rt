@@ -2,7 +2,7 @@
 //!
 //! Contract: the text of lines is that of the definition, and that of several actors and phases is
 //! put together of it. Definitions: `specs/Report.antt`, `specs/Words.antt`; the rules are those of
-//! docs/FORMATS.md, "Reports".
+//! docs/FORMATS.md, "Report".
 #![tactic(auto)]
 
 mod laws;
