@@ -6,3 +6,4 @@ mod RanLemmas
 mod CountLemmas
 mod ScriptLemmas
 mod OnceLemmas
+mod NumberLemmas

@@ -108,7 +108,8 @@ hits_one x (ps ∷ passes) h =
     by false true none = refl
     by false false none = refl
 
-few : (ns : List ℕ) (h : List Entry) → length (entries_of by_of ns h) ≤ length h
+-- no more entries of passes than entries
+pub few : (ns : List ℕ) (h : List Entry) → length (entries_of by_of ns h) ≤ length h
 few ns [] = omega arith
 few ns (e ∷ h) = by (has e.pass ns) (few ns h)
   where

@@ -11,7 +11,7 @@ use Rattle.viz_report.specs.declared.line.Line.TheVariants as line
 use Rattle.viz_account.specs.Account.{edited, least, AreTold, ArePhases, places, faults_told, RoseBy, IsActor, IsAccountOf}
 use Rattle.viz_account.specs.Served.{ServesAll}
 
-least_low : (low n : ℕ) (l : Line) → least low l ≤ n → low ≤ n
+pub least_low : (low n : ℕ) (l : Line) → least low l ≤ n → low ≤ n
 least_low low n (line.Edit at) a = omega (arith, a)
 least_low low n (line.File at cells points ran) a = a
 least_low low n (line.Refused r at) a = a

@@ -6,6 +6,7 @@ use Rattle.viz_core.specs.declared.entry.Entry.{Entry}
 use Rattle.viz_core.specs.History.{own_of, IsLegal}
 use Rattle.viz_script.specs.Orders.{Asked}
 use Rattle.viz_report.specs.declared.line.Line.{Line}
+use Rattle.viz_report.specs.declared.line.Line.TheVariants as line
 use Rattle.viz_account.specs.Account.{edited, AreTold, IsAccountOf}
 use Rattle.viz_account.specs.Served.{ServesAll}
 
@@ -34,3 +35,19 @@ all_edited lines = flat_map (λ actor. flat_map (λ ls. flat_map edited ls) acto
 abbrev pub EntriesAreToldOnce : {P : Type 0} → port.Ghosts P → Type 0
 EntriesAreToldOnce {P} m = (limit : ℕ) (script : List (List (List Asked))) (h : List Entry) (lines : List (List (List Line))) (before after : List P)
     → IsAccountOf m limit script h lines before after → (k : ℕ) → k < length h → times (k + 1) (all_edited lines) ≡ 1
+
+-- the line shows this number, or none
+abbrev pub Shows : ℕ → Line → Type 0
+Shows n (line.Edit at) = at ≡ n
+Shows n (line.File at cells points ran) = at ≡ n
+Shows n (line.Refused reason at) = at ≡ n
+Shows n l = Unit {0}
+
+-- each line shows how many edits were accepted up to it, its own included; n of them were before
+abbrev pub CountEdits : ℕ → List Line → Type 0
+CountEdits n [] = Unit {0}
+CountEdits n (l ∷ ls) = Shows (n + length (edited l)) l × CountEdits (n + length (edited l)) ls
+
+-- where all entries are of one pass, its lines count its accepted edits
+abbrev pub LinesCountEdits : {P : Type 0} → port.Ghosts P → Type 0
+LinesCountEdits {P} m = (limit pass : ℕ) (h : List Entry) (os : List Asked) (ls : List Line) (p q : P) → own_of pass h ≡ h → ServesAll m limit pass os ls [] h p q → CountEdits 0 ls

@@ -1,7 +1,7 @@
 //! Laws on accounts. A law is a function that does nothing: its contract holds of the definitions
 //! alone.
 
-ghost use Rattle.viz_account.specs.Laws.{EntriesAreToldOnce, HoldLater, OneActor};
+ghost use Rattle.viz_account.specs.Laws.{EntriesAreToldOnce, HoldLater, LinesCountEdits, OneActor};
 
 use viz_base::Port;
 
@@ -19,4 +19,10 @@ pub fn one_actor_is_accounted_for<P: Port>()
 /// Each entry of an account's history is told by just one line, that of its edit.
 pub fn entries_are_told_once<P: Port>()
     ensures { EntriesAreToldOnce P.Port }
+{}
+
+/// The lines of one actor, from a core without entries on, show how many of its edits were accepted
+/// so far.
+pub fn lines_count_edits<P: Port>()
+    ensures { LinesCountEdits P.Port }
 {}

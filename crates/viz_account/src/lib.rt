@@ -15,7 +15,9 @@ mod serving;
 mod updating;
 
 pub use actor::Actor;
-pub use laws::{accounts_hold_later, entries_are_told_once, one_actor_is_accounted_for};
+pub use laws::{
+    accounts_hold_later, entries_are_told_once, lines_count_edits, one_actor_is_accounted_for,
+};
 pub use serving::{serve, serve_all};
 pub use updating::update;
 pub use viz_report::{Line, Reason};
