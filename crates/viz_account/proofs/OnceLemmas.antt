@@ -165,6 +165,7 @@ told_once m limit script h lines before after a k l = with_entry (entry_at h k l
     entry_at [] k l = let bad : ⊥ = omega (arith, l) in absurd bad
     entry_at (d ∷ h) zero l = (d, refl)
     entry_at (d ∷ h) (suc k) l = entry_at h k (omega (arith, l))
+
     with_entry : (e : Entry) × (slice_get h k ≡ Some e) → times (k + 1) (all_edited lines) ≡ 1
     with_entry (e, at) =
         ap (λ n. times n (all_edited lines)) (let s : k + 1 ≡ 1 + k = omega arith in s)

@@ -15,7 +15,7 @@ abbrev pub HoldLater : Type 0
 HoldLater = (limit : ℕ) (h more : List Entry) (passes : List ℕ) (low : ℕ) (os : List Asked) (ls : List Line) (calls : List Call) (last : ℕ)
     → AreTold limit h passes low os ls calls last → AreTold limit (h ++ more) passes low os ls calls last
 
--- the commands of one actor, served over a history that begins without entries and gains none but its own, are accounted for, in whatever phases they stand
+-- the commands of one actor, served from no entry on over a history that gains none but its own, are accounted for, in whatever phases
 abbrev pub OneActor : {P : Type 0} → port.Ghosts P → Type 0
 OneActor {P} m = (limit pass : ℕ) (h : List Entry) (phases : List (List Asked)) (ls : List Line) (p q : P) (others : List P)
     → IsLegal h → length h ≤ limit → own_of pass h ≡ h → ServesAll m limit pass (flat_map (λ os. os) phases) ls [] h p q
@@ -33,8 +33,9 @@ all_edited lines = flat_map (λ actor. flat_map (λ ls. flat_map edited ls) acto
 
 -- each entry of an account's history is told by just one line
 abbrev pub EntriesAreToldOnce : {P : Type 0} → port.Ghosts P → Type 0
-EntriesAreToldOnce {P} m = (limit : ℕ) (script : List (List (List Asked))) (h : List Entry) (lines : List (List (List Line))) (before after : List P)
-    → IsAccountOf m limit script h lines before after → (k : ℕ) → k < length h → times (k + 1) (all_edited lines) ≡ 1
+EntriesAreToldOnce {P} m = (limit : ℕ) (script : List (List (List Asked))) (h : List Entry) (lines : List (List (List Line)))
+    (before after : List P) → IsAccountOf m limit script h lines before after
+    → (k : ℕ) → k < length h → times (k + 1) (all_edited lines) ≡ 1
 
 -- the line shows this number, or none
 abbrev pub Shows : ℕ → Line → Type 0
@@ -50,4 +51,5 @@ CountEdits n (l ∷ ls) = Shows (n + length (edited l)) l × CountEdits (n + len
 
 -- where all entries are of one pass, its lines count its accepted edits
 abbrev pub LinesCountEdits : {P : Type 0} → port.Ghosts P → Type 0
-LinesCountEdits {P} m = (limit pass : ℕ) (h : List Entry) (os : List Asked) (ls : List Line) (p q : P) → own_of pass h ≡ h → ServesAll m limit pass os ls [] h p q → CountEdits 0 ls
+LinesCountEdits {P} m = (limit pass : ℕ) (h : List Entry) (os : List Asked) (ls : List Line) (p q : P) → own_of pass h ≡ h
+    → ServesAll m limit pass os ls [] h p q → CountEdits 0 ls

@@ -32,7 +32,8 @@ pub record IsEntry (h : List Entry) (passes : List ℕ) (n : ℕ) (e : Edit) : T
   pub own : has entry.pass passes ≡ true
   pub asked : entry.edit ≡ e
 
--- a line of number n, of an edit by one of these passes, in a history of at most so many entries: the edit is entry n, or the network of the first n entries refuses it, or n is that limit
+-- a line of number n, of an edit by one of these passes, in a history of at most so many entries: the edit is entry n, or the network
+-- of the first n entries refuses it, or n is that limit
 abbrev pub TellsEdit : ℕ → List Entry → List ℕ → ℕ → Edit → Line → Type 0
 TellsEdit limit h passes n e (line.Edit at) = (at ≡ n) × IsEntry h passes n e
 TellsEdit limit h passes n e (line.Refused (reason.Edit r) at) = (at ≡ n) × (apply (n + 1) e (network_at h n) ≡ Err r)
@@ -46,18 +47,23 @@ ReadsAtMost file calls = (calls ≡ []) ⊎ ((bytes : List ℕ) × (calls ≡ Re
 
 -- a load: its file was too long; or its read failed; or the line tells of the edit with the bytes that the port gave
 abbrev pub TellsLoad : ℕ → List Entry → List ℕ → ℕ → List ℕ → List ℕ → Line → List Call → Type 0
-TellsLoad limit h passes n node file (line.Refused reason.TooLong at) calls = (at ≡ n) × ((taken : ℕ) × (calls ≡ Read file (read.TooLong taken) ∷ []))
+TellsLoad limit h passes n node file (line.Refused reason.TooLong at) calls =
+    (at ≡ n) × ((taken : ℕ) × (calls ≡ Read file (read.TooLong taken) ∷ []))
 TellsLoad limit h passes n node file line.ReadFault calls = calls ≡ Read file read.Failed ∷ []
 TellsLoad limit h passes n node file line.Memory calls = ReadsAtMost file calls
-TellsLoad limit h passes n node file l calls = (bytes : List ℕ) × TellsEdit limit h passes n (edits.Load node bytes) l × (calls ≡ Read file (read.Given bytes) ∷ [])
+TellsLoad limit h passes n node file l calls =
+    (bytes : List ℕ) × TellsEdit limit h passes n (edits.Load node bytes) l × (calls ≡ Read file (read.Given bytes) ∷ [])
 
--- an update on the network of the first n entries: the file of its node was written; or its node is unknown; or has no file; or the write of its file failed
+-- an update on the network of the first n entries: the file of its node was written; or its node is unknown; or has no file; or the
+-- write of its file failed
 abbrev pub TellsUpdate : Network → ℕ → List ℕ → List ℕ → Line → List Call → Type 0
 TellsUpdate net n node file (line.File at cells points ran) calls =
-    (at ≡ n) × ((x : Node) × (text : List ℕ) × (named net node ≡ Some x) × IsWritten net x.id.0 text cells points ran × (calls ≡ Write file text write.Written ∷ []))
+    (at ≡ n) × ((x : Node) × (text : List ℕ) × (named net node ≡ Some x) × IsWritten net x.id.0 text cells points ran
+    × (calls ≡ Write file text write.Written ∷ []))
 TellsUpdate net n node file (line.Refused reason.Unknown at) calls = (at ≡ n) × (named net node ≡ None) × (calls ≡ [])
 TellsUpdate net n node file (line.Refused (reason.Fault fault name) at) calls =
-    (at ≡ n) × ((x : Node) × (named net node ≡ Some x) × IsFileOf net x.id.0 (Err fault)) × (name_of net fault.node.0 ≡ Some name) × (calls ≡ [])
+    (at ≡ n) × ((x : Node) × (named net node ≡ Some x) × IsFileOf net x.id.0 (Err fault))
+    × (name_of net fault.node.0 ≡ Some name) × (calls ≡ [])
 TellsUpdate net n node file line.WriteFault calls =
     (x : Node) × (text : List ℕ) × (named net node ≡ Some x) × IsFileOf net x.id.0 (Ok text) × (calls ≡ Write file text write.Failed ∷ [])
 TellsUpdate net n node file line.Memory calls = calls ≡ []

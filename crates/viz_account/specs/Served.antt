@@ -23,20 +23,23 @@ abbrev pub Extends : List Entry → List Entry → Type 0
 Extends old new = (more : List Entry) × (new ≡ old ++ more)
 
 -- an update of a node of this network, which n entries made: what its line says, and what the port gained
-pub record Updates {P : Type 0} (m : port.Ghosts P) (net : Network) (n : ℕ) (node file : List ℕ) (l : Line) (before after : P) : Type 0 where
+pub record Updates {P : Type 0} (m : port.Ghosts P) (net : Network) (n : ℕ) (node file : List ℕ) (l : Line)
+    (before after : P) : Type 0 where
   pub gained : (mine : List Call) × (IsTrue m.tells_calls → m.calls after ≡ m.calls before ++ mine) × TellsUpdate net n node file l mine
   pub faults : RoseBy (faults_told (l ∷ [])) (m.faults before) (m.faults after)
 
 -- one command by a pass: entries that it has seen before and after, its line, and what the port gained
-pub record Serves {P : Type 0} (m : port.Ghosts P) (limit pass : ℕ) (o : Asked) (l : Line) (old new : List Entry) (before after : P) : Type 0 where
+pub record Serves {P : Type 0} (m : port.Ghosts P) (limit pass : ℕ) (o : Asked) (l : Line) (old new : List Entry)
+    (before after : P) : Type 0 where
   pub further : Extends old new
   pub own : places (pass ∷ []) new ≡ places (pass ∷ []) old ++ edited l
-  pub gained : (n : ℕ) × (mine : List Call) × (IsTrue m.tells_calls → m.calls after ≡ m.calls before ++ mine) × Tells limit new (pass ∷ []) n o l mine
-      × (least (length old) l ≤ n) × (n ≤ length new)
+  pub gained : (n : ℕ) × (mine : List Call) × (IsTrue m.tells_calls → m.calls after ≡ m.calls before ++ mine)
+      × Tells limit new (pass ∷ []) n o l mine × (least (length old) l ≤ n) × (n ≤ length new)
   pub faults : RoseBy (faults_told (l ∷ [])) (m.faults before) (m.faults after)
 
 -- a list of commands by a pass, in order
-pub record ServesAll {P : Type 0} (m : port.Ghosts P) (limit pass : ℕ) (os : List Asked) (ls : List Line) (old new : List Entry) (before after : P) : Type 0 where
+pub record ServesAll {P : Type 0} (m : port.Ghosts P) (limit pass : ℕ) (os : List Asked) (ls : List Line)
+    (old new : List Entry) (before after : P) : Type 0 where
   pub further : Extends old new
   pub own : places (pass ∷ []) new ≡ places (pass ∷ []) old ++ flat_map edited ls
   pub gained : (mine : List Call) × (last : ℕ) × (IsTrue m.tells_calls → m.calls after ≡ m.calls before ++ mine)

@@ -1,4 +1,4 @@
-//! The account of a script: a history, a line for each command, and what each actor did at its port.
+//! The account of a script: a history, a line for each command, and the calls of each actor's port.
 //!
 //! Contract: the commands of one actor are served in order over a core and a port, and their lines
 //! are an account of them; the text of lines is that of the report. Definitions:

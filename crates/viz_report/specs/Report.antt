@@ -75,7 +75,8 @@ later_phases ((ls ∷ phases) ∷ actors) = phases ∷ later_phases actors
 -- the lines of so many phases
 abbrev pub phases_text : ℕ → List ℕ → List (List (List Line)) → List ℕ
 phases_text zero counts lines = []
-phases_text (suc phases) counts lines = phase_text 1 counts (first_phase lines) ++ phases_text phases (next_counts counts (first_phase lines)) (later_phases lines)
+phases_text (suc phases) counts lines =
+    phase_text 1 counts (first_phase lines) ++ phases_text phases (next_counts counts (first_phase lines)) (later_phases lines)
 
 -- the report of lines that are given by actor and phase: by phase, then by actor, then in the order of the script
 abbrev pub report : ℕ → List (List (List Line)) → List ℕ
