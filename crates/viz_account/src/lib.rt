@@ -1,9 +1,8 @@
 //! The account of a script: a history, a line for each command, and the calls of each actor's port.
 //!
 //! Contract: the commands of one actor are served in order over a core and a port, and their lines
-//! are an account of them; the text of lines is that of the report. Definitions:
-//! `specs/Account.antt`, `specs/Lines.antt`, `specs/Report.antt`; the rules are those of
-//! docs/FORMATS.md, "Report".
+//! are an account of them. Definitions: `specs/Account.antt`, `specs/Lines.antt`; the rules are
+//! those of docs/FORMATS.md, "Report".
 #![tactic(auto)]
 
 mod actor;

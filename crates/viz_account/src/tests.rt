@@ -28,6 +28,9 @@ const SURFACE: &str = "# vtk DataFile Version 3.0\nvizrun fixed 10^-3\nASCII\nDA
 const EMPTY: &str = "# vtk DataFile Version 3.0\nvizrun fixed 10^-3\nASCII\nDATASET POLYDATA\n\
     POINTS 0 long\nPOLYGONS 0 0\n";
 
+// The first 40 bytes of it.
+const BEGUN: &str = "# vtk DataFile Version 3.0\nvizrun fixed ";
+
 // The two points with the values 0 and 9 of a corner's side, and two more.
 const CROPPED: &str = "# vtk DataFile Version 3.0\nvizrun image\nASCII\nDATASET STRUCTURED_POINTS\n\
     DIMENSIONS 1 2 2\nORIGIN 1 0 0\nSPACING 1 1 1\nPOINT_DATA 4\nSCALARS scalars int 1\n\
@@ -72,7 +75,7 @@ fn serve(
     Ok(serve_all(alloc, &mut core, &mut actor, port, &script.steps)?)
 }
 
-// The script, whose front is SIX where it says so, has this report.
+// The script has this report.
 fn reports(
     rt: &impl Abort,
     alloc: Global,
@@ -86,7 +89,7 @@ fn reports(
     Ok(())
 }
 
-// The same behind SIX.
+// The same behind the first six commands.
 fn goes_on(
     rt: &impl Abort,
     alloc: Global,
@@ -194,6 +197,6 @@ fn write_fails_midway(rt: HostRuntime) -> Result<(), Fail> {
         "edit 1 7 at 6\nfault 1 8 write\n",
     )?;
     holds(&rt, &port, "one.vtk", SURFACE);
-    holds(&rt, &port, "two.vtk", &EMPTY[..40]);
+    holds(&rt, &port, "two.vtk", BEGUN);
     Ok(())
 }
