@@ -1,5 +1,7 @@
 //! Scripts of one actor over files in memory: reports and files, counted by hand.
 
+ghost use Rattle.std.specs.Prelude.{◌<◌};
+
 use crate::{Actor, Line, serve_all};
 use std::alloc::Global;
 use std::process::Abort;
