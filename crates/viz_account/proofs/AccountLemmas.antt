@@ -1,0 +1,176 @@
+-- What an account says still holds of a longer history, and of one command more.
+use Rattle.std.proofs.Common.{◌≡◌, ℕ, zero, suc, ◌+◌, ◌-◌, ◌^◌, ◌<◌, ◌≤◌, ◌⊎◌, inl, inr, ⊎_elim, IsTrue, Bool, true, false, List, [], ◌∷◌, ◌++◌, length, length-append, take, slice_get, append_assoc, append-nil, flat_map, Option, None, Some, Result, Ok, Err, refl, sym, ap, subst, ◌∙◌, arith}
+use Rattle.std.proofs.lemmas.List.{take-append-le}
+use Rattle.viz_base.specs.Faults.{most_faults, Rose}
+use Rattle.viz_base.specs.declared.call.Call.{Call}
+use Rattle.viz_base.specs.declared.port.Port as port
+use Rattle.viz_network.specs.declared.edit.Edit.{Edit}
+use Rattle.viz_network.specs.declared.edit.Edit.TheVariants as edits
+use Rattle.viz_network.specs.Edits.{apply}
+use Rattle.viz_core.specs.declared.entry.Entry.{Entry}
+use Rattle.viz_core.specs.History.{network_of}
+use Rattle.viz_script.specs.Orders.{Asked, edit, load, update, audit}
+use Rattle.viz_report.specs.declared.line.Line.{Line}
+use Rattle.viz_report.specs.declared.line.Line.TheVariants as line
+use Rattle.viz_report.specs.declared.line.Reason.TheVariants as reason
+use Rattle.viz_account.specs.Lines.{network_at, IsEntry, TellsEdit, TellsLoad, TellsUpdate, Tells}
+use Rattle.viz_account.specs.Account.{edited, least, AreTold, places, faults_told, RoseBy}
+use Rattle.viz_account.specs.Served.{Extends, Serves, ServesAll}
+
+-- ---- a longer history
+
+-- an entry stays where it is
+slice_get-more : (h more : List Entry) (k : ℕ) (e : Entry) → slice_get h k ≡ Some e → slice_get (h ++ more) k ≡ Some e
+slice_get-more [] more k e p = let bad : ⊥ = cc in absurd bad
+slice_get-more (d ∷ h) more zero e p = p
+slice_get-more (d ∷ h) more (suc k) e p = slice_get-more h more k e p
+
+longer : (h more : List Entry) (n : ℕ) → n ≤ length h → n ≤ length (h ++ more)
+longer h more n p = omega (arith, p, length-append h more)
+
+network_more : (h more : List Entry) (n : ℕ) → n ≤ length h → network_at h n ≡ network_at (h ++ more) n
+network_more h more n b = ap network_of (sym (take-append-le n h more b))
+
+edit_more : (limit : ℕ) (h more : List Entry) (ps : List ℕ) (n : ℕ) (e : Edit) (l : Line) → n ≤ length h → TellsEdit limit h ps n e l → TellsEdit limit (h ++ more) ps n e l
+edit_more limit h more ps n e (line.Edit at) b t =
+    (t.0, record { index = t.1.index; entry = t.1.entry; place = t.1.place; there = slice_get-more h more t.1.index t.1.entry t.1.there; own = t.1.own; asked = t.1.asked })
+edit_more limit h more ps n e (line.Refused (reason.Edit r) at) b t = (t.0, subst (λ g. apply (n + 1) e g ≡ Err r) (network_more h more n b) t.1)
+edit_more limit h more ps n e (line.Refused reason.Full at) b t = t
+edit_more limit h more ps n e line.Memory b t = tt
+edit_more limit h more ps n e (line.Refused reason.TooLong at) b t = absurd t
+edit_more limit h more ps n e (line.Refused reason.Unknown at) b t = absurd t
+edit_more limit h more ps n e (line.Refused (reason.Fault f node) at) b t = absurd t
+edit_more limit h more ps n e (line.File at cells points ran) b t = absurd t
+edit_more limit h more ps n e line.ReadFault b t = absurd t
+edit_more limit h more ps n e line.WriteFault b t = absurd t
+
+load_more : (limit : ℕ) (h more : List Entry) (ps : List ℕ) (n : ℕ) (node file : List ℕ) (l : Line) (calls : List Call) → n ≤ length h
+    → TellsLoad limit h ps n node file l calls → TellsLoad limit (h ++ more) ps n node file l calls
+load_more limit h more ps n node file (line.Refused reason.TooLong at) calls b t = t
+load_more limit h more ps n node file line.ReadFault calls b t = t
+load_more limit h more ps n node file line.Memory calls b t = t
+load_more limit h more ps n node file (line.Edit at) calls b t = (t.0, edit_more limit h more ps n (edits.Load node t.0) (line.Edit at) b t.1, t.2)
+load_more limit h more ps n node file (line.Refused (reason.Edit r) at) calls b t = (t.0, edit_more limit h more ps n (edits.Load node t.0) (line.Refused (reason.Edit r) at) b t.1, t.2)
+load_more limit h more ps n node file (line.Refused reason.Full at) calls b t = (t.0, edit_more limit h more ps n (edits.Load node t.0) (line.Refused reason.Full at) b t.1, t.2)
+load_more limit h more ps n node file (line.Refused reason.Unknown at) calls b t = absurd t.1
+load_more limit h more ps n node file (line.Refused (reason.Fault f name) at) calls b t = absurd t.1
+load_more limit h more ps n node file (line.File at cells points ran) calls b t = absurd t.1
+load_more limit h more ps n node file line.WriteFault calls b t = absurd t.1
+
+tells_more : (limit : ℕ) (h more : List Entry) (ps : List ℕ) (n : ℕ) (o : Asked) (l : Line) (calls : List Call) → n ≤ length h
+    → Tells limit h ps n o l calls → Tells limit (h ++ more) ps n o l calls
+tells_more limit h more ps n (edit e) l calls b t = (edit_more limit h more ps n e l b t.0, t.1)
+tells_more limit h more ps n (load node file) l calls b t = load_more limit h more ps n node file l calls b t
+tells_more limit h more ps n (update node file pieces workers) l calls b t = subst (λ g. TellsUpdate g n node file l calls) (network_more h more n b) t
+tells_more limit h more ps n (audit node pieces workers) l calls b t = t
+
+-- an account holds of each longer history
+pub told_longer : (limit : ℕ) (h more : List Entry) (ps : List ℕ) (low : ℕ) (os : List Asked) (ls : List Line) (calls : List Call) (last : ℕ)
+    → AreTold limit h ps low os ls calls last → AreTold limit (h ++ more) ps low os ls calls last
+told_longer limit h more ps low [] [] calls last t = t
+told_longer limit h more ps low [] (l ∷ ls) calls last t = t
+told_longer limit h more ps low (o ∷ os) [] calls last t = t
+told_longer limit h more ps low (o ∷ os) (l ∷ ls) calls last t =
+    (t.0, t.1, t.2, t.3, tells_more limit h more ps t.0 o l t.1 t.6 t.4, t.5, longer h more t.0 t.6, told_longer limit h more ps t.0 os ls t.2 last t.7)
+
+-- ---- one command more
+
+least_up : (low mid n : ℕ) (l : Line) → low ≤ mid → least mid l ≤ n → least low l ≤ n
+least_up low mid n (line.Edit at) a b = omega (arith, a, b)
+least_up low mid n (line.File at cells points ran) a b = omega (arith, a, b)
+least_up low mid n (line.Refused r at) a b = omega (arith, a, b)
+least_up low mid n line.ReadFault a b = omega (arith, a, b)
+least_up low mid n line.WriteFault a b = omega (arith, a, b)
+least_up low mid n line.Memory a b = omega (arith, a, b)
+
+-- an account with one command more
+pub told_snoc : (limit : ℕ) (h : List Entry) (ps : List ℕ) (low : ℕ) (os : List Asked) (ls : List Line) (calls : List Call) (last n : ℕ) (o : Asked) (l : Line) (mine : List Call)
+    → AreTold limit h ps low os ls calls last → Tells limit h ps n o l mine → least last l ≤ n → n ≤ length h
+    → AreTold limit h ps low (os ++ o ∷ []) (ls ++ l ∷ []) (calls ++ mine) n
+told_snoc limit h ps low [] [] calls last n o l mine t told up within =
+    (n, mine, [], ap (λ c. c ++ mine) t.0 ∙ sym (append-nil mine), told, subst (λ m. least m l ≤ n) t.1 up, within, (refl, refl))
+told_snoc limit h ps low [] (k ∷ ls) calls last n o l mine t told up within = absurd t
+told_snoc limit h ps low (p ∷ os) [] calls last n o l mine t told up within = absurd t
+told_snoc limit h ps low (p ∷ os) (k ∷ ls) calls last n o l mine t told up within =
+    (t.0, t.1, t.2 ++ mine, ap (λ c. c ++ mine) t.3 ∙ append_assoc t.1 t.2 mine, t.4, t.5, t.6, told_snoc limit h ps t.0 os ls t.2 last n o l mine t.7 told up within)
+
+edited_snoc : (ls : List Line) (l : Line) → flat_map edited (ls ++ l ∷ []) ≡ flat_map edited ls ++ edited l
+edited_snoc [] l = append-nil (edited l)
+edited_snoc (k ∷ ls) l = ap (λ t. edited k ++ t) (edited_snoc ls l) ∙ sym (append_assoc (edited k) (flat_map edited ls) (edited l))
+
+pub faults_append : (ls ms : List Line) → faults_told (ls ++ ms) ≡ faults_told ls + faults_told ms
+faults_append [] ms = let none : faults_told ms ≡ 0 + faults_told ms = omega arith in none
+faults_append (line.ReadFault ∷ ls) ms = ap (λ n. n + 1) (faults_append ls ms) ∙ (let s : (faults_told ls + faults_told ms) + 1 ≡ (faults_told ls + 1) + faults_told ms = omega arith in s)
+faults_append (line.WriteFault ∷ ls) ms = ap (λ n. n + 1) (faults_append ls ms) ∙ (let s : (faults_told ls + faults_told ms) + 1 ≡ (faults_told ls + 1) + faults_told ms = omega arith in s)
+faults_append (line.Edit at ∷ ls) ms = faults_append ls ms
+faults_append (line.File at cells points ran ∷ ls) ms = faults_append ls ms
+faults_append (line.Refused r at ∷ ls) ms = faults_append ls ms
+faults_append (line.Memory ∷ ls) ms = faults_append ls ms
+
+-- ---- counts of faults
+
+-- no call, or none that failed
+pub rose_none : (a : ℕ) → RoseBy 0 a a
+rose_none a = record { risen = inl (omega arith); later = omega arith; counted = inl refl }
+
+pub rose_kept : (a b : ℕ) → a ≤ b → b < 2 ^ 64 → RoseBy 0 a b
+rose_kept a b up fits = record { risen = inl (omega (arith, up)); later = up; counted = inr (omega (arith, fits)) }
+
+-- a call that failed
+pub rose_one : (a b : ℕ) → Rose a b → a ≤ b → b < 2 ^ 64 → RoseBy 1 a b
+rose_one a b (inl x) up fits = record { risen = inl (omega (arith, x)); later = up; counted = inr (omega (arith, fits)) }
+rose_one a b (inr x) up fits = record { risen = inr x; later = up; counted = inr (omega (arith, fits)) }
+
+risen_more : (j k a b c : ℕ) → b ≤ c → (c ≡ b) ⊎ (c ≤ most_faults) → (a + j ≤ b) ⊎ (b ≡ most_faults) → (b + k ≤ c) ⊎ (c ≡ most_faults) → (a + (j + k) ≤ c) ⊎ (c ≡ most_faults)
+risen_more j k a b c up most (inl x) (inl y) = inl (omega (arith, x, y))
+risen_more j k a b c up most (inl x) (inr y) = inr y
+risen_more j k a b c up (inl same) (inr x) s = inr (same ∙ x)
+risen_more j k a b c up (inr most) (inr x) s = inr (omega (arith, x, up, most))
+
+counted_more : (a b c : ℕ) → (b ≡ a) ⊎ (b ≤ most_faults) → (c ≡ b) ⊎ (c ≤ most_faults) → (c ≡ a) ⊎ (c ≤ most_faults)
+counted_more a b c (inl x) (inl y) = inl (y ∙ x)
+counted_more a b c (inr x) (inl y) = inr (omega (arith, x, y))
+counted_more a b c x (inr y) = inr y
+
+pub rose_more : (j k a b c : ℕ) → RoseBy j a b → RoseBy k b c → RoseBy (j + k) a c
+rose_more j k a b c r s = record {
+  risen = risen_more j k a b c s.later s.counted r.risen s.risen;
+  later = omega (arith, r.later, s.later);
+  counted = counted_more a b c r.counted s.counted;
+}
+
+-- ---- lists of commands
+
+-- no command
+pub served_none : {P : Type 0} (m : port.Ghosts P) (limit pass : ℕ) (h : List Entry) (p : P) → ServesAll m limit pass [] [] h h p p
+served_none m limit pass h p = record {
+  further = ([], sym (append-nil h));
+  own = sym (append-nil (places (pass ∷ []) h));
+  gained = ([], length h, λ told. sym (append-nil (m.calls p)), (refl, refl), omega arith);
+  faults = rose_none (m.faults p);
+  idle = λ e. refl;
+}
+
+-- one command more
+pub served_more : {P : Type 0} (m : port.Ghosts P) (limit pass : ℕ) (os : List Asked) (ls : List Line) (o : Asked) (l : Line) (old mid new : List Entry) (p q r : P)
+    → ServesAll m limit pass os ls old mid p q → Serves m limit pass o l mid new q r → ServesAll m limit pass (os ++ o ∷ []) (ls ++ l ∷ []) old new p r
+served_more m limit pass os ls o l old mid new p q r s t =
+    let calls = s.gained.0 in
+    let last = s.gained.1 in
+    let n = t.gained.0 in
+    let mine = t.gained.1 in
+    record {
+      further = (s.further.0 ++ t.further.0, t.further.1 ∙ ap (λ h. h ++ t.further.0) s.further.1 ∙ append_assoc old s.further.0 t.further.0);
+      own = t.own ∙ ap (λ h. h ++ edited l) s.own ∙ append_assoc (places (pass ∷ []) old) (flat_map edited ls) (edited l) ∙ ap (λ h. places (pass ∷ []) old ++ h) (sym (edited_snoc ls l));
+      gained = (
+        calls ++ mine,
+        n,
+        (λ told. t.gained.2 told ∙ ap (λ c. c ++ mine) (s.gained.2 told) ∙ append_assoc (m.calls p) calls mine),
+        told_snoc limit new (pass ∷ []) (length old) os ls calls last n o l mine
+            (subst (λ h. AreTold limit h (pass ∷ []) (length old) os ls calls last) (sym t.further.1) (told_longer limit mid t.further.0 (pass ∷ []) (length old) os ls calls last s.gained.3))
+            t.gained.3 (least_up last (length mid) n l s.gained.4 t.gained.4) t.gained.5,
+        t.gained.5,
+      );
+      faults = subst (λ k. RoseBy k (m.faults p) (m.faults r)) (sym (faults_append ls (l ∷ []))) (rose_more (faults_told ls) (faults_told (l ∷ [])) (m.faults p) (m.faults q) (m.faults r) s.faults t.faults);
+      idle = λ e. absurd (omega (arith, ap length e, length-append os (o ∷ [])));
+    }

@@ -1,0 +1,9 @@
+mod HistoryLemmas
+mod AccountLemmas
+mod MadeLemmas
+mod AboveLemmas
+mod RanLemmas
+mod CountLemmas
+mod ScriptLemmas
+mod OnceLemmas
+mod NumberLemmas

@@ -1,0 +1,55 @@
+-- What follows for accounts (docs/DEFINITIONS.md, "The account of a script").
+use Rattle.std.specs.Prelude.{◌≡◌, ℕ, ◌+◌, ◌<◌, ◌≤◌, nat_eq, if◌then◌else◌, List, [], ◌∷◌, ◌++◌, length, flat_map}
+use Rattle.viz_base.specs.declared.call.Call.{Call}
+use Rattle.viz_base.specs.declared.port.Port as port
+use Rattle.viz_core.specs.declared.entry.Entry.{Entry}
+use Rattle.viz_core.specs.History.{own_of, IsLegal}
+use Rattle.viz_script.specs.Orders.{Asked}
+use Rattle.viz_report.specs.declared.line.Line.{Line}
+use Rattle.viz_report.specs.declared.line.Line.TheVariants as line
+use Rattle.viz_account.specs.Account.{edited, AreTold, IsAccountOf}
+use Rattle.viz_account.specs.Served.{ServesAll}
+
+-- lines that tell of commands in a history tell of them in each longer one
+abbrev pub HoldLater : Type 0
+HoldLater = (limit : ℕ) (h more : List Entry) (passes : List ℕ) (low : ℕ) (os : List Asked) (ls : List Line) (calls : List Call) (last : ℕ)
+    → AreTold limit h passes low os ls calls last → AreTold limit (h ++ more) passes low os ls calls last
+
+-- the commands of one actor, served from no entry on over a history that gains none but its own, are accounted for, in whatever phases
+abbrev pub OneActor : {P : Type 0} → port.Ghosts P → Type 0
+OneActor {P} m = (limit pass : ℕ) (h : List Entry) (phases : List (List Asked)) (ls : List Line) (p q : P) (others : List P)
+    → IsLegal h → length h ≤ limit → own_of pass h ≡ h → ServesAll m limit pass (flat_map (λ os. os) phases) ls [] h p q
+    → (lines : List (List Line)) × (flat_map (λ l. l) lines ≡ ls) × (length lines ≡ length phases)
+    × IsAccountOf m limit (phases ∷ []) h (lines ∷ []) (p ∷ others) (q ∷ others)
+
+-- how often a number stands in a list
+abbrev pub times : ℕ → List ℕ → ℕ
+times n [] = 0
+times n (m ∷ ms) = if nat_eq n m then times n ms + 1 else times n ms
+
+-- the positions that all lines of edits tell, by actor and phase
+abbrev pub all_edited : List (List (List Line)) → List ℕ
+all_edited lines = flat_map (λ actor. flat_map (λ ls. flat_map edited ls) actor) lines
+
+-- each entry of an account's history is told by just one line
+abbrev pub EntriesAreToldOnce : {P : Type 0} → port.Ghosts P → Type 0
+EntriesAreToldOnce {P} m = (limit : ℕ) (script : List (List (List Asked))) (h : List Entry) (lines : List (List (List Line)))
+    (before after : List P) → IsAccountOf m limit script h lines before after
+    → (k : ℕ) → k < length h → times (k + 1) (all_edited lines) ≡ 1
+
+-- the line shows this number, or none
+abbrev pub Shows : ℕ → Line → Type 0
+Shows n (line.Edit at) = at ≡ n
+Shows n (line.File at cells points ran) = at ≡ n
+Shows n (line.Refused reason at) = at ≡ n
+Shows n l = Unit {0}
+
+-- each line shows how many edits were accepted up to it, its own included; n of them were before
+abbrev pub CountEdits : ℕ → List Line → Type 0
+CountEdits n [] = Unit {0}
+CountEdits n (l ∷ ls) = Shows (n + length (edited l)) l × CountEdits (n + length (edited l)) ls
+
+-- where all entries are of one pass, its lines count its accepted edits
+abbrev pub LinesCountEdits : {P : Type 0} → port.Ghosts P → Type 0
+LinesCountEdits {P} m = (limit pass : ℕ) (h : List Entry) (os : List Asked) (ls : List Line) (p q : P) → own_of pass h ≡ h
+    → ServesAll m limit pass os ls [] h p q → CountEdits 0 ls

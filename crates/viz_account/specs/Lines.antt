@@ -1,0 +1,77 @@
+-- What a line of the report says of its command, and the calls of that command (docs/DEFINITIONS.md, "The account of a script").
+use Rattle.std.specs.Prelude.{◌≡◌, ℕ, ◌+◌, true, ◌⊎◌, List, [], ◌∷◌, length, take, slice_get, Option, None, Some, Result, Ok, Err}
+use Rattle.viz_base.specs.declared.call.Call.{Call}
+use Rattle.viz_base.specs.declared.call.Call.TheVariants.{Read, Write}
+use Rattle.viz_base.specs.declared.call.ReadAnswer.TheVariants as read
+use Rattle.viz_base.specs.declared.call.WriteAnswer.TheVariants as write
+use Rattle.viz_network.specs.declared.edit.Edit.{Edit}
+use Rattle.viz_network.specs.declared.edit.Edit.TheVariants as edits
+use Rattle.viz_network.specs.declared.node.Node.{Node}
+use Rattle.viz_network.specs.Network.{Network, named, name_of}
+use Rattle.viz_network.specs.Edits.{apply}
+use Rattle.viz_turn.specs.Tales.{has}
+use Rattle.viz_core.specs.declared.entry.Entry.{Entry}
+use Rattle.viz_core.specs.History.{network_of}
+use Rattle.viz_script.specs.Orders.{Asked, edit, load, update, audit}
+use Rattle.viz_scratch.specs.Written.{IsFileOf}
+use Rattle.viz_report.specs.declared.line.Line.{Line}
+use Rattle.viz_report.specs.declared.line.Line.TheVariants as line
+use Rattle.viz_report.specs.declared.line.Reason.TheVariants as reason
+use Rattle.viz_account.specs.Written.{IsWritten}
+
+-- the network of the first n entries
+abbrev pub network_at : List Entry → ℕ → Network
+network_at h n = network_of (take n h)
+
+-- entry n, counted from 1, is this edit, by one of these passes
+pub record IsEntry (h : List Entry) (passes : List ℕ) (n : ℕ) (e : Edit) : Type 0 where
+  pub index : ℕ
+  pub entry : Entry
+  pub place : n ≡ index + 1
+  pub there : slice_get h index ≡ Some entry
+  pub own : has entry.pass passes ≡ true
+  pub asked : entry.edit ≡ e
+
+-- a line of number n, of an edit by one of these passes, in a history of at most so many entries: the edit is entry n, or the network
+-- of the first n entries refuses it, or n is that limit
+abbrev pub TellsEdit : ℕ → List Entry → List ℕ → ℕ → Edit → Line → Type 0
+TellsEdit limit h passes n e (line.Edit at) = (at ≡ n) × IsEntry h passes n e
+TellsEdit limit h passes n e (line.Refused (reason.Edit r) at) = (at ≡ n) × (apply (n + 1) e (network_at h n) ≡ Err r)
+TellsEdit limit h passes n e (line.Refused reason.Full at) = (at ≡ n) × (n ≡ limit)
+TellsEdit limit h passes n e line.Memory = Unit {0}
+TellsEdit limit h passes n e l = ⊥
+
+-- no call, or a read of this file that gave bytes
+abbrev pub ReadsAtMost : List ℕ → List Call → Type 0
+ReadsAtMost file calls = (calls ≡ []) ⊎ ((bytes : List ℕ) × (calls ≡ Read file (read.Given bytes) ∷ []))
+
+-- a load: its file was too long; or its read failed; or the line tells of the edit with the bytes that the port gave
+abbrev pub TellsLoad : ℕ → List Entry → List ℕ → ℕ → List ℕ → List ℕ → Line → List Call → Type 0
+TellsLoad limit h passes n node file (line.Refused reason.TooLong at) calls =
+    (at ≡ n) × ((taken : ℕ) × (calls ≡ Read file (read.TooLong taken) ∷ []))
+TellsLoad limit h passes n node file line.ReadFault calls = calls ≡ Read file read.Failed ∷ []
+TellsLoad limit h passes n node file line.Memory calls = ReadsAtMost file calls
+TellsLoad limit h passes n node file l calls =
+    (bytes : List ℕ) × TellsEdit limit h passes n (edits.Load node bytes) l × (calls ≡ Read file (read.Given bytes) ∷ [])
+
+-- an update on the network of the first n entries: the file of its node was written; or its node is unknown; or has no file; or the
+-- write of its file failed
+abbrev pub TellsUpdate : Network → ℕ → List ℕ → List ℕ → Line → List Call → Type 0
+TellsUpdate net n node file (line.File at cells points ran) calls =
+    (at ≡ n) × ((x : Node) × (text : List ℕ) × (named net node ≡ Some x) × IsWritten net x.id.0 text cells points ran
+    × (calls ≡ Write file text write.Written ∷ []))
+TellsUpdate net n node file (line.Refused reason.Unknown at) calls = (at ≡ n) × (named net node ≡ None) × (calls ≡ [])
+TellsUpdate net n node file (line.Refused (reason.Fault fault name) at) calls =
+    (at ≡ n) × ((x : Node) × (named net node ≡ Some x) × IsFileOf net x.id.0 (Err fault))
+    × (name_of net fault.node.0 ≡ Some name) × (calls ≡ [])
+TellsUpdate net n node file line.WriteFault calls =
+    (x : Node) × (text : List ℕ) × (named net node ≡ Some x) × IsFileOf net x.id.0 (Ok text) × (calls ≡ Write file text write.Failed ∷ [])
+TellsUpdate net n node file line.Memory calls = calls ≡ []
+TellsUpdate net n node file l calls = ⊥
+
+-- a line of number n, of a command by one of these passes, and the calls of that command; audits aren't served yet
+abbrev pub Tells : ℕ → List Entry → List ℕ → ℕ → Asked → Line → List Call → Type 0
+Tells limit h passes n (edit e) l calls = TellsEdit limit h passes n e l × (calls ≡ [])
+Tells limit h passes n (load node file) l calls = TellsLoad limit h passes n node file l calls
+Tells limit h passes n (update node file pieces workers) l calls = TellsUpdate (network_at h n) n node file l calls
+Tells limit h passes n (audit node pieces workers) l calls = (l ≡ line.Memory) × (calls ≡ [])

@@ -1,0 +1,60 @@
+//! How many cells and points are written of a dataset.
+
+ghost use Rattle.std.specs.Prelude.{◌≡◌, IfSome, length};
+ghost use Rattle.viz_mesh_write.specs.Cells.{cells_of, points_of};
+ghost use Rattle.viz_account.specs.Counts.{cube_count, cells_written, points_written};
+
+use viz_dataset::Dataset;
+use viz_extent::Extent;
+use viz_sheet::Sheet;
+
+// How many cubes there are between the points of an extent.
+fn cube_count(extent: &Extent) -> u64
+    ensures { result ≡ cube_count extent.now }
+{
+    let [x0, x1, y0, y1, z0, z1] = extent.bounds();
+    let _count = extent.count();
+    u64::from(x1 - x0) * u64::from(y1 - y0) * u64::from(z1 - z0)
+}
+
+// How many cells all sheets have; None past 64 bits.
+fn cells_in(sheets: &[Sheet]) -> Option<u64>
+    ensures { IfSome result (λ n. n ≡ length (cells_of sheets.now)) }
+{
+    let mut count: u64 = 0;
+    for sheet in sheets {
+        count = count.checked_add(sheet.cell_count() as u64)?;
+    }
+    Some(count)
+}
+
+// How many points all sheets have; None past 64 bits.
+fn points_in(sheets: &[Sheet]) -> Option<u64>
+    ensures { IfSome result (λ n. n ≡ length (points_of sheets.now)) }
+{
+    let mut count: u64 = 0;
+    for sheet in sheets {
+        count = count.checked_add(sheet.places().len() as u64)?;
+    }
+    Some(count)
+}
+
+/// How many cells are written of a dataset; None past 64 bits, which no text has.
+pub fn cell_count(dataset: &Dataset) -> Option<u64>
+    ensures { IfSome result (λ n. n ≡ cells_written dataset.now) }
+{
+    match dataset {
+        Dataset::Image(image) => Some(cube_count(&image.extent())),
+        Dataset::Mesh(mesh) => cells_in(mesh.sheets()),
+    }
+}
+
+/// How many points are written of a dataset; None past 64 bits, which no text has.
+pub fn point_count(dataset: &Dataset) -> Option<u64>
+    ensures { IfSome result (λ n. n ≡ points_written dataset.now) }
+{
+    match dataset {
+        Dataset::Image(image) => Some(image.extent().count()),
+        Dataset::Mesh(mesh) => points_in(mesh.sheets()),
+    }
+}

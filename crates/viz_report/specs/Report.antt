@@ -1,0 +1,83 @@
+-- The text of a report (docs/FORMATS.md, "Report").
+use Rattle.std.specs.Prelude.{ℕ, zero, suc, ◌+◌, List, [], ◌∷◌, ◌++◌, length, map, codes}
+use Rattle.std.specs.Fmt.{decimal}
+use Rattle.viz_report.specs.declared.line.Line.{Line}
+use Rattle.viz_report.specs.declared.line.Line.TheVariants as line
+use Rattle.viz_report.specs.Words.{reason_text}
+
+-- a word and a number behind it
+abbrev pub and_number : List ℕ → ℕ → List ℕ
+and_number word n = word ++ decimal n
+
+-- the front of a line: its word, its actor, and the number of its command among those of the actor
+abbrev pub heading : List ℕ → ℕ → ℕ → List ℕ
+heading word actor count = word ++ and_number (codes " ") actor ++ and_number (codes " ") count
+
+-- the number of entries that a line speaks of
+abbrev pub at_text : ℕ → List ℕ
+at_text n = and_number (codes " at ") n
+
+-- the numbers of a written file
+abbrev pub numbers_text : ℕ → ℕ → ℕ → List ℕ
+numbers_text cells points ran = and_number (codes " cells ") cells ++ and_number (codes " points ") points ++ and_number (codes " ran ") ran
+
+-- what stands behind the front of a line
+abbrev pub behind : Line → List ℕ
+behind (line.Edit at) = at_text at
+behind (line.File at cells points ran) = at_text at ++ numbers_text cells points ran
+behind (line.Refused reason at) = codes " " ++ reason_text reason ++ at_text at
+behind line.ReadFault = codes " read"
+behind line.WriteFault = codes " write"
+behind line.Memory = []
+
+-- the first word of a line
+abbrev pub word_of : Line → List ℕ
+word_of (line.Edit at) = codes "edit"
+word_of (line.File at cells points ran) = codes "file"
+word_of (line.Refused reason at) = codes "refused"
+word_of line.ReadFault = codes "fault"
+word_of line.WriteFault = codes "fault"
+word_of line.Memory = codes "memory"
+
+-- a line with its newline
+abbrev pub line_text : ℕ → ℕ → Line → List ℕ
+line_text actor count l = heading (word_of l) actor count ++ behind l ++ codes "\n"
+
+-- lines of an actor, the first of which has this number among its lines
+abbrev pub lines_text : ℕ → ℕ → List Line → List ℕ
+lines_text actor count [] = []
+lines_text actor count (l ∷ ls) = line_text actor count l ++ lines_text actor (count + 1) ls
+
+-- ---- several actors and phases
+
+-- the lines of actors, from this one on, in one phase; the first line of each has a number
+abbrev pub phase_text : ℕ → List ℕ → List (List Line) → List ℕ
+phase_text actor (count ∷ counts) (ls ∷ lines) = lines_text actor count ls ++ phase_text (actor + 1) counts lines
+phase_text actor counts lines = []
+
+-- the numbers of the actors' first lines in the next phase
+abbrev pub next_counts : List ℕ → List (List Line) → List ℕ
+next_counts (count ∷ counts) (ls ∷ lines) = (count + length ls) ∷ next_counts counts lines
+next_counts counts lines = []
+
+-- each actor's lines of the first phase
+abbrev pub first_phase : List (List (List Line)) → List (List Line)
+first_phase [] = []
+first_phase ([] ∷ actors) = [] ∷ first_phase actors
+first_phase ((ls ∷ phases) ∷ actors) = ls ∷ first_phase actors
+
+-- each actor's lines of the other phases
+abbrev pub later_phases : List (List (List Line)) → List (List (List Line))
+later_phases [] = []
+later_phases ([] ∷ actors) = [] ∷ later_phases actors
+later_phases ((ls ∷ phases) ∷ actors) = phases ∷ later_phases actors
+
+-- the lines of so many phases
+abbrev pub phases_text : ℕ → List ℕ → List (List (List Line)) → List ℕ
+phases_text zero counts lines = []
+phases_text (suc phases) counts lines =
+    phase_text 1 counts (first_phase lines) ++ phases_text phases (next_counts counts (first_phase lines)) (later_phases lines)
+
+-- the report of lines that are given by actor and phase: by phase, then by actor, then in the order of the script
+abbrev pub report : ℕ → List (List (List Line)) → List ℕ
+report phases lines = phases_text phases (map (λ actor. 1) lines) lines

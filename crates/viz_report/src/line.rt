@@ -1,0 +1,47 @@
+//! Lines of a report.
+
+use viz_base::Word;
+use viz_network::{Fault, Refusal};
+
+/// Why a command is refused.
+#[derive(Clone, Copy, PartialEq, Eq, Debug)]
+pub enum Reason {
+    /// The network refuses the edit.
+    Edit(Refusal),
+    /// The history has as many entries as it may have.
+    Full,
+    /// The file that was to be loaded is longer than the port's limit.
+    TooLong,
+    /// No node has the name of an update.
+    Unknown,
+    /// The node of an update has no file for this fault, of the node of this name.
+    Fault { fault: Fault, node: Word },
+}
+
+/// What a command came to: a line of the report. `at` is the number of entries of the history that
+/// the line speaks of.
+#[derive(Clone, Copy, PartialEq, Eq, Debug)]
+pub enum Line {
+    /// The edit is the entry at this position.
+    Edit {
+        at: u32,
+    },
+    /// The file of a node was written: its cells and points, and how many nodes ran for it.
+    File {
+        at: u32,
+        cells: u64,
+        points: u64,
+        ran: u32,
+    },
+    /// The command was refused.
+    Refused {
+        reason: Reason,
+        at: u32,
+    },
+    /// The port's read failed.
+    ReadFault,
+    /// The port's write failed.
+    WriteFault,
+    /// Want of memory.
+    Memory,
+}
