@@ -38,22 +38,22 @@ made_more f row n z place so_far value p below = elim (cases_lt p n) [
       ap (λ (m : ℕ). get_or (set row n z) m (pos 0)) same ∙ get_or-set_same row n z (pos 0) place ∙ value ∙ ap f (sym same)
 ]
 
--- a number of a part of a list
-pub value_in_part : {X : Type 0} (value : X → ℤ) (xs : List X) (start long p : ℕ) → p < long
-    → get_or (map value (take (start + long - start) (drop start xs))) p (pos 0) ≡ get_or (map value xs) (start + p) (pos 0)
-value_in_part value xs start long p below =
-    let count : start + long - start ≡ long = omega arith in
-    ap (λ (t : List ℤ). get_or t p (pos 0))
-    (sym (take-map value (start + long - start) (drop start xs)) ∙ ap (take (start + long - start)) (sym (drop-map value start xs)))
-    ∙ ap (λ (n : ℕ). get_or (take n (drop start (map value xs))) p (pos 0)) count
-    ∙ get_or-take long (drop start (map value xs)) p (pos 0) below ∙ get_or-drop start (map value xs) p (pos 0)
-
 -- the points of a row follow each other
 pub along_row : (b : Bounds) (x m j k : ℕ) → b.x0 ≤ x → index_at b x j k + m ≡ index_at b (x + m) j k
 along_row b x m j k from = along x m b.x0 ((j - b.y0) * size_x b) ((k - b.z0) * plane_size b) from
   where
     along : (a n low y z : ℕ) → low ≤ a → (a - low) + y + z + n ≡ (a + n - low) + y + z
     along a n low y z from = omega arith
+
+-- a number of a row that begins at a point
+pub number_of_row : {X : Type 0} (value : X → ℤ) (xs row : List X) (whole : Bounds) (start long x m j k : ℕ) → m < long → whole.x0 ≤ x
+    → start ≡ index_at whole x j k → row ≡ take long (drop start xs)
+    → get_or (map value row) m (pos 0) ≡ get_or (map value xs) (index_at whole (x + m) j k) (pos 0)
+number_of_row value xs row whole start long x m j k below from at is =
+    ap (λ (t : List _). get_or (map value t) m (pos 0)) is
+    ∙ ap (λ (t : List ℤ). get_or t m (pos 0)) (sym (take-map value long (drop start xs)) ∙ ap (take long) (sym (drop-map value start xs)))
+    ∙ get_or-take long (drop start (map value xs)) m (pos 0) below ∙ get_or-drop start (map value xs) m (pos 0)
+    ∙ ap (λ (n : ℕ). get_or (map value xs) n (pos 0)) (ap (λ (n : ℕ). n + m) at ∙ along_row whole x m j k from)
 
 -- a row of a part lies in the numbers of the whole
 pub row_within : (whole out : Bounds) (j k : ℕ) → IsPart whole out → out.x0 ≤ out.x1 → IsOnAxis out.y0 out.y1 j → IsOnAxis out.z0 out.z1 k

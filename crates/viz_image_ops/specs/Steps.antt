@@ -1,15 +1,11 @@
 -- How the numbers of a filter are reached, step by step: words of private contracts alone.
-use Rattle.std.specs.Prelude.{◌≡◌, ℕ, ◌*◌, ◌<◌, ℤ, pos, ◌≤ℤ◌, Bool, true, false, List, length, slice_index_or, if◌then◌else◌}
+use Rattle.std.specs.Prelude.{◌≡◌, ℕ, ◌*◌, ℤ, pos, ◌≤ℤ◌, true, false, List, slice_index_or}
 use Rattle.viz_column.specs.declared.kind.Kind8.{Kind8}
-use Rattle.viz_column.specs.declared.kind.Kind8.TheVariants.{I64}
 use Rattle.viz_column.specs.Kinds.{fits}
 use Rattle.viz_column.specs.Numbers.{Numbers}
 use Rattle.viz_extent.specs.Extent.{Bounds}
 use Rattle.viz_extent.specs.Numbering.{index_at}
 use Rattle.viz_extent.specs.Parts.{Rate}
-use Rattle.viz_dataset.specs.Images.{ImageData, IsImage}
-use Rattle.viz_meaning.specs.declared.op.Op.{Op}
-use Rattle.viz_meaning.specs.ImageFilters.{reckoned, clamped}
 use Rattle.viz_meaning.specs.Threshold.{is_within}
 use Rattle.viz_image_ops.specs.Joined.{values_on}
 

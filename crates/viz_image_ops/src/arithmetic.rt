@@ -1,6 +1,6 @@
 //! Arithmetic of two images.
 
-ghost use Rattle.std.specs.Prelude.{◌≡◌, ℕ, ◌^◌, ◌<◌, ◌≤◌, ◌++◌, pos, length, map, slice_index_or, unsigned_abs, IfOk, OnOk};
+ghost use Rattle.std.specs.Prelude.{◌≡◌, ℕ, ◌+◌, ◌^◌, ◌<◌, ◌≤◌, ◌++◌, pos, length, map, take, drop, slice_index_or, unsigned_abs, IfOk, OnOk};
 ghost use Rattle.viz_extent.specs.Extent.{size_x, size_y, IsOnAxis, Has, count_of};
 ghost use Rattle.viz_extent.specs.Numbering.{index_at};
 ghost use Rattle.viz_extent.specs.Parts.{IsPart};
@@ -147,17 +147,23 @@ fn push_plane<T: Number, U: Number>(
     let [x0, _, y0, y1, _, _] = grids.out.bounds();
     let long = row.len();
     for j in y0..y1 + 1 {
-        let first = grids.first.index_of(x0, j, k) as usize;
-        let second = grids.second.index_of(x0, j, k) as usize;
-        reckon_row(
-            row,
-            &xs[first..first + long],
-            &ys[second..second + long],
-            op,
-        );
+        let first_start = grids.first.index_of(x0, j, k) as usize;
+        let first = part_of(xs, first_start, long);
+        let second_start = grids.second.index_of(x0, j, k) as usize;
+        let second = part_of(ys, second_start, long);
+        reckon_row(row, first, second, op);
         all.extend_from_slice(row)?;
     }
     Ok(())
+}
+
+/// So many numbers, from an index on.
+fn part_of<T: Number>(numbers: &[T], start: usize, long: usize) -> &[T]
+    requires within { start + long ≤ length numbers.now }
+    ensures value { result.now ≡ take long (drop start numbers.now) }
+    ensures long { length result.now ≡ long }
+{
+    &numbers[start..start + long]
 }
 
 /// Makes the numbers of a row what is reckoned of two rows, one by one.

@@ -165,11 +165,16 @@ fn mean<T: Number>(sum: &i128, count: u64) -> T
     own(&quotient(sum, count))
 }
 
-/// The quotient of a number, rounded down.
+/// The quotient of a number, rounded down. One of 64 bits is divided as such, which takes a part
+/// of the time.
 fn quotient(n: &i128, divisor: u64) -> i128
     requires some { 0 < divisor }
+    requires few { divisor < 2 ^ 31 }
     requires room { IsWithin (2 ^ 96) (2 ^ 96) n.now }
     ensures { result ≡ floor_of n.now divisor }
 {
-    n.div_euclid(i128::from(divisor))
+    match i64::try_from(*n) {
+        Ok(n) => i128::from(n.div_euclid(divisor as i64)),
+        Err(_) => n.div_euclid(i128::from(divisor)),
+    }
 }
