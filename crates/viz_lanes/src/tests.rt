@@ -81,7 +81,8 @@ fn many(rt: &impl Abort, plane: Result<Bits, AllocError>, count: u64) -> Result<
 #[test]
 fn planes_have_every_length(rt: HostRuntime) -> Result<(), Fail> {
     let alloc = rt.alloc();
-    // How many numbers from 0 on, how many of 3 to 64 are among them, and how many of 40 on.
+    // How many numbers from 0 on, how many of 3 to 64 are among them, and how many of 40 on. The
+    // last row is that of plane-of-67.
     for (length, within, at_least) in [
         (0, 0, 0),
         (1, 0, 0),
