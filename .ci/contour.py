@@ -1,9 +1,9 @@
 #!/usr/bin/env python3
 """A plain contour, beside the one that is proved: no flags, no ranks by search, fractions for points.
 
-It makes the surface of the image of 4 x 4 x 4 points in crates/viz_session/src/contour_texts.rt, and
+It makes the surface of the image of 4 x 4 x 4 points in crates/viz_once/src/contour_texts.rt, and
 compares it with the text there; and it counts the contour of 32 x 32 x 32 points, whose numbers a
-test of viz_session wants.
+test of viz_once wants.
 """
 import os
 import re
@@ -75,7 +75,7 @@ def numbers(text, keyword, count):
 
 
 def main():
-    path = os.path.join(TOP, "crates/viz_session/src/contour_texts.rt")
+    path = os.path.join(TOP, "crates/viz_once/src/contour_texts.rt")
     with open(path, encoding="utf-8") as file:
         texts = dict(re.findall(r'pub const (\w+): &str = "([^"]*)";', file.read()))
     image = texts["MIXED_FILE"]

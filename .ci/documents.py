@@ -180,7 +180,7 @@ def constant(page, name):
 def check_contour():
     """The second example: the first row of the tests of contours."""
     blocks = re.findall(r"```text\n(.*?)```", text("README.md"), re.S)
-    page = text("crates/viz_session/src/contour_texts.rt")
+    page = text("crates/viz_once/src/contour_texts.rt")
     front, values, level, report, surface = (
         constant(page, name) for name in
         ("CUBE", "FIRST_VALUES", "FIRST_LEVEL", "FIRST_REPORT", "FIRST_SURFACE"))

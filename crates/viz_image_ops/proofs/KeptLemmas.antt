@@ -1,13 +1,12 @@
 -- Numbers that are kept, and 0 for every other.
 use Rattle.std.proofs.Common.{◌≡◌, ℕ, zero, suc, ◌-◌, ◌<◌, ℤ, pos, Bool, true, false, ◌&&◌, cond, List, [], ◌∷◌, ◌++◌, length, map, replicate, take, get_or, refl, sym, ap, ap₂, ◌∙◌, arith}
 use Rattle.std.specs.List.{list_all}
-use Rattle.std.proofs.lemmas.List.{ext_get_or, get_or-map, length-map}
 use Rattle.viz_column.specs.declared.kind.Kind8.{Kind8}
 use Rattle.viz_column.specs.Kinds.{fits}
 use Rattle.viz_column.specs.Numbers.{Numbers}
-use Rattle.viz_lanes.specs.Planes.{within}
-use Rattle.viz_meaning.specs.Threshold.{is_within, kept_value, kept_numbers}
-use Rattle.viz_image_ops.specs.Steps.{SelectSame, SelectNone, AreKept}
+use Rattle.viz_lanes.specs.Planes.{kept_within}
+use Rattle.viz_meaning.specs.Threshold.{kept_value, kept_numbers}
+use Rattle.viz_image_ops.specs.Steps.{SelectSame, SelectNone}
 
 -- the value of each of so many zeros
 map-replicate : {X : Type 0} (value : X → ℤ) (n : ℕ) (x : X) → value x ≡ pos 0 → map value (replicate n x) ≡ replicate n (pos 0)
@@ -24,11 +23,11 @@ map-zeros value n x old new is none made =
     alone zero x = refl
     alone (suc n) x = let same : suc n - 0 ≡ suc n = omega arith in ap (λ (m : ℕ). replicate m x) same
 
--- what holds of each number holds of one
 both_true : (a b : Bool) → (a && b) ≡ true → (a ≡ true) × (b ≡ true)
 both_true true b h = (refl, h)
 both_true false b h = cc
 
+-- what holds of each number holds of one
 pub passes_at : (p : ℤ → Bool) (xs : List ℤ) (i : ℕ) → list_all p xs ≡ true → i < length xs → p (get_or xs i (pos 0)) ≡ true
 passes_at p [] i all below = absurd (omega arith)
 passes_at p (x ∷ xs) zero all below = (both_true (p x) (list_all p xs) all).0
@@ -36,16 +35,12 @@ passes_at p (x ∷ xs) (suc i) all below =
     passes_at p xs i (both_true (p x) (list_all p xs) all).1 (omega arith)
 
 -- kept by bounds that select the same, they are those that the first bounds keep
-pub kept_within : (kind : Kind8) (lo hi a b : ℤ) (xs ys : List ℤ) → list_all (fits kind) xs ≡ true → SelectSame kind lo hi a b
-    → AreKept (within a b xs) xs ys → ys ≡ map (kept_value lo hi) xs
-kept_within kind lo hi a b xs ys own same kept =
-    let long : length ys ≡ length (map (kept_value lo hi) xs) = kept.long ∙ sym (length-map xs (kept_value lo hi)) in
-    ext_get_or (pos 0) ys (map (kept_value lo hi) xs) long (λ i below.
-    let here : i < length xs = omega (arith, kept.long) in
-    let x = get_or xs i (pos 0) in
-    let chosen : get_or (within a b xs) i false ≡ is_within lo hi x =
-    get_or-map (is_within a b) xs i (pos 0) false here ∙ same x (passes_at (fits kind) xs i own here) in
-    kept.each i here ∙ ap (λ (bit : Bool). cond bit x (pos 0)) chosen ∙ sym (get_or-map (kept_value lo hi) xs i (pos 0) (pos 0) here))
+pub same_kept : (kind : Kind8) (lo hi a b : ℤ) (xs : List ℤ) → list_all (fits kind) xs ≡ true → SelectSame kind lo hi a b
+    → kept_within a b xs ≡ map (kept_value lo hi) xs
+same_kept kind lo hi a b [] own same = refl
+same_kept kind lo hi a b (x ∷ xs) own same =
+    let parts = both_true (fits kind x) (list_all (fits kind) xs) own in
+    ap₂ (λ (y : ℤ) (ys : List ℤ). y ∷ ys) (ap (λ (bit : Bool). cond bit x (pos 0)) (same x parts.0)) (same_kept kind lo hi a b xs parts.1 same)
 
 -- where none is selected, all are 0
 pub kept_none : (kind : Kind8) (lo hi : ℤ) (xs ys : List ℤ) → list_all (fits kind) xs ≡ true → SelectNone kind lo hi
@@ -64,10 +59,10 @@ with_kind kind items = record { kind = kind; items = items }
 
 -- the same of columns
 pub column_within : (kind : Kind8) (lo hi a b : ℤ) (xs ys : List ℤ) (result : Numbers) → result ≡ record { kind = kind; items = ys }
-    → list_all (fits kind) xs ≡ true → SelectSame kind lo hi a b → AreKept (within a b xs) xs ys
+    → list_all (fits kind) xs ≡ true → SelectSame kind lo hi a b → ys ≡ kept_within a b xs
     → result ≡ kept_numbers lo hi (record { kind = kind; items = xs })
 column_within kind lo hi a b xs ys result is own same kept =
-    is ∙ ap (λ (zs : List ℤ). with_kind kind zs) (kept_within kind lo hi a b xs ys own same kept)
+    is ∙ ap (λ (zs : List ℤ). with_kind kind zs) (kept ∙ same_kept kind lo hi a b xs own same)
 
 pub column_none : (kind : Kind8) (lo hi : ℤ) (xs ys : List ℤ) (result : Numbers) → result ≡ record { kind = kind; items = ys }
     → list_all (fits kind) xs ≡ true → SelectNone kind lo hi → ys ≡ replicate (length xs) (pos 0)

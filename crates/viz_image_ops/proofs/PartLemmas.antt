@@ -9,12 +9,10 @@ use Rattle.viz_extent.specs.Parts.{IsPart}
 use Rattle.viz_extent.proofs.NumberingLemmas.{index_at-by_rows, index_at_below, number-of_parts, plane_below}
 use Rattle.viz_extent.proofs.PartLemmas.{points_of_part}
 use Rattle.viz_dataset.specs.Images.{Vector, ImageData, IsImage, IsRestricted}
-use Rattle.viz_meaning.specs.ImageFilters.{crop_of, threshold_of, arith_of, reckoned, clamped}
+use Rattle.viz_meaning.specs.ImageFilters.{crop_of, threshold_of}
 use Rattle.viz_meaning.specs.Threshold.{kept_value, thresholded}
-use Rattle.viz_meaning.specs.WholeImages.{WholeImage, whole_of, IsOn, GivesOn, GivesOnBoth}
-use Rattle.viz_meaning.specs.declared.op.Op.{Op}
+use Rattle.viz_meaning.specs.WholeImages.{WholeImage, whole_of, IsOn, GivesOn}
 use Rattle.viz_image_ops.specs.Determined.{PartIsDetermined, WholeThreshold}
-use Rattle.viz_image_ops.specs.Steps.{IsReckoned}
 
 -- an image is that of itself as a whole
 pub on_itself : (image : ImageData) → IsImage image → IsOn (whole_of image) image.extent image
@@ -50,18 +48,6 @@ pub through_part : (filter : WholeImage → WholeImage) (input part output : Ima
     → IsRestricted input own part → IsImage part → GivesOn filter part out output → GivesOn filter input out output
 through_part filter input part output own out within restricted valid gives w on =
     gives w (at_extent w own part (on_part w input part own within restricted valid on))
-
--- the same of the first of two inputs
-pub through_first : (filter : WholeImage → WholeImage → WholeImage) (first part second output : ImageData) (own out : Bounds) → IsPart first.extent own
-    → IsRestricted first own part → IsImage part → GivesOnBoth filter part second out output → GivesOnBoth filter first second out output
-through_first filter first part second output own out within restricted valid gives v w on_v on_w =
-    gives v w (at_extent v own part (on_part v first part own within restricted valid on_v)) on_w
-
--- and of the second
-pub through_second : (filter : WholeImage → WholeImage → WholeImage) (first second part output : ImageData) (own out : Bounds) → IsPart second.extent own
-    → IsRestricted second own part → IsImage part → GivesOnBoth filter first part out output → GivesOnBoth filter first second out output
-through_second filter first second part output own out within restricted valid gives v w on_v on_w =
-    gives v w on_v (at_extent w own part (on_part w second part own within restricted valid on_w))
 
 -- the part that an image is of a whole is the part of its crop
 pub cropped : (input output : ImageData) (part : Bounds) → IsPart input.extent part → IsRestricted input part output → IsImage output
@@ -99,33 +85,6 @@ thresholded-on lo hi w part image on valid =
           ∙ ap (kept_value lo hi) (on.numbers i j k has);
       valid = valid;
     }
-
--- what is reckoned of two images on a part is the part of what is reckoned
-pub reckoned-on : (op : Op) (v w : WholeImage) (part : Bounds) (a b image : ImageData) → IsOn v part a → IsOn w part b
-    → IsReckoned op a b image → IsOn (arith_of op v w) part image
-reckoned-on op v w part a b image on_a on_b is =
-    let same : image.extent ≡ a.extent = ap (λ (i : ImageData). i.extent) is.place in
-    record {
-      extent = same ∙ on_a.extent;
-      origin = ap (λ (i : ImageData). i.origin) is.place ∙ on_a.origin;
-      spacing = ap (λ (i : ImageData). i.spacing) is.place ∙ on_a.spacing;
-      kind = is.numbers.kind;
-      numbers = λ i j k has.
-          let one : b.extent ≡ a.extent = on_b.extent ∙ sym on_a.extent in
-          let second : get_or b.values.items (index_at a.extent i j k) (pos 0) ≡ w.number i j k =
-          ap (λ (e : Bounds). get_or b.values.items (index_at e i j k) (pos 0)) (sym one) ∙ on_b.numbers i j k has in
-          ap (λ (e : Bounds). get_or image.values.items (index_at e i j k) (pos 0)) same
-          ∙ is.numbers.each (index_at a.extent i j k) (place_below a part i j k on_a.extent on_a.valid has)
-          ∙ ap (λ (n : ℤ). clamped (reckoned op n (get_or b.values.items (index_at a.extent i j k) (pos 0)))) (on_a.numbers i j k has)
-          ∙ ap (λ (n : ℤ). clamped (reckoned op (v.number i j k) n)) second;
-      valid = is.valid;
-    }
-
--- the same of images on one extent
-pub reckoned_both : (op : Op) (a b image : ImageData) (out : Bounds) → a.extent ≡ out → b.extent ≡ out → IsReckoned op a b image
-    → GivesOnBoth (arith_of op) a b out image
-reckoned_both op a b image out same_a same_b is v w on_a on_b =
-    reckoned-on op v w out a b image (subst (λ (e : Bounds). IsOn v e a) same_a on_a) (subst (λ (e : Bounds). IsOn w e b) same_b on_b) is
 
 -- a number below the count is that of a point
 pub record PointOf (b : Bounds) (index : ℕ) : Type 0 where

@@ -228,3 +228,58 @@ run_less f p behind s before is =
   where
     taken : (s first rest : ℤ) → s ≡ first +ℤ rest → s -ℤ first ≡ rest
     taken s first rest was = omega (arith, ints, was)
+
+-- a sum in a window that may move by one
+pub record MovesByOne (row : List ℤ) (first behind : ℕ) (s : ℤ) : Type 0 where
+  pub order : first ≤ behind
+  pub within : behind < length row
+  pub room : HasRoom (behind + 1) row
+  pub is : s ≡ sum_of (λ p. get_or row p (pos 0)) first (behind - first)
+
+longer : (row : List ℤ) (first behind : ℕ) (s : ℤ) → MovesByOne row first behind s
+    → s +ℤ get_or row behind (pos 0) ≡ sum_of (λ p. get_or row p (pos 0)) first (behind + 1 - first)
+longer row first behind s moves =
+    run_more (λ p. get_or row p (pos 0)) first behind s moves.order moves.is
+
+moving_within : (row : List ℤ) (first behind : ℕ) (s : ℤ) → MovesByOne row first behind s → IsWithin (2 ^ 96) (2 ^ 96) s
+moving_within row first behind s moves =
+    rw moves.is (run_within row (behind + 1) first (behind - first) moves.room (omega arith) (omega (arith, moves.order, moves.within)))
+
+longer_within : (row : List ℤ) (first behind : ℕ) (s : ℤ) → MovesByOne row first behind s
+    → IsWithin (2 ^ 96) (2 ^ 96) (s +ℤ get_or row behind (pos 0))
+longer_within row first behind s moves =
+    rw (longer row first behind s moves)
+    (run_within row (behind + 1) first (behind + 1 - first) moves.room (omega arith) (omega (arith, moves.order, moves.within)))
+
+last_within : (row : List ℤ) (first behind : ℕ) (s : ℤ) → MovesByOne row first behind s → IsWithin (2 ^ 96) (2 ^ 96) (get_or row behind (pos 0))
+last_within row first behind s moves = item_within row (behind + 1) behind moves.room (omega arith) moves.within
+
+first_within : (row : List ℤ) (first behind : ℕ) (s : ℤ) → MovesByOne row first behind s → IsWithin (2 ^ 96) (2 ^ 96) (get_or row first (pos 0))
+first_within row first behind s moves =
+    item_within row (behind + 1) first moves.room (omega arith) (omega (arith, moves.order, moves.within))
+
+-- one number more fits
+pub longer_fits : (row : List ℤ) (first behind : ℕ) (s : ℤ) → MovesByOne row first behind s
+    → FitsSigned w128 (to_z w128 (of_z w128 s) +ℤ to_z w128 (of_z w128 (get_or row behind (pos 0))))
+longer_fits row first behind s moves =
+    let sum = moving_within row first behind s moves in
+    let last = last_within row first behind s moves in
+    search (arith, ints, sum.at_least, sum.at_most, last.at_least, last.at_most)
+
+-- and then one less
+pub moved_fits : (row : List ℤ) (first behind : ℕ) (s : ℤ) → MovesByOne row first behind s
+    → FitsSigned w128 (to_z w128 (of_z w128 (to_z w128 (of_z w128 s) +ℤ to_z w128 (of_z w128 (get_or row behind (pos 0))))) -ℤ to_z w128 (of_z w128 (get_or row first (pos 0))))
+moved_fits row first behind s moves =
+    let kept = sum_kept s (get_or row behind (pos 0)) (moving_within row first behind s moves) (last_within row first behind s moves) in
+    rw kept (difference_fits (s +ℤ get_or row behind (pos 0)) (get_or row first (pos 0)) (longer_within row first behind s moves) (first_within row first behind s moves))
+
+-- a window that has moved by one
+pub moved_is : (row : List ℤ) (first behind : ℕ) (s : ℤ) → MovesByOne row first behind s
+    → to_z w128 (of_z w128 (to_z w128 (of_z w128 (to_z w128 (of_z w128 s) +ℤ to_z w128 (of_z w128 (get_or row behind (pos 0))))) -ℤ to_z w128 (of_z w128 (get_or row first (pos 0)))))
+    ≡ sum_of (λ p. get_or row p (pos 0)) (first + 1) (behind + 1 - (first + 1))
+moved_is row first behind s moves =
+    let n = get_or row behind (pos 0) in
+    let m = get_or row first (pos 0) in
+    ap (λ (z : ℤ). to_z w128 (of_z w128 (z -ℤ to_z w128 (of_z w128 m)))) (sum_kept s n (moving_within row first behind s moves) (last_within row first behind s moves))
+    ∙ difference_is (s +ℤ n) m (longer_within row first behind s moves) (first_within row first behind s moves)
+    ∙ run_less (λ p. get_or row p (pos 0)) first (behind + 1) (s +ℤ n) (omega (arith, moves.order)) (longer row first behind s moves)

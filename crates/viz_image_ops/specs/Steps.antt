@@ -1,15 +1,11 @@
 -- How the numbers of a filter are reached, step by step: words of private contracts alone.
-use Rattle.std.specs.Prelude.{◌≡◌, ℕ, ◌*◌, ◌<◌, ℤ, pos, ◌≤ℤ◌, Bool, true, false, List, length, slice_index_or, if◌then◌else◌}
+use Rattle.std.specs.Prelude.{◌≡◌, ℕ, ◌*◌, ℤ, pos, ◌≤ℤ◌, true, false, List, slice_index_or}
 use Rattle.viz_column.specs.declared.kind.Kind8.{Kind8}
-use Rattle.viz_column.specs.declared.kind.Kind8.TheVariants.{I64}
 use Rattle.viz_column.specs.Kinds.{fits}
 use Rattle.viz_column.specs.Numbers.{Numbers}
 use Rattle.viz_extent.specs.Extent.{Bounds}
 use Rattle.viz_extent.specs.Numbering.{index_at}
 use Rattle.viz_extent.specs.Parts.{Rate}
-use Rattle.viz_dataset.specs.Images.{ImageData, IsImage}
-use Rattle.viz_meaning.specs.declared.op.Op.{Op}
-use Rattle.viz_meaning.specs.ImageFilters.{reckoned, clamped}
 use Rattle.viz_meaning.specs.Threshold.{is_within}
 use Rattle.viz_image_ops.specs.Joined.{values_on}
 
@@ -31,26 +27,6 @@ SelectSame kind lo hi own_lo own_hi =
 -- no number of a kind lies between the bounds
 abbrev pub SelectNone : Kind8 → ℤ → ℤ → Type 0
 SelectNone kind lo hi = (n : ℤ) → fits kind n ≡ true → is_within lo hi n ≡ false
-
--- each number that is selected, and 0 for every other
-pub record AreKept (selected : List Bool) (old new : List ℤ) : Type 0 where
-  pub long : length new ≡ length old
-  pub each : (i : ℕ) → i < length old
-      → slice_index_or new i (pos 0) ≡ (if slice_index_or selected i false then slice_index_or old i (pos 0) else pos 0)
-
--- of 64 bits with a sign, what is reckoned of the numbers of two columns, one by one
-pub record AreReckoned (op : Op) (first second new : Numbers) : Type 0 where
-  pub kind : new.kind ≡ I64
-  pub long : length new.items ≡ length first.items
-  pub each : (i : ℕ) → i < length first.items
-      → slice_index_or new.items i (pos 0)
-      ≡ clamped (reckoned op (slice_index_or first.items i (pos 0)) (slice_index_or second.items i (pos 0)))
-
--- an image in the place of the first of two on one extent, with what is reckoned of their numbers
-pub record IsReckoned (op : Op) (first second new : ImageData) : Type 0 where
-  pub place : new ≡ record first { values = new.values }
-  pub numbers : AreReckoned op first.values second.values new.values
-  pub valid : IsImage new
 
 -- the number at the multiples of three indices by a rate
 abbrev pub sampled_at : List ℤ → Bounds → Rate → ℕ → ℕ → ℕ → ℤ

@@ -1,16 +1,27 @@
 //! Arithmetic of two images.
 
-ghost use Rattle.std.specs.Prelude.{◌≡◌, ◌^◌, ◌≤◌, length, map, unsigned_abs, IfOk};
+ghost use Rattle.std.specs.Prelude.{◌≡◌, ℕ, ◌+◌, ◌^◌, ◌<◌, ◌≤◌, ◌++◌, pos, length, map, take, drop, slice_index_or, unsigned_abs, IfOk, OnOk};
+ghost use Rattle.viz_extent.specs.Extent.{size_x, size_y, IsOnAxis, Has, count_of};
+ghost use Rattle.viz_extent.specs.Numbering.{index_at};
 ghost use Rattle.viz_extent.specs.Parts.{IsPart};
 ghost use Rattle.viz_meaning.specs.ImageFilters.{reckoned, clamped, arith_of};
 ghost use Rattle.viz_meaning.specs.WholeImages.{GivesOnBoth};
-ghost use Rattle.viz_image_ops.specs.Steps.{AreReckoned, IsReckoned};
+ghost use Rattle.viz_image_ops.specs.Joined.{joined, run_of, values_on};
+ghost use Rattle.viz_image_ops.specs.Reckoned.{AreOn, AreReckoned, reckoned_at};
 
 use std::alloc::{AllocError, Global};
 use viz_column::{Column, Lent, Number};
 use viz_dataset::Image;
 use viz_extent::Extent;
 use viz_meaning::Op;
+
+/// The extents of two images, and the part of both that is reckoned.
+#[derive(Drop)]
+pub(crate) struct Grids {
+    pub(crate) first: Extent,
+    pub(crate) second: Extent,
+    pub(crate) out: Extent,
+}
 
 /// The sum, the difference, the lesser or the greater of the numbers of two images at each point
 /// of `out`, which both contain: of 64 bits with a sign, and the nearer end of these where they
@@ -20,73 +31,58 @@ pub fn arith(alloc: Global, a: &Image, b: &Image, op: Op, out: &Extent) -> Resul
     requires second { IsPart b.now.extent out.now }
     ensures value { IfOk result (GivesOnBoth (arith_of op) a.now b.now out.now) }
 {
-    if a.extent() == *out {
-        return arith_first(alloc, a, b, op, out);
-    }
-    let part = a.restrict(alloc, out)?;
-    arith_first(alloc, &part, b, op, out)
+    let grids = Grids {
+        first: a.extent(),
+        second: b.extent(),
+        out: *out,
+    };
+    let column = reckon(alloc, a.column(), b.column(), op, &grids)?;
+    Ok(Image::new(*out, a.origin(), a.spacing(), column))
 }
 
-/// The same of a first image on `out`.
-fn arith_first(
+/// What is reckoned of the numbers of two columns, for each point of a part.
+fn reckon(
     alloc: Global,
-    a: &Image,
-    b: &Image,
+    a: &Column,
+    b: &Column,
     op: Op,
-    out: &Extent,
-) -> Result<Image, AllocError>
-    requires first { a.now.extent ≡ out.now }
-    requires second { IsPart b.now.extent out.now }
-    ensures value { IfOk result (GivesOnBoth (arith_of op) a.now b.now out.now) }
-{
-    if b.extent() == *out {
-        return arith_both(alloc, a, b, op);
-    }
-    let part = b.restrict(alloc, out)?;
-    arith_both(alloc, a, &part, op)
-}
-
-/// The same of two images on one extent.
-fn arith_both(alloc: Global, a: &Image, b: &Image, op: Op) -> Result<Image, AllocError>
-    requires same { a.now.extent ≡ b.now.extent }
-    ensures { IfOk result (IsReckoned op a.now b.now) }
-{
-    let column = reckon(alloc, a.column(), b.column(), op)?;
-    Ok(a.with_column(column))
-}
-
-/// What is reckoned of the numbers of two columns, one by one.
-fn reckon(alloc: Global, a: &Column, b: &Column, op: Op) -> Result<Column, AllocError>
-    requires same { length a.now.items ≡ length b.now.items }
-    ensures { IfOk result (AreReckoned op a.now b.now) }
+    grids: &Grids,
+) -> Result<Column, AllocError>
+    requires on { AreOn grids.now a.now.items b.now.items }
+    ensures { IfOk result (AreReckoned op grids.now a.now.items b.now.items) }
 {
     match a.slice() {
-        Lent::I8(numbers) => reckon_with(alloc, numbers, b, op),
-        Lent::U8(numbers) => reckon_with(alloc, numbers, b, op),
-        Lent::I16(numbers) => reckon_with(alloc, numbers, b, op),
-        Lent::U16(numbers) => reckon_with(alloc, numbers, b, op),
-        Lent::I32(numbers) => reckon_with(alloc, numbers, b, op),
-        Lent::U32(numbers) => reckon_with(alloc, numbers, b, op),
-        Lent::I64(numbers) => reckon_with(alloc, numbers, b, op),
-        Lent::U64(numbers) => reckon_with(alloc, numbers, b, op),
+        Lent::I8(numbers) => reckon_with(alloc, numbers, b, op, grids),
+        Lent::U8(numbers) => reckon_with(alloc, numbers, b, op, grids),
+        Lent::I16(numbers) => reckon_with(alloc, numbers, b, op, grids),
+        Lent::U16(numbers) => reckon_with(alloc, numbers, b, op, grids),
+        Lent::I32(numbers) => reckon_with(alloc, numbers, b, op, grids),
+        Lent::U32(numbers) => reckon_with(alloc, numbers, b, op, grids),
+        Lent::I64(numbers) => reckon_with(alloc, numbers, b, op, grids),
+        Lent::U64(numbers) => reckon_with(alloc, numbers, b, op, grids),
     }
 }
 
 /// The same where the first numbers are of a type.
-fn reckon_with<T: Number>(alloc: Global, xs: &[T], b: &Column, op: Op) -> Result<Column, AllocError>
-    requires same { length (map T.value xs.now) ≡ length b.now.items }
-    ensures { IfOk result (AreReckoned op
-        (record { kind = T.kind; items = map T.value xs.now }) b.now) }
+fn reckon_with<T: Number>(
+    alloc: Global,
+    xs: &[T],
+    b: &Column,
+    op: Op,
+    grids: &Grids,
+) -> Result<Column, AllocError>
+    requires on { AreOn grids.now (map T.value xs.now) b.now.items }
+    ensures { IfOk result (AreReckoned op grids.now (map T.value xs.now) b.now.items) }
 {
     match b.slice() {
-        Lent::I8(ys) => reckon_all(alloc, xs, ys, op),
-        Lent::U8(ys) => reckon_all(alloc, xs, ys, op),
-        Lent::I16(ys) => reckon_all(alloc, xs, ys, op),
-        Lent::U16(ys) => reckon_all(alloc, xs, ys, op),
-        Lent::I32(ys) => reckon_all(alloc, xs, ys, op),
-        Lent::U32(ys) => reckon_all(alloc, xs, ys, op),
-        Lent::I64(ys) => reckon_all(alloc, xs, ys, op),
-        Lent::U64(ys) => reckon_all(alloc, xs, ys, op),
+        Lent::I8(ys) => reckon_all(alloc, xs, ys, op, grids),
+        Lent::U8(ys) => reckon_all(alloc, xs, ys, op, grids),
+        Lent::I16(ys) => reckon_all(alloc, xs, ys, op, grids),
+        Lent::U16(ys) => reckon_all(alloc, xs, ys, op, grids),
+        Lent::I32(ys) => reckon_all(alloc, xs, ys, op, grids),
+        Lent::U32(ys) => reckon_all(alloc, xs, ys, op, grids),
+        Lent::I64(ys) => reckon_all(alloc, xs, ys, op, grids),
+        Lent::U64(ys) => reckon_all(alloc, xs, ys, op, grids),
     }
 }
 
@@ -96,16 +92,91 @@ fn reckon_all<T: Number, U: Number>(
     xs: &[T],
     ys: &[U],
     op: Op,
+    grids: &Grids,
 ) -> Result<Column, AllocError>
-    requires same { length (map T.value xs.now) ≡ length (map U.value ys.now) }
-    ensures { IfOk result (AreReckoned op (record { kind = T.kind; items = map T.value xs.now })
-        (record { kind = U.kind; items = map U.value ys.now })) }
+    requires on { AreOn grids.now (map T.value xs.now) (map U.value ys.now) }
+    ensures { IfOk result (AreReckoned op grids.now (map T.value xs.now) (map U.value ys.now)) }
 {
-    let mut numbers = Vec::with_capacity(alloc, xs.len())?;
-    for (i, x) in xs.iter().enumerate() {
-        numbers.push(clamped(&reckoned(op, &whole(*x), &whole(ys[i]))))?;
+    let [x0, x1, _, _, _, _] = grids.out.bounds();
+    let mut row = Vec::new(alloc);
+    row.resize((x1 - x0) as usize + 1, 0)?;
+    let mut all = Vec::with_capacity(alloc, grids.out.count() as usize)?;
+    push_planes(&mut all, &mut row, xs, ys, op, grids)?;
+    Ok(Column::of(all))
+}
+
+/// Adds what is reckoned for all planes.
+fn push_planes<T: Number, U: Number>(
+    all: &mut Vec<i64>,
+    row: &mut [i64],
+    xs: &[T],
+    ys: &[U],
+    op: Op,
+    grids: &Grids,
+) -> Result<(), AllocError>
+    requires on { AreOn grids.now (map T.value xs.now) (map U.value ys.now) }
+    requires row { length row.old ≡ size_x grids.now.out }
+    ensures { OnOk result (all.new.items ≡ all.old.items
+        ++ values_on (reckoned_at op grids.now (map T.value xs.now) (map U.value ys.now))
+        grids.now.out) }
+{
+    let [_, _, _, _, z0, z1] = grids.out.bounds();
+    for k in z0..z1 + 1 {
+        push_plane(all, row, xs, ys, op, grids, k)?;
     }
-    Ok(Column::of(numbers))
+    Ok(())
+}
+
+/// Adds what is reckoned for a plane, row by row.
+fn push_plane<T: Number, U: Number>(
+    all: &mut Vec<i64>,
+    row: &mut [i64],
+    xs: &[T],
+    ys: &[U],
+    op: Op,
+    grids: &Grids,
+    k: u32,
+) -> Result<(), AllocError>
+    requires on { AreOn grids.now (map T.value xs.now) (map U.value ys.now) }
+    requires row { length row.old ≡ size_x grids.now.out }
+    requires z { IsOnAxis grids.now.out.z0 grids.now.out.z1 k }
+    ensures { OnOk result (all.new.items ≡ all.old.items ++ joined (λ j. run_of (λ i.
+        reckoned_at op grids.now (map T.value xs.now) (map U.value ys.now) i j k)
+        grids.now.out.x0 (size_x grids.now.out)) grids.now.out.y0 (size_y grids.now.out)) }
+{
+    let [x0, _, y0, y1, _, _] = grids.out.bounds();
+    let long = row.len();
+    for j in y0..y1 + 1 {
+        let first_start = grids.first.index_of(x0, j, k) as usize;
+        let first = part_of(xs, first_start, long);
+        let second_start = grids.second.index_of(x0, j, k) as usize;
+        let second = part_of(ys, second_start, long);
+        reckon_row(row, first, second, op);
+        all.extend_from_slice(row)?;
+    }
+    Ok(())
+}
+
+/// So many numbers, from an index on.
+fn part_of<T: Number>(numbers: &[T], start: usize, long: usize) -> &[T]
+    requires within { start + long ≤ length numbers.now }
+    ensures value { result.now ≡ take long (drop start numbers.now) }
+    ensures long { length result.now ≡ long }
+{
+    &numbers[start..start + long]
+}
+
+/// Makes the numbers of a row what is reckoned of two rows, one by one.
+fn reckon_row<T: Number, U: Number>(row: &mut [i64], xs: &[T], ys: &[U], op: Op)
+    requires first { length xs.now ≡ length row.old }
+    requires second { length ys.now ≡ length row.old }
+    ensures { (p : ℕ) → p < length row.old → slice_index_or row.new p (pos 0)
+        ≡ clamped (reckoned op (slice_index_or (map T.value xs.now) p (pos 0))
+        (slice_index_or (map U.value ys.now) p (pos 0))) }
+{
+    for (p, x) in xs.iter().enumerate() {
+        row[p] = clamped(&reckoned(op, &whole(*x), &whole(ys[p])));
+    }
 }
 
 /// A number, in 128 bits, of which it takes few.

@@ -2,21 +2,26 @@
 
 ghost use Rattle.std.specs.Prelude.{◌≡◌, true, map, IfOk};
 ghost use Rattle.viz_column.specs.Kinds.{fits};
-ghost use Rattle.viz_lanes.specs.Planes.{within};
+ghost use Rattle.viz_lanes.specs.Planes.{kept_within};
 
 use std::alloc::{AllocError, Global};
 use viz_column::Number;
 use viz_lanes::{
-    Bits, within_i8, within_i16, within_i32, within_i64, within_u8, within_u16, within_u32,
-    within_u64,
+    keep_within_i8, keep_within_i16, keep_within_i32, keep_within_i64, keep_within_u8,
+    keep_within_u16, keep_within_u32, keep_within_u64,
 };
 
 /// A type of numbers that are compared in lanes.
 pub(crate) trait Lane: Number {
-    /// Whether each number is at least lo and at most hi.
-    fn within(alloc: Global, numbers: &[Self], lo: Self, hi: Self) -> Result<Bits, AllocError>
-        ensures { IfOk result (λ bits.
-            bits ≡ within (Self.value lo) (Self.value hi) (map Self.value numbers.now)) };
+    /// Each number that is at least lo and at most hi, and 0 for every other.
+    fn keep_within(
+        alloc: Global,
+        numbers: &[Self],
+        lo: Self,
+        hi: Self,
+    ) -> Result<Vec<Self>, AllocError>
+        ensures { IfOk result (λ kept. map Self.value kept.items
+            ≡ kept_within (Self.value lo) (Self.value hi) (map Self.value numbers.now)) };
 }
 
 /// The number of a type that a number in its range is.
@@ -31,49 +36,79 @@ pub(crate) fn own<T: Number>(n: &i128) -> T
 }
 
 impl Lane for i8 {
-    fn within(alloc: Global, numbers: &[i8], lo: i8, hi: i8) -> Result<Bits, AllocError> {
-        within_i8(alloc, numbers, lo, hi)
+    fn keep_within(alloc: Global, numbers: &[i8], lo: i8, hi: i8) -> Result<Vec<i8>, AllocError> {
+        keep_within_i8(alloc, numbers, lo, hi)
     }
 }
 
 impl Lane for u8 {
-    fn within(alloc: Global, numbers: &[u8], lo: u8, hi: u8) -> Result<Bits, AllocError> {
-        within_u8(alloc, numbers, lo, hi)
+    fn keep_within(alloc: Global, numbers: &[u8], lo: u8, hi: u8) -> Result<Vec<u8>, AllocError> {
+        keep_within_u8(alloc, numbers, lo, hi)
     }
 }
 
 impl Lane for i16 {
-    fn within(alloc: Global, numbers: &[i16], lo: i16, hi: i16) -> Result<Bits, AllocError> {
-        within_i16(alloc, numbers, lo, hi)
+    fn keep_within(
+        alloc: Global,
+        numbers: &[i16],
+        lo: i16,
+        hi: i16,
+    ) -> Result<Vec<i16>, AllocError> {
+        keep_within_i16(alloc, numbers, lo, hi)
     }
 }
 
 impl Lane for u16 {
-    fn within(alloc: Global, numbers: &[u16], lo: u16, hi: u16) -> Result<Bits, AllocError> {
-        within_u16(alloc, numbers, lo, hi)
+    fn keep_within(
+        alloc: Global,
+        numbers: &[u16],
+        lo: u16,
+        hi: u16,
+    ) -> Result<Vec<u16>, AllocError> {
+        keep_within_u16(alloc, numbers, lo, hi)
     }
 }
 
 impl Lane for i32 {
-    fn within(alloc: Global, numbers: &[i32], lo: i32, hi: i32) -> Result<Bits, AllocError> {
-        within_i32(alloc, numbers, lo, hi)
+    fn keep_within(
+        alloc: Global,
+        numbers: &[i32],
+        lo: i32,
+        hi: i32,
+    ) -> Result<Vec<i32>, AllocError> {
+        keep_within_i32(alloc, numbers, lo, hi)
     }
 }
 
 impl Lane for u32 {
-    fn within(alloc: Global, numbers: &[u32], lo: u32, hi: u32) -> Result<Bits, AllocError> {
-        within_u32(alloc, numbers, lo, hi)
+    fn keep_within(
+        alloc: Global,
+        numbers: &[u32],
+        lo: u32,
+        hi: u32,
+    ) -> Result<Vec<u32>, AllocError> {
+        keep_within_u32(alloc, numbers, lo, hi)
     }
 }
 
 impl Lane for i64 {
-    fn within(alloc: Global, numbers: &[i64], lo: i64, hi: i64) -> Result<Bits, AllocError> {
-        within_i64(alloc, numbers, lo, hi)
+    fn keep_within(
+        alloc: Global,
+        numbers: &[i64],
+        lo: i64,
+        hi: i64,
+    ) -> Result<Vec<i64>, AllocError> {
+        keep_within_i64(alloc, numbers, lo, hi)
     }
 }
 
 impl Lane for u64 {
-    fn within(alloc: Global, numbers: &[u64], lo: u64, hi: u64) -> Result<Bits, AllocError> {
-        within_u64(alloc, numbers, lo, hi)
+    fn keep_within(
+        alloc: Global,
+        numbers: &[u64],
+        lo: u64,
+        hi: u64,
+    ) -> Result<Vec<u64>, AllocError> {
+        keep_within_u64(alloc, numbers, lo, hi)
     }
 }

@@ -1,6 +1,6 @@
 //! Means in a window that moves over the points of an image, by running sums.
 
-ghost use Rattle.std.specs.Prelude.{◌≡◌, ℕ, ◌-◌, ◌*◌, ◌^◌, ◌<◌, ◌≤◌, ◌++◌, pos, length, map, slice_index_or, OnOk};
+ghost use Rattle.std.specs.Prelude.{◌≡◌, ℕ, ◌+◌, ◌-◌, ◌*◌, ◌^◌, ◌<◌, ◌≤◌, ◌++◌, pos, length, map, slice_index_or, OnOk};
 ghost use Rattle.viz_extent.specs.Extent.{size_of, size_x, size_y};
 ghost use Rattle.viz_meaning.specs.ImageFilters.{sum_of, floor_of};
 ghost use Rattle.viz_image_ops.specs.Joined.{joined, run_of, values_on};
@@ -145,6 +145,10 @@ fn moved(
         first (behind - first) }
     ensures { result ≡ sum_of (λ p. slice_index_or row.now p (pos 0)) next (next_behind - next) }
 {
+    // Nearly all windows of a row move so; without loops that costs half.
+    if behind + 1 == next_behind && first + 1 == next {
+        return moved_by_one(sum, row, first, behind);
+    }
     let mut moved = *sum;
     for p in behind..next_behind {
         moved += row[p];
@@ -153,6 +157,20 @@ fn moved(
         moved -= row[p];
     }
     moved
+}
+
+/// The sum in a window that has moved by one.
+fn moved_by_one(sum: &i128, row: &[i128], first: usize, behind: usize) -> i128
+    requires order { first ≤ behind }
+    requires within { behind < length row.now }
+    requires room { HasRoom (behind + 1) row.now }
+    requires sum { sum.now ≡ sum_of (λ p. slice_index_or row.now p (pos 0))
+        first (behind - first) }
+    ensures { result ≡ sum_of (λ p. slice_index_or row.now p (pos 0))
+        (first + 1) (behind + 1 - (first + 1)) }
+{
+    let longer = *sum + row[behind];
+    longer - row[first]
 }
 
 /// The mean of so many numbers of a type, by their sum: the quotient rounded down.
@@ -165,11 +183,16 @@ fn mean<T: Number>(sum: &i128, count: u64) -> T
     own(&quotient(sum, count))
 }
 
-/// The quotient of a number, rounded down.
+/// The quotient of a number, rounded down. One of 64 bits is divided as such, which takes a part
+/// of the time.
 fn quotient(n: &i128, divisor: u64) -> i128
     requires some { 0 < divisor }
+    requires few { divisor < 2 ^ 31 }
     requires room { IsWithin (2 ^ 96) (2 ^ 96) n.now }
     ensures { result ≡ floor_of n.now divisor }
 {
-    n.div_euclid(i128::from(divisor))
+    match i64::try_from(*n) {
+        Ok(n) => i128::from(n.div_euclid(divisor as i64)),
+        Err(_) => n.div_euclid(i128::from(divisor)),
+    }
 }

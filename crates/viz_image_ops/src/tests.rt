@@ -148,13 +148,23 @@ fn the_ends_of_wide_types_are_kept(rt: HostRuntime) -> Result<(), Fail> {
     let high = i128::from(i64::MAX);
     let low = i128::from(i64::MIN);
     let most = i128::from(u64::MAX);
+    let most_32 = i128::from(u32::MAX);
+    let (low_32, high_32) = (i128::from(i32::MIN), i128::from(i32::MAX));
+    keeps(
+        &rt,
+        alloc,
+        Kind8::I32,
+        [i64::MIN, -1],
+        [low_32, -1, 1, high_32],
+        [low_32, -1, 0, 0],
+    )?;
     keeps(
         &rt,
         alloc,
         Kind8::U32,
-        [i64::MIN, -1],
-        [0, 1, 2, 3],
-        [0, 0, 0, 0],
+        [2, i64::MAX],
+        [0, 1, 2, most_32],
+        [0, 0, 2, most_32],
     )?;
     keeps(
         &rt,

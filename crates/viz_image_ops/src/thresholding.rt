@@ -5,18 +5,16 @@ ghost use Rattle.std.specs.Int.{int_max, int_min};
 ghost use Rattle.viz_extent.specs.Parts.{IsPart};
 ghost use Rattle.viz_column.specs.Kinds.{fits};
 ghost use Rattle.viz_column.specs.Numbers.{AreInRange};
-ghost use Rattle.viz_lanes.specs.Planes.{within};
 ghost use Rattle.viz_meaning.specs.ImageFilters.{threshold_of};
 ghost use Rattle.viz_meaning.specs.Threshold.{kept_numbers};
 ghost use Rattle.viz_meaning.specs.WholeImages.{GivesOn};
-ghost use Rattle.viz_image_ops.specs.Steps.{IsLeast, IsMost, SelectSame, SelectNone, AreKept};
+ghost use Rattle.viz_image_ops.specs.Steps.{IsLeast, IsMost, SelectSame, SelectNone};
 
 use crate::lane::{Lane, own};
 use std::alloc::{AllocError, Global};
 use viz_column::{Column, Kind8, Lent, Number};
 use viz_dataset::Image;
 use viz_extent::Extent;
-use viz_lanes::Bits;
 
 /// The numbers of a threshold on `out`: each number from `lo` to `hi` stays, and every other
 /// becomes 0. Numbers are compared as whole numbers and keep their type; the input contains `out`.
@@ -68,41 +66,9 @@ fn keep<T: Lane>(alloc: Global, numbers: &[T], lo: &i64, hi: &i64) -> Result<Col
         (record { kind = T.kind; items = map T.value numbers.now })) }
 {
     match bounds_of::<T>(lo, hi) {
-        Some(own) => Ok(Column::of(keep_within(alloc, numbers, own.0, own.1)?)),
+        Some(own) => Ok(Column::of(T::keep_within(alloc, numbers, own.0, own.1)?)),
         None => Ok(Column::of(zeros::<T>(alloc, numbers.len())?)),
     }
-}
-
-/// Each number between bounds of its own type, and 0 for every other.
-fn keep_within<T: Lane>(alloc: Global, numbers: &[T], lo: T, hi: T) -> Result<Vec<T>, AllocError>
-    ensures { IfOk result (λ v. AreKept (within (T.value lo) (T.value hi) (map T.value numbers.now))
-        (map T.value numbers.now) (map T.value v.items)) }
-{
-    let selected = T::within(alloc, numbers, lo, hi)?;
-    keep_selected(alloc, numbers, &selected)
-}
-
-/// Each number that is selected, and 0 for every other.
-fn keep_selected<T: Number>(
-    alloc: Global,
-    numbers: &[T],
-    selected: &Bits,
-) -> Result<Vec<T>, AllocError>
-    requires long { length selected.now ≡ length numbers.now }
-    ensures { IfOk result (λ v.
-        AreKept selected.now (map T.value numbers.now) (map T.value v.items)) }
-{
-    let zero = T::zero();
-    let mut kept = Vec::with_capacity(alloc, numbers.len())?;
-    for (i, number) in numbers.iter().enumerate() {
-        let number = if selected.get(i as u64) {
-            *number
-        } else {
-            zero
-        };
-        kept.push(number)?;
-    }
-    Ok(kept)
 }
 
 /// So many zeros.

@@ -3,6 +3,7 @@
 ghost use Rattle.std.specs.Prelude.{◌≡◌, ◌≤◌, ◌&&◌, Bool, ℤ, true, map, take, length, int_le};
 ghost use Rattle.viz_lanes.specs.Kept.{low_bits};
 ghost use Rattle.viz_lanes.specs.Lanes.{AreOwn};
+ghost use Rattle.viz_lanes.specs.Planes.{kept_or_zero};
 
 /// A type of numbers that are compared 64 at a time.
 pub(crate) trait Lane: Copy {
@@ -23,6 +24,10 @@ pub(crate) trait Lane: Copy {
     /// Whether the number is at least lo and at most hi.
     fn is_within(self, lo: Self, hi: Self) -> bool
         ensures { result ≡ (int_le (whole lo) (whole self) && int_le (whole self) (whole hi)) };
+
+    /// The number where it is at least lo and at most hi, and 0 elsewhere.
+    fn kept(self, lo: Self, hi: Self) -> Self
+        ensures { whole result ≡ kept_or_zero (whole lo) (whole hi) (whole self) };
 
     /// A bit for each of the first 64 numbers: whether it is at least v.
     fn at_least_word(block: &[Self], v: Self) -> u64

@@ -2,6 +2,7 @@
 
 ghost use Rattle.std.specs.Prelude.{◌≡◌, ◌&&◌, map, int_le, IfOk};
 ghost use Rattle.viz_lanes.specs.Lanes.{AreOwn};
+ghost use Rattle.viz_lanes.specs.Planes.{kept_within};
 
 use crate::bits::Bits;
 use crate::lane::Lane;
@@ -47,6 +48,24 @@ pub(crate) fn within_plane<T: Lane>(
         at += 1;
     }
     Ok(bits)
+}
+
+/// Each number that is at least lo and at most hi, and 0 for every other. The loop asks for no
+/// room, so that it is compiled to lanes.
+pub(crate) fn kept_plane<T: Lane>(
+    alloc: Global,
+    xs: &[T],
+    lo: T,
+    hi: T,
+) -> Result<Vec<T>, AllocError>
+    ensures { IfOk result (λ kept.
+        map T.whole kept.items ≡ kept_within (T.whole lo) (T.whole hi) (map T.whole xs.now)) }
+{
+    let mut kept = Vec::with_capacity(alloc, xs.len())?;
+    for x in xs {
+        kept.push_reserved(x.kept(lo, hi));
+    }
+    Ok(kept)
 }
 
 // What is to be known of each number. Nothing is done: the loop is there for its proof.

@@ -21,6 +21,10 @@ impl Lane for i8 {
         lo <= self && self <= hi
     }
 
+    fn kept(self, lo: i8, hi: i8) -> i8 {
+        if self.is_within(lo, hi) { self } else { 0 }
+    }
+
     fn at_least_word(block: &[i8], v: i8) -> u64 {
         let lanes = i8x64::from_slice(block);
         lanes.simd_ge(i8x64::splat(v)).to_bitmask()
@@ -47,6 +51,10 @@ impl Lane for i16 {
 
     fn is_within(self, lo: i16, hi: i16) -> bool {
         lo <= self && self <= hi
+    }
+
+    fn kept(self, lo: i16, hi: i16) -> i16 {
+        if self.is_within(lo, hi) { self } else { 0 }
     }
 
     fn at_least_word(block: &[i16], v: i16) -> u64 {
@@ -77,6 +85,10 @@ impl Lane for i32 {
         lo <= self && self <= hi
     }
 
+    fn kept(self, lo: i32, hi: i32) -> i32 {
+        if self.is_within(lo, hi) { self } else { 0 }
+    }
+
     fn at_least_word(block: &[i32], v: i32) -> u64 {
         let lanes = i32x64::from_slice(block);
         lanes.simd_ge(i32x64::splat(v)).to_bitmask()
@@ -103,6 +115,10 @@ impl Lane for i64 {
 
     fn is_within(self, lo: i64, hi: i64) -> bool {
         lo <= self && self <= hi
+    }
+
+    fn kept(self, lo: i64, hi: i64) -> i64 {
+        if self.is_within(lo, hi) { self } else { 0 }
     }
 
     fn at_least_word(block: &[i64], v: i64) -> u64 {

@@ -2,8 +2,9 @@
 
 use crate::{
     Bits, at_least_i8, at_least_i16, at_least_i32, at_least_i64, at_least_u8, at_least_u16,
-    at_least_u32, at_least_u64, within_i8, within_i16, within_i32, within_i64, within_u8,
-    within_u16, within_u32, within_u64,
+    at_least_u32, at_least_u64, keep_within_i8, keep_within_i16, keep_within_i32, keep_within_i64,
+    keep_within_u8, keep_within_u16, keep_within_u32, keep_within_u64, within_i8, within_i16,
+    within_i32, within_i64, within_u8, within_u16, within_u32, within_u64,
 };
 use std::alloc::{AllocError, Global};
 use std::process::Abort;
@@ -80,7 +81,8 @@ fn many(rt: &impl Abort, plane: Result<Bits, AllocError>, count: u64) -> Result<
 #[test]
 fn planes_have_every_length(rt: HostRuntime) -> Result<(), Fail> {
     let alloc = rt.alloc();
-    // How many numbers from 0 on, how many of 3 to 64 are among them, and how many of 40 on.
+    // How many numbers from 0 on, how many of 3 to 64 are among them, and how many of 40 on. The
+    // last row is that of plane-of-67.
     for (length, within, at_least) in [
         (0, 0, 0),
         (1, 0, 0),
@@ -149,6 +151,47 @@ fn i64_has_its_ends(rt: HostRuntime) -> Result<(), Fail> {
 #[test]
 fn u64_has_its_ends(rt: HostRuntime) -> Result<(), Fail> {
     ends!(&rt, u64, at_least_u64, within_u64)
+}
+
+// What is left of a type's least number, 1 and its greatest where the lowest is left out, and
+// where the highest is.
+macro_rules! keeps {
+    ($rt:expr, $number:ident, $keep:ident) => {{
+        let alloc = $rt.alloc();
+        let (least, most) = ($number::MIN, $number::MAX);
+        let high = $keep(alloc, &[least, 1, most], 1, most)?;
+        assert_eq!($rt; high.as_slice(), [0, 1, most].as_slice());
+        let low = $keep(alloc, &[least, 1, most], least, 1)?;
+        assert_eq!($rt; low.as_slice(), [least, 1, 0].as_slice());
+    }};
+}
+
+#[test]
+fn numbers_of_eight_bits_are_kept(rt: HostRuntime) -> Result<(), Fail> {
+    keeps!(&rt, i8, keep_within_i8);
+    keeps!(&rt, u8, keep_within_u8);
+    Ok(())
+}
+
+#[test]
+fn numbers_of_sixteen_bits_are_kept(rt: HostRuntime) -> Result<(), Fail> {
+    keeps!(&rt, i16, keep_within_i16);
+    keeps!(&rt, u16, keep_within_u16);
+    Ok(())
+}
+
+#[test]
+fn numbers_of_thirty_two_bits_are_kept(rt: HostRuntime) -> Result<(), Fail> {
+    keeps!(&rt, i32, keep_within_i32);
+    keeps!(&rt, u32, keep_within_u32);
+    Ok(())
+}
+
+#[test]
+fn numbers_of_sixty_four_bits_are_kept(rt: HostRuntime) -> Result<(), Fail> {
+    keeps!(&rt, i64, keep_within_i64);
+    keeps!(&rt, u64, keep_within_u64);
+    Ok(())
 }
 
 #[test]

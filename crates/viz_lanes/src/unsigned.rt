@@ -20,6 +20,10 @@ impl Lane for u8 {
         lo <= self && self <= hi
     }
 
+    fn kept(self, lo: u8, hi: u8) -> u8 {
+        if self.is_within(lo, hi) { self } else { 0 }
+    }
+
     fn at_least_word(block: &[u8], v: u8) -> u64 {
         let lanes = u8x64::from_slice(block);
         lanes.simd_ge(u8x64::splat(v)).to_bitmask()
@@ -46,6 +50,10 @@ impl Lane for u16 {
 
     fn is_within(self, lo: u16, hi: u16) -> bool {
         lo <= self && self <= hi
+    }
+
+    fn kept(self, lo: u16, hi: u16) -> u16 {
+        if self.is_within(lo, hi) { self } else { 0 }
     }
 
     fn at_least_word(block: &[u16], v: u16) -> u64 {
@@ -76,6 +84,10 @@ impl Lane for u32 {
         lo <= self && self <= hi
     }
 
+    fn kept(self, lo: u32, hi: u32) -> u32 {
+        if self.is_within(lo, hi) { self } else { 0 }
+    }
+
     fn at_least_word(block: &[u32], v: u32) -> u64 {
         let lanes = u32x64::from_slice(block);
         lanes.simd_ge(u32x64::splat(v)).to_bitmask()
@@ -102,6 +114,10 @@ impl Lane for u64 {
 
     fn is_within(self, lo: u64, hi: u64) -> bool {
         lo <= self && self <= hi
+    }
+
+    fn kept(self, lo: u64, hi: u64) -> u64 {
+        if self.is_within(lo, hi) { self } else { 0 }
     }
 
     fn at_least_word(block: &[u64], v: u64) -> u64 {

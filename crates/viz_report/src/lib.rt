@@ -13,6 +13,7 @@ mod words;
 pub use laws::one_actor_is_reported_in_order;
 pub use line::{Line, Reason};
 pub use text::{put_lines, report_text};
+pub use words::put_reason;
 
 #[cfg(test)]
 mod tests;

@@ -6,7 +6,7 @@ ghost use Rattle.viz_once.specs.Promises.{PutsLine};
 ghost use Rattle.viz_once.specs.Report.{usage_line};
 ghost use Rattle.viz_script_run.specs.Promises.{SomeRose};
 ghost use Rattle.viz_session.specs.Command.{command_of, AreNone};
-ghost use Rattle.viz_session.specs.Runs.{IsRun, IsDone, IsRefused, IsScript, IsFault, IsCutOff, OthersStay};
+ghost use Rattle.viz_session.specs.Runs.{IsRun, IsDone, IsRefused, IsScript, IsFault, IsCutOff, OthersStay, Refuses};
 
 use crate::command::{Command, command};
 use std::alloc::Global;
@@ -43,6 +43,8 @@ pub fn run<R: Threads + Wait + Sync, P: Port + Send + Drop, O: Out, G: Gate + Sy
         ports.old.items ports.new.items out.old out.new (command_of words.now) }
     ensures refused { result ≡ Status.Refused → IsRefused P.Port O.Out words.now desk.old desk.new
         ports.old.items ports.new.items out.old out.new (command_of words.now) }
+    ensures refuses { Refuses P.Port O.Out words.now desk.old desk.new ports.old.items
+        ports.new.items out.old out.new (command_of words.now) result }
     ensures fault { result ≡ Status.Fault → IsFault P.Port O.Out words.now desk.old desk.new
         ports.old.items ports.new.items out.old out.new (command_of words.now) }
     ensures memory { result ≡ Status.Memory → IsCutOff P.Port O.Out words.now desk.old desk.new
