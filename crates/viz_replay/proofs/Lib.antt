@@ -1,1 +1,3 @@
+pub mod NetworkLemmas
 pub mod RunLemmas
+pub mod ServeLemmas

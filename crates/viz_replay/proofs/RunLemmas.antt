@@ -130,7 +130,7 @@ module _ {P O : Type 0} (m : port.Ghosts P) (o : out.Ghosts O) (c : Replay) (des
   updated_from : (l : Line) → telling.0 ≡ came.Updated l → IsUpdatedFrom m c l desk new_desk old new
   updated_from l is =
       let u = updated m c old new ran.0 l (ends_in (came.Updated l) (found_line l is)) in
-      (u.0, u.2, u.3, u.4, asked_is (Some (read.Given u.0)) u.1)
+      (u.0, u.2.0, u.2.1, u.2.2, asked_is (Some (read.Given u.0)) u.1)
 
   line_put : (r : Came) → telling.0 ≡ r → IsPut o (line_of r) telling.1 before after
   line_put r is = as_line o telling.0 r telling.1 before after is telling.4
@@ -152,7 +152,7 @@ module _ {P O : Type 0} (m : port.Ghosts P) (o : out.Ghosts O) (c : Replay) (des
     | inl e ↦
       let f = found_is found telling.0 came.NoPort telling.2 e (λ bad. let b : came.Memory ≡ came.NoPort = bad in cc) in
       let d = no_port m c old new ran.0 (ends_in came.NoPort f) in
-      inl (d.1, d.2, asked_is None d.0, puts o (line_of came.NoPort) before after telling.1 (line_put came.NoPort e))
+      inl (d.1.0, d.1.1, asked_is None d.0, puts o (line_of came.NoPort) before after telling.1 (line_put came.NoPort e))
     | inr t ↦
       let f = found_is found telling.0 (came.Refused t.0 t.1) telling.2 t.2 (λ bad. let b : came.Memory ≡ came.Refused t.0 t.1 = bad in cc) in
       let d = refused_journal m c old new ran.0 t.0 t.1 (ends_in (came.Refused t.0 t.1) f) in

@@ -9,7 +9,7 @@ use Rattle.viz_replay.specs.Replay.{Replay, IsUpdated}
 
 -- the words as contracts see them
 abbrev pub replay_of : Words → Replay
-replay_of c = record { journal = c.journal; count = c.count; sink = c.sink; output = c.output }
+replay_of c = record { journal = c.journal.now; count = c.count; sink = c.sink; output = c.output }
 
 -- the sink was updated, or memory ran out before anything was called
 abbrev pub IsServed : {P : Type 0} → port.Ghosts P → Replay → List JournalEntry → Came → List P → List P → Type 0

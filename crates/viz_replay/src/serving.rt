@@ -56,14 +56,13 @@ fn serve_entries<P: Port>(
 }
 
 /// Reads the journal from the desk, and updates the sink on the network of its first entries.
-pub fn serve<P: Port>(
+fn serve_over<P: Port>(
     alloc: Global,
     command: &Replay<'_>,
     desk: &mut P,
-    ports: &mut Vec<P>,
+    ports: &mut [P],
 ) -> Came
-    ensures { IsRan P.Port (replay_of command.now) result desk.old desk.new
-        ports.old.items ports.new.items }
+    ensures { IsRan P.Port (replay_of command.now) result desk.old desk.new ports.old ports.new }
 {
     if ports.is_empty() {
         return Came::NoPort;
@@ -87,4 +86,17 @@ pub fn serve<P: Port>(
         Err(ScriptStop::Refused { line, refusal }) => Came::Refused { line, refusal },
         Err(ScriptStop::Memory) => Came::Memory,
     }
+}
+
+/// The same over the list of ports.
+pub fn serve<P: Port>(
+    alloc: Global,
+    command: &Replay<'_>,
+    desk: &mut P,
+    ports: &mut Vec<P>,
+) -> Came
+    ensures { IsRan P.Port (replay_of command.now) result desk.old desk.new
+        ports.old.items ports.new.items }
+{
+    serve_over(alloc, command, desk, ports.as_mut_slice())
 }

@@ -152,10 +152,10 @@ failed_is write.Failed e = refl
 -- ---- the text
 
 module _ {O : Type 0} (m : out.Ghosts O) (text : List ℕ) (old new : O) where
-  gains : (a : Answer) → a ≡ Ok tt → IsPut m text a old new → GainsLine m text old new
+  pub gains : (a : Answer) → a ≡ Ok tt → IsPut m text a old new → GainsLine m text old new
   gains a ok put = (subst (λ (b : Answer). IsPut m text b old new) ok put).text_after
 
-  puts : (a : Answer) → IsPut m text a old new → PutsLine m text old new
+  pub puts : (a : Answer) → IsPut m text a old new → PutsLine m text old new
   puts (Ok done) put = λ t. inl (put.text_after t)
   puts (Err writing.Failed) put = λ t. inr (inl (put.cause refl, put.text_after t))
   puts (Err writing.Memory) put = λ t. inr (inr (put.text_after t, put.answered))
@@ -174,7 +174,7 @@ one_fault (line.File at cells points ran ∷ ls) e = one_fault ls e
 one_fault (line.Refused reason at ∷ ls) e = one_fault ls e
 one_fault (line.Memory ∷ ls) e = one_fault ls e
 
-rose_by : (n old new : ℕ) → RoseBy (n + 1) old new → Rose old new
+pub rose_by : (n old new : ℕ) → RoseBy (n + 1) old new → Rose old new
 rose_by n old new r = elim r.risen [
   | inl more ↦ inl (omega (arith, more))
   | inr most ↦ inr most

@@ -1,7 +1,0 @@
-use Rattle.std.proofs.Common.{◌≡◌, ◌+◌, length, take, min}
-use Rattle.viz_journal.specs.Reading.{edits_of}
-use Rattle.viz_network.specs.History.{net_of}
-use Rattle.viz_replay.proofs.network.network_of.Given as goal
-
-abbrev pub invariant-loop-entry : goal.invariant-loop-entry
-invariant-loop-entry g l = (l.net ≡ net_of (edits_of (take l.entry-index l.entries.now))) × (l.at ≡ l.entry-index)
