@@ -1,14 +1,13 @@
 -- Marks that are passed on from a sink tell all that lies upstream of it.
-use Rattle.std.proofs.Common.{◌≡◌, ℕ, zero, suc, ◌+◌, ◌<◌, ◌≤◌, ◌⊎◌, inl, inr, ⊎_elim, Bool, true, false, true≢false, nat_eq, cond, ◌||◌, List, [], ◌∷◌, ◌++◌, length, map, replicate, slice_get, Option, None, Some, refl, sym, ap, subst, ◌∙◌, arith}
+use Rattle.std.proofs.Common.{◌≡◌, ℕ, zero, suc, ◌+◌, ◌<◌, ◌≤◌, ◌⊎◌, inl, inr, ⊎_elim, Bool, true, false, true≢false, nat_eq, cond, ◌||◌, List, [], ◌∷◌, length, replicate, slice_get, Option, None, Some, refl, sym, ap, subst, ◌∙◌, arith}
 use Rattle.std.specs.Prelude.{slice_set}
-use Rattle.std.specs.Option.{option_map}
 use Rattle.std.proofs.lemmas.Bool.{or_cases, or_left, or_right, eqb-true, eq-eqb, cases_lt}
 use Rattle.std.proofs.lemmas.Option.{slice_get_within}
 use Rattle.viz_base.specs.declared.node.NodeId.{NodeId}
 use Rattle.viz_network.specs.declared.node.Node.{Node}
 use Rattle.viz_network.specs.declared.steps.Step.{Step}
 use Rattle.viz_network.specs.Network.{Network, node_of}
-use Rattle.viz_network.specs.Cone.{Cone, Tree, grow, port, joined, total, either, has_node, cone_of}
+use Rattle.viz_network.specs.Cone.{Cone, Tree, grow, port, joined, either, has_node, cone_of}
 use Rattle.viz_network.specs.Step.{nodes_of, AreFed, IsStepOf, AreSteps}
 use Rattle.viz_account.specs.Steps.Above.{marked, all_marked, AreBelow, IsAt, LiesAbove, IsLeft, AreMarks}
 

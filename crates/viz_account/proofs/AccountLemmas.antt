@@ -1,5 +1,5 @@
 -- What an account says still holds of a longer history, and of one command more.
-use Rattle.std.proofs.Common.{◌≡◌, ℕ, zero, suc, ◌+◌, ◌-◌, ◌^◌, ◌<◌, ◌≤◌, ◌⊎◌, inl, inr, ⊎_elim, IsTrue, Bool, true, false, List, [], ◌∷◌, ◌++◌, length, length-append, take, slice_get, append_assoc, append-nil, flat_map, Option, None, Some, Result, Ok, Err, refl, sym, ap, subst, ◌∙◌, arith}
+use Rattle.std.proofs.Common.{◌≡◌, ℕ, zero, suc, ◌+◌, ◌^◌, ◌<◌, ◌≤◌, ◌⊎◌, inl, inr, List, [], ◌∷◌, ◌++◌, length, length-append, slice_get, append_assoc, append-nil, flat_map, Some, Err, refl, sym, ap, subst, ◌∙◌, arith}
 use Rattle.std.proofs.lemmas.List.{take-append-le}
 use Rattle.viz_base.specs.Faults.{most_faults, Rose}
 use Rattle.viz_base.specs.declared.call.Call.{Call}
@@ -13,9 +13,9 @@ use Rattle.viz_script.specs.Orders.{Asked, edit, load, update, audit}
 use Rattle.viz_report.specs.declared.line.Line.{Line}
 use Rattle.viz_report.specs.declared.line.Line.TheVariants as line
 use Rattle.viz_report.specs.declared.line.Reason.TheVariants as reason
-use Rattle.viz_account.specs.Lines.{network_at, IsEntry, TellsEdit, TellsLoad, TellsUpdate, Tells}
+use Rattle.viz_account.specs.Lines.{network_at, TellsEdit, TellsLoad, TellsUpdate, Tells}
 use Rattle.viz_account.specs.Account.{edited, least, AreTold, places, faults_told, RoseBy}
-use Rattle.viz_account.specs.Served.{Extends, Serves, ServesAll}
+use Rattle.viz_account.specs.Served.{Serves, ServesAll}
 
 -- ---- a longer history
 

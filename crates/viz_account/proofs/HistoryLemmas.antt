@@ -1,5 +1,5 @@
 -- A history and the places of a pass's entries, with more entries.
-use Rattle.std.proofs.Common.{◌≡◌, ℕ, zero, suc, ◌+◌, ◌<◌, ◌≤◌, Bool, true, false, cond, List, [], ◌∷◌, ◌++◌, length, length-append, take, slice_get, append_assoc, append-nil, Option, Some, Result, Ok, Err, refl, sym, ap, subst, ◌∙◌, arith}
+use Rattle.std.proofs.Common.{◌≡◌, ℕ, ◌+◌, ◌≤◌, Bool, true, false, cond, List, [], ◌∷◌, ◌++◌, length, length-append, take, slice_get, append_assoc, append-nil, Some, Err, refl, sym, ap, subst, ◌∙◌, arith}
 use Rattle.viz_turn.specs.Tales.{has}
 use Rattle.viz_turn.proofs.ListLemmas.{has_head}
 use Rattle.viz_turn.proofs.TaleLemmas.{entries_append}
@@ -11,8 +11,8 @@ use Rattle.viz_core.specs.declared.entry.EditAnswer.TheVariants as answer
 use Rattle.viz_core.specs.History.{by_of, own_of, entry, network_of}
 use Rattle.viz_core.specs.Machine.{State, Stays, Replies}
 use Rattle.viz_report.specs.declared.line.Line.TheVariants as line
-use Rattle.viz_account.specs.Account.{places_from, places, edited}
-use Rattle.viz_account.specs.Served.{Extends, GoesOnAlone}
+use Rattle.viz_account.specs.Account.{places_from, places}
+use Rattle.viz_account.specs.Served.{GoesOnAlone}
 use Rattle.viz_account.specs.Steps.Edits.{line_of, count_after, Edits}
 
 pub take-all : (h : List Entry) → take (length h) h ≡ h

@@ -1,5 +1,5 @@
 -- What is made of a node, by its cases.
-use Rattle.std.proofs.Common.{◌≡◌, ℕ, List, [], ◌∷◌, Option, None, Some, Result, Ok, Err, refl, sym, ap, subst, ◌∙◌}
+use Rattle.std.proofs.Common.{◌≡◌, ℕ, List, [], Option, None, Some, Result, Ok, Err, refl, sym, ap, subst, ◌∙◌}
 use Rattle.std.specs.Option.{option_map}
 use Rattle.viz_base.specs.declared.node.NodeId.{NodeId}
 use Rattle.viz_dataset.specs.declared.dataset.Dataset.{Dataset}
@@ -13,7 +13,7 @@ use Rattle.viz_report.specs.declared.line.Line.{Line}
 use Rattle.viz_report.specs.declared.line.Line.TheVariants as line
 use Rattle.viz_report.specs.declared.line.Reason.TheVariants as reason
 use Rattle.viz_scratch.specs.Scratch.{IsScratch, Answers}
-use Rattle.viz_scratch.specs.Written.{Style, IsTextOf, IsTextBehind, IsFileOf, style_of, style_with}
+use Rattle.viz_scratch.specs.Written.{Style, IsTextOf, IsFileOf, style_of, style_with}
 use Rattle.viz_account.specs.Lines.{TellsUpdate}
 use Rattle.viz_account.specs.Steps.Made.{Makes, IsStop, IsStopped}
 

@@ -1,5 +1,5 @@
 -- The numbers of one actor's lines are those of its edits.
-use Rattle.std.proofs.Common.{◌≡◌, ℕ, zero, suc, ◌+◌, ◌≤◌, Bool, true, false, cond, List, [], ◌∷◌, ◌++◌, length, flat_map, refl, sym, ap, subst, ◌∙◌, arith}
+use Rattle.std.proofs.Common.{◌≡◌, ℕ, zero, suc, ◌+◌, ◌≤◌, Bool, true, false, cond, List, [], ◌∷◌, length, flat_map, refl, sym, ap, subst, ◌∙◌, arith}
 use Rattle.viz_base.specs.declared.call.Call.{Call}
 use Rattle.viz_base.specs.declared.port.Port as port
 use Rattle.viz_network.specs.declared.edit.Edit.{Edit}
@@ -10,8 +10,8 @@ use Rattle.viz_script.specs.Orders.{Asked, edit, load, update, audit}
 use Rattle.viz_report.specs.declared.line.Line.{Line}
 use Rattle.viz_report.specs.declared.line.Line.TheVariants as line
 use Rattle.viz_report.specs.declared.line.Reason.TheVariants as reason
-use Rattle.viz_account.specs.Lines.{TellsEdit, TellsLoad, TellsUpdate, Tells}
-use Rattle.viz_account.specs.Account.{edited, least, AreTold, places_from, places}
+use Rattle.viz_account.specs.Lines.{TellsEdit, TellsLoad, Tells}
+use Rattle.viz_account.specs.Account.{edited, AreTold, places_from}
 use Rattle.viz_account.specs.Served.{ServesAll}
 use Rattle.viz_account.specs.Laws.{Shows, CountEdits}
 use Rattle.viz_account.proofs.OnceLemmas.{few}

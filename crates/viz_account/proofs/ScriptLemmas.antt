@@ -1,5 +1,5 @@
 -- The commands of one actor in phases.
-use Rattle.std.proofs.Common.{◌≡◌, ℕ, suc, ◌+◌, ◌≤◌, List, [], ◌∷◌, ◌++◌, length, append_assoc, append-nil, flat_map, refl, sym, ap, subst, ◌∙◌, arith}
+use Rattle.std.proofs.Common.{◌≡◌, ℕ, suc, ◌≤◌, List, [], ◌∷◌, ◌++◌, length, append_assoc, flat_map, refl, sym, ap, subst, ◌∙◌, arith}
 use Rattle.std.proofs.lemmas.Grind.{flat_map-append}
 use Rattle.viz_base.specs.declared.call.Call.{Call}
 use Rattle.viz_base.specs.declared.port.Port as port
@@ -8,7 +8,7 @@ use Rattle.viz_core.specs.History.{own_of, IsLegal}
 use Rattle.viz_script.specs.Orders.{Asked}
 use Rattle.viz_report.specs.declared.line.Line.{Line}
 use Rattle.viz_report.specs.declared.line.Line.TheVariants as line
-use Rattle.viz_account.specs.Account.{edited, least, AreTold, ArePhases, places, faults_told, RoseBy, IsActor, IsAccountOf}
+use Rattle.viz_account.specs.Account.{edited, least, AreTold, ArePhases, faults_told, RoseBy, IsActor, IsAccountOf}
 use Rattle.viz_account.specs.Served.{ServesAll}
 
 pub least_low : (low n : ℕ) (l : Line) → least low l ≤ n → low ≤ n

@@ -1,5 +1,5 @@
 -- What a line of the report says of its command, and the calls of that command (docs/DEFINITIONS.md, "The account of a script").
-use Rattle.std.specs.Prelude.{◌≡◌, ℕ, ◌+◌, true, ◌⊎◌, List, [], ◌∷◌, length, take, slice_get, Option, None, Some, Result, Ok, Err}
+use Rattle.std.specs.Prelude.{◌≡◌, ℕ, ◌+◌, true, ◌⊎◌, List, [], ◌∷◌, take, slice_get, None, Some, Ok, Err}
 use Rattle.viz_base.specs.declared.call.Call.{Call}
 use Rattle.viz_base.specs.declared.call.Call.TheVariants.{Read, Write}
 use Rattle.viz_base.specs.declared.call.ReadAnswer.TheVariants as read

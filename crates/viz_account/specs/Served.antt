@@ -3,7 +3,6 @@ use Rattle.std.specs.Prelude.{◌≡◌, ℕ, ◌≤◌, IsTrue, List, [], ◌�
 use Rattle.viz_base.specs.declared.call.Call.{Call}
 use Rattle.viz_base.specs.declared.port.Port as port
 use Rattle.viz_network.specs.Network.{Network}
-use Rattle.viz_cache.specs.declared.stored.Stored.{Stored}
 use Rattle.viz_core.specs.declared.entry.Entry.{Entry}
 use Rattle.viz_core.specs.History.{own_of}
 use Rattle.viz_core.specs.Machine.{State}

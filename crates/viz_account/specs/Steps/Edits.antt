@@ -1,5 +1,5 @@
 -- What an edit of an actor came to. Only private contracts speak of it.
-use Rattle.std.specs.Prelude.{◌≡◌, ℕ, ◌+◌, ◌≤◌, List, [], ◌∷◌, ◌++◌, length}
+use Rattle.std.specs.Prelude.{◌≡◌, ℕ, ◌+◌, ◌≤◌, [], ◌∷◌, ◌++◌, length}
 use Rattle.viz_network.specs.declared.edit.Edit.{Edit}
 use Rattle.viz_core.specs.declared.entry.EditAnswer.{EditAnswer}
 use Rattle.viz_core.specs.declared.entry.EditAnswer.TheVariants as answer

@@ -1,6 +1,5 @@
-use Rattle.std.proofs.Common.{◌≡◌, ◌<◌, length, slice_get, Some, true, false, true≢false, sym, ap, ◌∙◌, arith}
+use Rattle.std.proofs.Common.{◌≡◌, slice_get, Some, true, false, true≢false, sym, ap, ◌∙◌, arith}
 use Rattle.std.proofs.lemmas.Option.{slice_get_within, slice_get-get_or}
-use Rattle.viz_account.specs.Steps.Above.{AreMarks}
 use Rattle.viz_account.proofs.AboveLemmas.{inputs_below, passed, not_passed}
 use Rattle.viz_account.proofs.running.pass_on.Goals as goal
 

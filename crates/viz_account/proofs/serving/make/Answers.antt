@@ -1,5 +1,4 @@
-use Rattle.std.proofs.Common.{◌≡◌, ◌+◌, ◌<◌, length, sym, ap, subst, ◌∙◌, arith}
-use Rattle.viz_core.specs.History.{own_of}
+use Rattle.std.proofs.Common.{◌+◌, sym, subst, ◌∙◌, arith}
 use Rattle.viz_account.specs.Steps.Edits.{Edits}
 use Rattle.viz_account.proofs.HistoryLemmas.{own_short, edits_told, counted_told}
 use Rattle.viz_account.proofs.serving.make.Goals as goal

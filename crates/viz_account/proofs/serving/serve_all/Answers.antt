@@ -1,4 +1,4 @@
-use Rattle.std.proofs.Common.{◌≡◌, refl, ◌+◌, ◌∙◌, ◌++◌, [], ◌∷◌, map, take, length, length-append, sym, ap, subst, arith}
+use Rattle.std.proofs.Common.{◌≡◌, refl, ◌+◌, ◌∙◌, ◌++◌, [], ◌∷◌, take, length, length-append, sym, ap, subst, arith}
 use Rattle.std.proofs.lemmas.List.{take_more, map-append}
 use Rattle.viz_script.specs.Orders.{seen}
 use Rattle.viz_account.specs.Served.{commands, GoesOnAlone, Serves}

@@ -1,4 +1,4 @@
-use Rattle.std.proofs.Common.{◌≡◌, ℕ, ◌+◌, ◌≤◌, length, take, vec_len, vec_capacity}
+use Rattle.std.proofs.Common.{◌≡◌, ◌≤◌, length, take, vec_capacity}
 use Rattle.viz_account.specs.Served.{commands, IsCounted, GoesOnAlone, ServesAll}
 use Rattle.viz_account.proofs.serving.serve_all.Given as goal
 
