@@ -6,16 +6,16 @@
 //! private contracts.
 #![tactic(auto)]
 
-mod append;
-mod copies;
-mod keeping;
-mod select;
 mod cell_tests;
+mod copies;
+mod joining;
+mod keeping;
+mod selection;
 mod withins;
 
-pub use append::append;
 pub use copies::{copied, copied_sheets};
-pub use select::select;
+pub use joining::append;
+pub use selection::select;
 
 #[cfg(test)]
 mod tests;

@@ -1,8 +1,7 @@
 //! The cells all or any of whose corners have a scalar within bounds.
 
 ghost use Rattle.std.specs.Prelude.{◌≡◌, IfOk, map};
-ghost use Rattle.std.specs.List.{flat_map};
-ghost use Rattle.viz_mesh_meaning.specs.Select.{if_selected, selected, selections};
+ghost use Rattle.viz_mesh_meaning.specs.Select.{selected, selections};
 
 use crate::cell_tests::marked_cells;
 use crate::keeping::kept_cells;
@@ -38,10 +37,12 @@ fn selected(
 ) -> Result<Sheet, AllocError>
     ensures value { IfOk result (λ s. s ≡ selected all lo.now hi.now sheet.now) }
 {
-    let within = withins(alloc, lo, hi, sheet.places())?;
-    let keeps = marked_cells(alloc, all, &within, sheet.ranks())?;
-    let cells = kept_cells(alloc, &keeps, sheet.ranks())?;
-    let made = compacted(alloc, sheet.leaves(), sheet.places(), &cells)?;
+    let places = sheet.places();
+    let ranks = sheet.ranks();
+    let within = withins(alloc, lo, hi, places)?;
+    let keeps = marked_cells(alloc, all, &within, ranks)?;
+    let cells = kept_cells(alloc, &keeps, ranks)?;
+    let made = compacted(alloc, sheet.leaves(), places, &cells)?;
     sheet.known();
     made.known();
     Ok(made)
