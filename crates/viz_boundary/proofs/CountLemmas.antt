@@ -14,7 +14,7 @@ use Rattle.viz_boundary.proofs.OrderLemmas.{IsSet, key-tells_set}
 use Rattle.viz_boundary.proofs.TestLemmas.{count-members, count-none, count-not, each-facet, each-from, mem, same_test}
 
 -- tests that agree item by item count the same
-count-alike : {X Y : Type 0} (p : X → Bool) (q : Y → Bool) (xs : List X) (ys : List Y) → map p xs ≡ map q ys → count_by p xs ≡ count_by q ys
+pub count-alike : {X Y : Type 0} (p : X → Bool) (q : Y → Bool) (xs : List X) (ys : List Y) → map p xs ≡ map q ys → count_by p xs ≡ count_by q ys
 count-alike p q xs ys e = by_answers p xs ∙ ap (count_by (λ b. b)) e ∙ sym (by_answers q ys)
   where
     by_answers : {Z : Type 0} (r : Z → Bool) (zs : List Z) → count_by r zs ≡ count_by (λ b. b) (map r zs)
@@ -54,10 +54,10 @@ count-tests x d ax ad true true es eh =
 abbrev pub has_set : ℕ → List ℕ → List ℕ → Bool
 has_set size x d = nat_eq (length d) size && has_each nat_eq d x
 
-few_facets : (x d : List ℕ) → length d ≤ 1 → IsSet x → 0 ≡ cond (has_set (length x + 1) x d) 1 0
+few_facets : (x d : List ℕ) → length d ≤ 1 → IsSet x → count_by (λ (y : List ℕ). true) [] ≡ cond (has_set (length x + 1) x d) 1 0
 few_facets x d l h = one (nat_eq (length d) (length x + 1)) refl
   where
-    one : (b : Bool) → nat_eq (length d) (length x + 1) ≡ b → 0 ≡ cond (b && has_each nat_eq d x) 1 0
+    one : (b : Bool) → nat_eq (length d) (length x + 1) ≡ b → count_by (λ (y : List ℕ). true) [] ≡ cond (b && has_each nat_eq d x) 1 0
     one true e = absurd (omega (arith, eqb-true (length d) (length x + 1) e, h.some))
     one false e = refl
 
@@ -66,21 +66,27 @@ cell-count n x [] few hx hd = few_facets x [] (omega arith) hx
 cell-count n x (a ∷ []) few hx hd = few_facets x (a ∷ []) (omega arith) hx
 cell-count n x (a ∷ b ∷ []) few hx hd =
     let d = a ∷ b ∷ [] in
-    let t = λ (i : ℕ) (l : i < 2). facet-test n x d i few hx hd (omega arith) (omega arith) (facet-sets n d few hd i (facet d i) l) (facets-size d hd.most i (facet d i) l).fewer in
+    let t0 = facet-test n x d 0 few hx hd (omega arith) (omega arith) (facet-sets n d few hd 0 (facet d 0) (omega arith)) (facets-size d hd.most 0 (facet d 0) (omega arith)).fewer in
+    let t1 = facet-test n x d 1 few hx hd (omega arith) (omega arith) (facet-sets n d few hd 1 (facet d 1) (omega arith)) (facets-size d hd.most 1 (facet d 1) (omega arith)).fewer in
     count-alike (λ y. nat_eq (set_key y) (set_key x)) (λ r. nat_eq (length d) (length x + 1) && (has_each nat_eq d x && not (mem x r))) (facets_of d) d
-    (λ i. t 0 (omega arith) i ∷ t 1 (omega arith) i ∷ [])
+    (λ i. t0 i ∷ t1 i ∷ [])
     ∙ count-tests x d hx.apart hd.apart (nat_eq (length d) (length x + 1)) (has_each nat_eq d x) refl refl
 cell-count n x (a ∷ b ∷ c ∷ []) few hx hd =
     let d = a ∷ b ∷ c ∷ [] in
-    let t = λ (i : ℕ) (l : i < 3). facet-test n x d i few hx hd (omega arith) (omega arith) (facet-sets n d few hd i (facet d i) l) (facets-size d hd.most i (facet d i) l).fewer in
+    let t0 = facet-test n x d 0 few hx hd (omega arith) (omega arith) (facet-sets n d few hd 0 (facet d 0) (omega arith)) (facets-size d hd.most 0 (facet d 0) (omega arith)).fewer in
+    let t1 = facet-test n x d 1 few hx hd (omega arith) (omega arith) (facet-sets n d few hd 1 (facet d 1) (omega arith)) (facets-size d hd.most 1 (facet d 1) (omega arith)).fewer in
+    let t2 = facet-test n x d 2 few hx hd (omega arith) (omega arith) (facet-sets n d few hd 2 (facet d 2) (omega arith)) (facets-size d hd.most 2 (facet d 2) (omega arith)).fewer in
     count-alike (λ y. nat_eq (set_key y) (set_key x)) (λ r. nat_eq (length d) (length x + 1) && (has_each nat_eq d x && not (mem x r))) (facets_of d) d
-    (λ i. t 0 (omega arith) i ∷ t 1 (omega arith) i ∷ t 2 (omega arith) i ∷ [])
+    (λ i. t0 i ∷ t1 i ∷ t2 i ∷ [])
     ∙ count-tests x d hx.apart hd.apart (nat_eq (length d) (length x + 1)) (has_each nat_eq d x) refl refl
 cell-count n x (a ∷ b ∷ c ∷ e ∷ []) few hx hd =
     let d = a ∷ b ∷ c ∷ e ∷ [] in
-    let t = λ (i : ℕ) (l : i < 4). facet-test n x d i few hx hd (omega arith) (omega arith) (facet-sets n d few hd i (facet d i) l) (facets-size d hd.most i (facet d i) l).fewer in
+    let t0 = facet-test n x d 0 few hx hd (omega arith) (omega arith) (facet-sets n d few hd 0 (facet d 0) (omega arith)) (facets-size d hd.most 0 (facet d 0) (omega arith)).fewer in
+    let t1 = facet-test n x d 1 few hx hd (omega arith) (omega arith) (facet-sets n d few hd 1 (facet d 1) (omega arith)) (facets-size d hd.most 1 (facet d 1) (omega arith)).fewer in
+    let t2 = facet-test n x d 2 few hx hd (omega arith) (omega arith) (facet-sets n d few hd 2 (facet d 2) (omega arith)) (facets-size d hd.most 2 (facet d 2) (omega arith)).fewer in
+    let t3 = facet-test n x d 3 few hx hd (omega arith) (omega arith) (facet-sets n d few hd 3 (facet d 3) (omega arith)) (facets-size d hd.most 3 (facet d 3) (omega arith)).fewer in
     count-alike (λ y. nat_eq (set_key y) (set_key x)) (λ r. nat_eq (length d) (length x + 1) && (has_each nat_eq d x && not (mem x r))) (facets_of d) d
-    (λ i. t 0 (omega arith) i ∷ t 1 (omega arith) i ∷ t 2 (omega arith) i ∷ t 3 (omega arith) i ∷ [])
+    (λ i. t0 i ∷ t1 i ∷ t2 i ∷ t3 i ∷ [])
     ∙ count-tests x d hx.apart hd.apart (nat_eq (length d) (length x + 1)) (has_each nat_eq d x) refl refl
 cell-count n x (a ∷ b ∷ c ∷ e ∷ f ∷ rest) few hx hd = absurd (omega (arith, hd.most))
 

@@ -4,4 +4,5 @@ pub mod CountLemmas
 pub mod LoneLemmas
 pub mod KeyedLemmas
 pub mod NamedLemmas
+pub mod LoopLemmas
 pub mod MadeLemmas

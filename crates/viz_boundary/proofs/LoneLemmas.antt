@@ -1,14 +1,14 @@
 -- Keys of a sorted list whose set no other key has: those whose neighbours have other sets.
-use Rattle.std.proofs.Common.{◌≡◌, ◌≢◌, ℕ, zero, suc, ◌+◌, ◌-◌, ◌<◌, ◌≤◌, Bool, true, false, cond, ◌&&◌, List, [], ◌∷◌, length, get_or, map, refl, sym, ap, subst, ◌∙◌, true≢false, ⊎_elim, nat_eq, is_lt, arith, eqb-true, eq-eqb}
+use Rattle.std.proofs.Common.{◌≡◌, ◌≢◌, ℕ, zero, suc, ◌+◌, ◌-◌, ◌<◌, ◌≤◌, Bool, true, false, cond, ◌&&◌, List, [], ◌∷◌, length, get_or, map, replicate, refl, sym, ap, subst, ◌∙◌, true≢false, ⊎_elim, nat_eq, is_lt, arith, eqb-true, eq-eqb}
 use Rattle.std.specs.List.{count_by, Contains}
 use Rattle.std.specs.List.Sorted.{IsSorted, IsPermutation}
 use Rattle.std.specs.Ordering.{nat_cmp}
 use Rattle.std.proofs.lemmas.Bool.{cases_lt}
 use Rattle.std.proofs.lemmas.Cmp.{nat_cmp_total}
-use Rattle.std.proofs.lemmas.List.{get_or-map, get_or_default, same_lists, length-map}
-use Rattle.std.proofs.lemmas.List.Sorted.{ranks_by, sorted_far, sum_by-IsPermutation, Contains-permutation, IsPermutation-sym, length-IsPermutation}
+use Rattle.std.proofs.lemmas.List.{get_or_default, length-replicate}
+use Rattle.std.proofs.lemmas.List.Sorted.{ranks_by, sorted_far, sum_by-IsPermutation, Contains-permutation, IsPermutation-sym}
 use Rattle.viz_sheet.proofs.KeptLemmas.{count_by-cons}
-use Rattle.viz_boundary.specs.Steps.Alone.{AreIndexed, AreMarked, index_of, is_alone, set_of, times}
+use Rattle.viz_boundary.specs.Steps.Alone.{AreIndexed, AreMarked, Begins, Ends, HaveIndices, TellAlone, index_of, is_alone, set_of, times}
 use Rattle.viz_boundary.proofs.TestLemmas.{is_false, same_test}
 
 count-none : {X : Type 0} (p : X → Bool) (xs : List X) (d : X) → ((j : ℕ) → j < length xs → p (get_or xs j d) ≡ false) → count_by p xs ≡ 0
@@ -52,13 +52,6 @@ squeezed a b c h k e = omega arith
 
 between : (xs : List ℕ) → IsSorted nat_cmp xs → (i m j : ℕ) → i ≤ m → m ≤ j → j < length xs → set_of (get_or xs i 0) ≡ set_of (get_or xs j 0) → set_of (get_or xs m 0) ≡ set_of (get_or xs j 0)
 between xs s i m j im mj l e = squeezed (get_or xs i 0) (get_or xs m 0) (get_or xs j 0) (far xs s i m im (omega arith)) (far xs s m j mj l) e
-
--- the key in front has another set, and so has the key behind
-pub record Begins (keys : List ℕ) (at : ℕ) : Type 0 where
-  pub other : 0 < at → set_of (get_or keys (at - 1) 0) ≢ set_of (get_or keys at 0)
-
-pub record Ends (keys : List ℕ) (at : ℕ) : Type 0 where
-  pub other : at + 1 < length keys → set_of (get_or keys (at + 1) 0) ≢ set_of (get_or keys at 0)
 
 once : (xs : List ℕ) (at : ℕ) → at < length xs → IsSorted nat_cmp xs → Begins xs at → Ends xs at → times xs (set_of (get_or xs at 0)) ≡ 1
 once xs at l s b e =
@@ -128,3 +121,22 @@ marks-are keys sorted marks h p m j l =
         let c : Contains sorted key = Contains-permutation keys sorted key p (j, l, get_or_default keys j key 0 l) in
         let is : get_or sorted c.0 0 ≡ key = get_or_default sorted c.0 0 key c.1 ∙ c.2 in
         subst (λ i. get_or marks i false ≡ true) (ap index_of is ∙ h.each j l) (m.set c.0 c.1 (alone-moved keys sorted c.0 j p is ∙ e)))
+
+-- the sorted keys have indices below their number
+pub sorted-indices : (keys sorted : List ℕ) → AreIndexed keys → IsPermutation keys sorted → length sorted ≡ length keys → HaveIndices sorted
+sorted-indices keys sorted h p size = record { below = λ k l. omega (arith, (at-index keys sorted k h p l).0, size) }
+
+pub none-marked : (keys : List ℕ) → AreMarked keys 0 (replicate (length keys) false)
+none-marked keys = record {
+  size = length-replicate (length keys) false;
+  set = λ k l. absurd (omega arith);
+  only = λ j e. absurd (true≢false (sym e ∙ unmarked (length keys) j));
+}
+  where
+    unmarked : (n j : ℕ) → get_or (replicate n false) j false ≡ false
+    unmarked zero j = refl
+    unmarked (suc n) zero = refl
+    unmarked (suc n) (suc j) = unmarked n j
+
+pub tells-alone : (keys sorted : List ℕ) (marks : List Bool) → AreIndexed keys → IsPermutation keys sorted → length sorted ≡ length keys → AreMarked sorted (length sorted) marks → TellAlone keys marks
+tells-alone keys sorted marks h p size m = record { size = m.size ∙ size; each = marks-are keys sorted marks h p m }

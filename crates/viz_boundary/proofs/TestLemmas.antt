@@ -81,13 +81,13 @@ count-most p (x ∷ xs) = omega (arith, count_by-cons p x xs, count-most p xs, o
 -- where as many pass as there are, each passes
 pub count-each : {X : Type 0} (p : X → Bool) (xs : List X) → count_by p xs ≡ length xs → All (λ x. p x ≡ true) xs
 count-each p [] h = All-nil (λ x. p x ≡ true)
-count-each p (x ∷ xs) h = one (p x) refl
+count-each p (x ∷ xs) h = one (p x) refl (count-each p xs)
   where
-    one : (b : Bool) → p x ≡ b → All (λ y. p y ≡ true) (x ∷ xs)
-    one true e =
+    one : (b : Bool) → p x ≡ b → (count_by p xs ≡ length xs → All (λ y. p y ≡ true) xs) → All (λ y. p y ≡ true) (x ∷ xs)
+    one true e rest =
         let count : count_by p (x ∷ xs) ≡ 1 + count_by p xs = count_by-cons p x xs ∙ ap (λ c. cond c 1 0 + count_by p xs) e in
-        All-cons (λ y. p y ≡ true) x xs e (count-each p xs (omega arith))
-    one false e =
+        All-cons (λ y. p y ≡ true) x xs e (rest (omega arith))
+    one false e rest =
         let count : count_by p (x ∷ xs) ≡ 0 + count_by p xs = count_by-cons p x xs ∙ ap (λ c. cond c 1 0 + count_by p xs) e in
         absurd (omega (arith, count-most p xs))
 
@@ -95,14 +95,15 @@ count-each p (x ∷ xs) h = one (p x) refl
 pub count-same : (p : ℕ) (xs : List ℕ) → AreApart xs → Contains xs p → count_by (λ r. nat_eq r p) xs ≡ 1
 count-same p [] a c = absurd (no_member p c)
 count-same p (x ∷ xs) a c =
+    let rest = λ (d : Contains xs p). count-same p xs a.1 d in
     ⊎_elim
     (λ (e : x ≡ p).
         let first : nat_eq x p ≡ true = eq-eqb x p e in
         let none : count_by (λ r. nat_eq r p) xs ≡ 0 = count-none (λ r. nat_eq r p) xs (λ k d l. is_false _ (λ h. a.0 k d l (e ∙ sym (eqb-true (get_or xs k d) p h)))) in
         count_by-cons (λ r. nat_eq r p) x xs ∙ rw first (omega (arith, none)))
-    (λ c2.
+    (λ (c2 : Contains xs p).
         let other : nat_eq x p ≡ false = is_false _ (λ h. a.0 c2.0 p c2.1 (eqb-true x p h ∙ sym c2.2)) in
-        count_by-cons (λ r. nat_eq r p) x xs ∙ rw other (omega (arith, count-same p xs a.1 c2)))
+        count_by-cons (λ r. nat_eq r p) x xs ∙ rw other (omega (arith, rest c2)))
     (member_cases x xs p c)
 
 -- of different numbers just as many are among some of them as these are

@@ -7,76 +7,99 @@ use std::test::Fail;
 use viz_fraction::{Point5, point};
 use viz_sheet::{Leaves, Mesh, Mixed, Places, Ranks, Sheet, are_cells, sheet_of};
 
-// The point (x, 0, 0) with a scalar over a weight.
-fn point_with(x: i128, s: i128, w: i128) -> Result<Point5, Fail> {
-    match point(x * w, 0, 0, s, w) {
+// The point of five numbers x, y, z, s, w.
+fn point_of(five: &[i128; 5]) -> Result<Point5, Fail> {
+    let [x, y, z, s, w] = *five;
+    if w <= 0 {
+        return Err("a positive weight")?;
+    }
+    match point(x, y, z, s, w) {
         Ok(p) => Ok(p),
         Err(_) => Err("a narrow point")?,
     }
 }
 
-// A sheet of points along x with these scalars over these weights.
-fn sheet_by(alloc: Global, scalars: &[(i128, i128)], ranks: Ranks) -> Result<Sheet, Fail> {
-    let mut points = Vec::new(alloc);
-    for (x, (s, w)) in scalars.iter().enumerate() {
-        points.push(point_with(x as i128, *s, *w)?)?;
+// These points in all the room.
+fn places_of(alloc: Global, points: &[[i128; 5]]) -> Result<Places, Fail> {
+    let mut places = Vec::new(alloc);
+    for five in points {
+        places.push(point_of(five)?)?;
     }
-    made(alloc, scalars.len(), Places::Wide(points), ranks)
+    Ok(Places::Wide(places))
 }
 
-// The sheet of these cells, where they are cells.
-fn made(alloc: Global, count: usize, places: Places, ranks: Ranks) -> Result<Sheet, Fail> {
-    let leaves = Leaves::of_points(alloc, count as u32)?;
+// The sheet of these points, named by their numbers, and cells.
+fn sheet_by(alloc: Global, points: &[[i128; 5]], ranks: Ranks) -> Result<Sheet, Fail> {
+    if points.len() > 9 {
+        return Err("few points")?;
+    }
+    let leaves = Leaves::of_points(alloc, points.len() as u32)?;
+    let places = places_of(alloc, points)?;
     if !are_cells(&leaves, &places, &ranks) {
         return Err("cells of ascending names")?;
     }
-    Ok(sheet_of(alloc, leaves, places, ranks)?)
+    let sheet = sheet_of(alloc, leaves, places, ranks)?;
+    Ok(sheet)
 }
 
 // The sheet has these names and these cells.
-fn shows(rt: &impl Abort, sheet: &Sheet, names: &[u32], cells: &[&[u32]]) {
+fn shows(rt: &impl Abort, sheet: &Sheet, names: &[&[u32]], cells: &[&[u32]]) {
     assert_eq!(rt; sheet.point_count(), names.len(), "{names:?}");
     for (rank, name) in names.iter().enumerate() {
-        assert_eq!(rt; sheet.name(rank), [*name].as_slice(), "{names:?}");
+        assert!(rt; rank < sheet.point_count(), "{names:?}");
+        assert_eq!(rt; sheet.name(rank), *name, "{names:?}");
     }
     assert_eq!(rt; sheet.cell_count(), cells.len(), "{cells:?}");
     for (i, cell) in cells.iter().enumerate() {
+        assert!(rt; i < sheet.cell_count(), "{cells:?}");
         assert_eq!(rt; sheet.cell(i), *cell, "{cells:?}");
     }
 }
 
-// The selection of one sheet.
-fn selected(alloc: Global, sheet: Sheet, lo: i64, hi: i64, all: bool) -> Result<Mesh, Fail> {
+// How many cells the selection of one sheet has.
+fn count_of(alloc: Global, sheet: Sheet, lo: i64, hi: i64, all: bool) -> Result<usize, Fail> {
     let sheets = vec![in alloc; sheet]?;
-    Ok(select(alloc, &sheets, lo, hi, all)?)
+    let mesh = select(alloc, &sheets, lo, hi, all)?;
+    match mesh.sheets() {
+        [only] => Ok(only.cell_count()),
+        _ => Err("one sheet")?,
+    }
 }
 
-// select-any-all
+// A tetrahedron with the scalars 0, 5, 5 and 9.
+fn tetrahedron(alloc: Global) -> Result<Sheet, Fail> {
+    let corners = [
+        [0, 0, 0, 0, 1],
+        [1, 0, 0, 5, 1],
+        [0, 1, 0, 5, 1],
+        [0, 0, 1, 9, 1],
+    ];
+    let cells = vec![in alloc; [0, 1, 2, 3]]?;
+    sheet_by(alloc, &corners, Ranks::Tetrahedra(cells))
+}
+
+// The row select-any-all.
 #[test]
 fn any_corner_keeps_what_all_drop(rt: HostRuntime) -> Result<(), Fail> {
-    for (all, count) in [(false, 1), (true, 0)] {
-        let cells = vec![in rt.alloc(); [0, 1, 2, 3]]?;
-        let scalars = [(0, 1), (5, 1), (5, 1), (9, 1)];
-        let sheet = sheet_by(rt.alloc(), &scalars, Ranks::Tetrahedra(cells))?;
-        let mesh = selected(rt.alloc(), sheet, 5, 9, all)?;
-        assert_eq!(rt; mesh.sheets().len(), 1, "{all}");
-        for sheet in mesh.sheets() {
-            assert_eq!(rt; sheet.cell_count(), count, "{all}");
-        }
+    for (all, want) in [(false, 1), (true, 0)] {
+        let sheet = tetrahedron(rt.alloc())?;
+        let count = count_of(rt.alloc(), sheet, 5, 9, all)?;
+        assert_eq!(rt; count, want, "{all}");
     }
     Ok(())
 }
 
-// Vertices with the scalars 2, 5/2, 3, -2, -5/2, from lo to hi.
-fn kept_of_five(rt: &impl Abort, alloc: Global, lo: i64, hi: i64, want: usize) -> Result<(), Fail> {
-    let scalars = [(2, 1), (5, 2), (3, 1), (-2, 1), (-5, 2)];
+// Vertices with the scalars 2, 5/2, 3, -2 and -5/2.
+fn five_vertices(alloc: Global) -> Result<Sheet, Fail> {
+    let points = [
+        [0, 0, 0, 2, 1],
+        [1, 0, 0, 5, 2],
+        [2, 0, 0, 3, 1],
+        [3, 0, 0, -2, 1],
+        [4, 0, 0, -5, 2],
+    ];
     let cells = vec![in alloc; [0], [1], [2], [3], [4]]?;
-    let sheet = sheet_by(alloc, &scalars, Ranks::Vertices(cells))?;
-    let mesh = selected(alloc, sheet, lo, hi, true)?;
-    for sheet in mesh.sheets() {
-        assert_eq!(rt; sheet.cell_count(), want, "{lo} {hi}");
-    }
-    Ok(())
+    sheet_by(alloc, &points, Ranks::Vertices(cells))
 }
 
 #[test]
@@ -89,55 +112,50 @@ fn both_bounds_belong_to_the_range(rt: HostRuntime) -> Result<(), Fail> {
         (-3, -2, 2),
         (-2, -2, 1),
     ] {
-        kept_of_five(&rt, rt.alloc(), lo, hi, want)?;
+        let sheet = five_vertices(rt.alloc())?;
+        let count = count_of(rt.alloc(), sheet, lo, hi, true)?;
+        assert_eq!(rt; count, want, "{lo} {hi}");
     }
     Ok(())
 }
 
 #[test]
 fn names_of_dropped_cells_go(rt: HostRuntime) -> Result<(), Fail> {
-    let scalars = [(0, 1), (7, 1), (7, 1), (0, 1), (7, 1)];
+    let points = [
+        [0, 0, 0, 0, 1],
+        [1, 0, 0, 7, 1],
+        [2, 0, 0, 7, 1],
+        [3, 0, 0, 0, 1],
+        [4, 0, 0, 7, 1],
+    ];
     let cells = vec![in rt.alloc();
         Mixed::new(1, [0, 9, 9, 9]),
         Mixed::new(2, [4, 1, 9, 9]),
         Mixed::new(3, [1, 2, 3, 9]),
         Mixed::new(2, [2, 1, 9, 9]),
     ]?;
-    let sheet = sheet_by(rt.alloc(), &scalars, Ranks::Any(cells))?;
-    let mesh = selected(rt.alloc(), sheet, 7, 7, true)?;
+    let sheets = vec![in rt.alloc(); sheet_by(rt.alloc(), &points, Ranks::Any(cells))?]?;
+    let mesh = select(rt.alloc(), &sheets, 7, 7, true)?;
+    assert_eq!(rt; mesh.sheets().len(), 1);
     for sheet in mesh.sheets() {
-        shows(&rt, sheet, &[1, 2, 4], &[&[2, 0], &[1, 0]]);
+        shows(&rt, sheet, &[&[1], &[2], &[4]], &[&[2, 0], &[1, 0]]);
     }
     Ok(())
 }
 
-// A mesh of sheets with so many vertices each.
-fn vertices(alloc: Global, counts: &[usize]) -> Result<Mesh, Fail> {
-    let mut sheets = Vec::new(alloc);
-    for count in counts {
-        sheets.push(sheet_of_vertices(alloc, *count)?)?;
-    }
-    Ok(Mesh::new(sheets))
-}
-
-fn sheet_of_vertices(alloc: Global, count: usize) -> Result<Sheet, Fail> {
-    let mut points = Vec::new(alloc);
-    let mut cells = Vec::new(alloc);
-    for i in 0..count {
-        points.push(point_with(i as i128, 0, 1)?)?;
-        cells.push([i as u32])?;
-    }
-    made(alloc, count, Places::Wide(points), Ranks::Vertices(cells))
+// A mesh of this one sheet.
+fn mesh_of(alloc: Global, sheet: Sheet) -> Result<Mesh, Fail> {
+    Ok(Mesh::new(vec![in alloc; sheet]?))
 }
 
 #[test]
 fn meshes_are_joined_in_turn(rt: HostRuntime) -> Result<(), Fail> {
-    let first = vertices(rt.alloc(), &[1, 2])?;
-    let second = vertices(rt.alloc(), &[])?;
-    let third = copied_sheets(rt.alloc(), vertices(rt.alloc(), &[3])?.sheets())?;
-    let meshes = vec![in rt.alloc(); first, second, third]?;
-    let mesh = append(rt.alloc(), meshes)?;
-    let want = [1, 2, 3];
+    let first = mesh_of(rt.alloc(), five_vertices(rt.alloc())?)?;
+    let none = Mesh::new(Vec::new(rt.alloc()));
+    let last = mesh_of(rt.alloc(), tetrahedron(rt.alloc())?)?;
+    let again = copied_sheets(rt.alloc(), last.sheets())?;
+    let mesh = append(rt.alloc(), vec![in rt.alloc(); first, none, last, again]?)?;
+    let want = [5, 1, 1];
     assert_eq!(rt; mesh.sheets().len(), want.len());
     for (sheet, count) in mesh.sheets().iter().zip(&want) {
         assert_eq!(rt; sheet.cell_count(), *count);

@@ -1,5 +1,5 @@
 -- Keys whose set no other key has, and marks at their indices.
-use Rattle.std.specs.Prelude.{◌≡◌, ℕ, ◌/◌, ◌%◌, ◌<◌, ◌≤◌, ◌^◌, ◌==◌, Bool, true, false, List, length, slice_index_or, count_by}
+use Rattle.std.specs.Prelude.{◌≡◌, ◌≢◌, ℕ, ◌+◌, ◌-◌, ◌/◌, ◌%◌, ◌<◌, ◌≤◌, ◌^◌, ◌==◌, Bool, true, false, List, length, slice_index_or, count_by}
 
 -- the set of a key
 abbrev pub set_of : ℕ → ℕ
@@ -36,3 +36,11 @@ pub record HaveIndices (keys : List ℕ) : Type 0 where
 pub record TellAlone (keys : List ℕ) (marks : List Bool) : Type 0 where
   pub size : length marks ≡ length keys
   pub each : (j : ℕ) → j < length keys → slice_index_or marks j false ≡ is_alone keys j
+
+-- the key in front of a place has another set
+pub record Begins (keys : List ℕ) (at : ℕ) : Type 0 where
+  pub other : 0 < at → set_of (slice_index_or keys (at - 1) 0) ≢ set_of (slice_index_or keys at 0)
+
+-- the key behind a place has another set
+pub record Ends (keys : List ℕ) (at : ℕ) : Type 0 where
+  pub other : at + 1 < length keys → set_of (slice_index_or keys (at + 1) 0) ≢ set_of (slice_index_or keys at 0)
