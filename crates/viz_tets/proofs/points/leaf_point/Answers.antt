@@ -1,5 +1,5 @@
 use Rattle.std.proofs.Common.{◌∙◌}
-use Rattle.viz_grid_section.proofs.LeafLemmas.{point-leaf}
+use Rattle.viz_tets.proofs.LeafLemmas.{point-leaf}
 use Rattle.viz_tets.proofs.points.leaf_point.Goals as goal
 
 pub returns : goal.returns
