@@ -1,8 +1,8 @@
 -- Merging: points at one position become one point, and cells that lose a corner go (VTK User's Guide: vtkCleanPolyData).
-use Rattle.std.specs.Prelude.{ℕ, suc, ℤ, Bool, ◌&&◌, true, false, not, nat_eq, List, [], ◌∷◌, length, map, if◌then◌else◌}
+use Rattle.std.specs.Prelude.{ℕ, suc, Bool, ◌&&◌, true, false, not, nat_eq, List, [], ◌∷◌, length, map, if◌then◌else◌}
 use Rattle.std.specs.List.{flat_map, filter, list_any}
-use Rattle.std.specs.Cmp.Lexicographic.{pointwise}
-use Rattle.std.specs.Ordering.{int_eq}
+use Rattle.std.specs.Cmp.Lexicographic.{slice_cmp}
+use Rattle.std.specs.Ordering.{int_cmp, is_eq}
 use Rattle.viz_fraction.specs.Points.{Point}
 use Rattle.viz_fraction.specs.Places.{place_of}
 use Rattle.viz_sheet.specs.Sheet.{SheetData}
@@ -13,7 +13,7 @@ use Rattle.viz_mesh_meaning.specs.Cells.{Cell}
 
 -- two points have one place, whatever their scalars
 abbrev pub is_same_place : Point → Point → Bool
-is_same_place p q = pointwise int_eq (place_of p) (place_of q)
+is_same_place p q = is_eq (slice_cmp int_cmp (place_of p) (place_of q))
 
 -- the points of all sheets, ascending by sheet and name
 abbrev pub all_points : List SheetData → List Point

@@ -88,5 +88,8 @@ fn leaf(whole: &Extent, i: u32, j: u32, k: u32, x: u32, y: u32, z: u32) -> u32
     requires z { z ≤ 1 }
     ensures value { result ≡ leaf_of whole.now (place_of (place i j k) (corner x y z)) }
 {
+    // What an extent tells of its bounds and of its count.
+    let _bounds = whole.bounds();
+    let _count = whole.count();
     whole.index_of(i + x, j + y, k + z) as u32
 }

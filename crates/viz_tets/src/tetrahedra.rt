@@ -29,5 +29,6 @@ fn sheet_by(alloc: Global, image: &Image) -> Result<Sheet, AllocError>
     let ranks = Ranks::Tetrahedra(cells(alloc, &whole)?);
     corners_are_the_cubes();
     edges_are_steps();
-    sheet_of(alloc, leaves, places, ranks)
+    let sheet = sheet_of(alloc, leaves, places, ranks)?;
+    Ok(sheet)
 }
