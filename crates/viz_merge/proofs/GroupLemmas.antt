@@ -177,3 +177,10 @@ rank-is_group ps leads j d h l =
         (λ (f : k ≤ r). ⊎_elim (λ (s : k < r). absurd (omega (arith, rank-rises marks k r s marked, from.2, il))) (λ (e : r ≤ k). absurd (omega (arith, ap (kept_rank marks) {x = r} {y = k} (omega arith), from.2, il))) (cases_lt k r))
         (cases_lt r k) in
         ap (λ p. is_same_place p (get_or ps j d)) at ∙ other-places (place_of (get_or ps r d)) (place_of (get_or ps j d)) (lead.first r d before))))
+
+-- so it is below the number of groups
+pub group-below : (ps : List Point) (leads : List ℕ) (j : ℕ) (d : Point) → AreLeads ps leads → j < length ps → group_of (firsts ps) (get_or ps j d) < length (firsts ps)
+group-below ps leads j d h l =
+    let marks = first_marks leads in
+    let below = rank-below marks ps (get_or leads j 0) (length-marks leads ∙ h.size) (lead-marked ps leads j h l) in
+    omega (arith, below, rank-is_group ps leads j d h l, ap length (groups-are ps leads h))

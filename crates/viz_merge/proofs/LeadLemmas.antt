@@ -40,7 +40,7 @@ key-parts j p = record { size = refl; parts = refl }
 -- a key of the sorted list is that of the point with its index
 pub record IsAt (ps : List Point) (key : List ℤ) (j : ℕ) : Type 0 where
   pub below : j < length ps
-  pub key : key ≡ key_at (keys_from 0 ps) j
+  pub same : key ≡ key_at (keys_from 0 ps) j
   pub index : index_in key ≡ j
   pub place : (d : Point) → place_in key ≡ place_of (get_or ps j d)
   pub is : IsKey key
@@ -49,7 +49,7 @@ pub record IsAt (ps : List Point) (key : List ℤ) (j : ℕ) : Type 0 where
 at-point : (ps : List Point) (key : List ℤ) (j : ℕ) → j < length ps → key ≡ key_at (keys_from 0 ps) j → IsAt ps key j
 at-point ps key j l e = record {
   below = l;
-  key = e;
+  same = e;
   index = ap index_in (e ∙ key-is ps j zero_point l);
   place = λ d. ap place_in (e ∙ key-is ps j d l);
   is = subst IsKey (sym (e ∙ key-is ps j zero_point l)) (key-parts j (get_or ps j zero_point));

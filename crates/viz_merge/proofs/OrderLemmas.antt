@@ -146,7 +146,7 @@ heads keys (suc k) = one (has_same_place (key_at keys k) (key_at keys (suc k))) 
       most = omega arith;
       index = refl;
       same = refl;
-      first = λ l s. true≢false (sym (places-same (place_in (key_at keys k)) (place_in (key_at keys (suc k))) s) ∙ e);
+      first = λ l s. true≢false (sym (places-same (place_in (key_at keys k)) (place_in (key_at keys (suc k))) (ap (λ n. place_in (key_at keys n)) {x = k} {y = suc k - 1} (omega arith) ∙ s)) ∙ e);
     }
 
 -- it is at most the index of each key with that place

@@ -1,6 +1,6 @@
 //! The cells of all sheets by leaves, without those that repeat one.
 
-ghost use Rattle.std.specs.Prelude.{◌≡◌, ◌≤◌, ◌<◌, ◌++◌, ◌∷◌, [], All, OnOk, length, slice_index_or, if◌then◌else◌};
+ghost use Rattle.std.specs.Prelude.{◌≡◌, ◌≤◌, ◌<◌, ◌++◌, ◌∷◌, ◌&&◌, [], All, OnOk, length, slice_index_or, if◌then◌else◌};
 ghost use Rattle.viz_sheet.specs.Arrays.{ranks_in};
 ghost use Rattle.viz_sheet.specs.Ranked.{IsCell};
 ghost use Rattle.viz_sheet.specs.Steps.Lookup.{looked_up};
@@ -70,10 +70,41 @@ fn leaf_at(numbers: &[u32], cell: &[u32], i: usize) -> u32
 
 /// No leaf stands twice.
 fn has_no_repeat(leaves: &[u32]) -> bool
+    requires most { length leaves.now ≤ 4 }
     ensures { result ≡ has_no_repeat leaves.now }
 {
     match leaves {
-        [] => true,
-        [first, others @ ..] => !others.contains(first) && has_no_repeat(others),
+        [a, b] => differ(*a, *b),
+        [a, b, c] => three_differ(*a, *b, *c),
+        [a, b, c, d] => four_differ(*a, *b, *c, *d),
+        _ => true,
     }
+}
+
+/// Two leaves differ.
+fn differ(a: u32, b: u32) -> bool
+    ensures { result ≡ has_no_repeat (a ∷ b ∷ []) }
+{
+    a != b
+}
+
+/// No two of three leaves are the same.
+fn three_differ(a: u32, b: u32, c: u32) -> bool
+    ensures { result ≡ has_no_repeat (a ∷ b ∷ c ∷ []) }
+{
+    both(both(differ(a, b), differ(a, c)), differ(b, c))
+}
+
+/// No two of four leaves are the same.
+fn four_differ(a: u32, b: u32, c: u32, d: u32) -> bool
+    ensures { result ≡ has_no_repeat (a ∷ b ∷ c ∷ d ∷ []) }
+{
+    both(both(differ(a, b), both(differ(a, c), differ(a, d))), three_differ(b, c, d))
+}
+
+/// Both are true.
+fn both(a: bool, b: bool) -> bool
+    ensures { result ≡ (a && b) }
+{
+    a && b
 }

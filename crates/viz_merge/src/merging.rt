@@ -1,8 +1,10 @@
 //! The merge of sheets.
 
-ghost use Rattle.std.specs.Prelude.{◌≡◌, ◌∷◌, [], All, IfOk, length};
+ghost use Rattle.std.specs.Prelude.{◌≡◌, ◌<◌, ◌≤◌, ◌^◌, ◌++◌, ◌∷◌, [], All, IfOk, OnOk, length};
 ghost use Rattle.std.specs.List.{filter, flat_map};
+ghost use Rattle.viz_sheet.specs.Sheet.{IsSheet};
 ghost use Rattle.viz_mesh_meaning.specs.Merge.{all_points, cells_by_leaves, firsts, has_no_repeat, merged};
+ghost use Rattle.viz_merge.specs.Steps.Cells.{AreNumbers, left_by_names};
 ghost use Rattle.viz_merge.specs.Steps.Leads.{AreLeads};
 
 use crate::cells::push_cells;
@@ -28,13 +30,24 @@ pub fn merge(alloc: Global, sheets: &[Sheet]) -> Result<Mesh, AllocError>
 fn merged(alloc: Global, sheets: &[Sheet]) -> Result<Sheet, AllocError>
     ensures value { IfOk result (λ s. s ≡ merged sheets.now) }
 {
+    known(sheets);
     let leads = all_leads(alloc, sheets)?;
     let marks = first_marks(alloc, &leads)?;
     let places = marked_points(alloc, &marks, sheets)?;
     let numbers = numbers(alloc, &marks, &leads)?;
     let cells = all_cells(alloc, &numbers, sheets)?;
     let leaves = Leaves::of_points(alloc, places.len() as u32)?;
-    sheet_of(alloc, leaves, places, Ranks::Any(cells))
+    let sheet = sheet_of(alloc, leaves, places, Ranks::Any(cells))?;
+    Ok(sheet)
+}
+
+/// Says the rule of each sheet to a caller's proof; it does nothing.
+fn known(sheets: &[Sheet])
+    ensures { All IsSheet sheets.now }
+{
+    for sheet in sheets {
+        sheet.known();
+    }
 }
 
 /// For each of all points the first at its place.
@@ -44,7 +57,8 @@ fn all_leads(alloc: Global, sheets: &[Sheet]) -> Result<Vec<u32>, AllocError>
 {
     let mut keys = all_keys(alloc, sheets)?;
     keys.sort_unstable();
-    leads_of(alloc, &keys)
+    let leads = leads_of(alloc, &keys)?;
+    Ok(leads)
 }
 
 /// The cells of all sheets by the leaves of their points, without those that repeat one.
@@ -56,8 +70,19 @@ fn all_cells(alloc: Global, numbers: &[u32], sheets: &[Sheet]) -> Result<Vec<Mix
     let mut out = Vec::new(alloc);
     let mut at = 0;
     for sheet in sheets {
-        push_cells(&mut out, &numbers[at..], sheet.ranks())?;
+        push_sheet(&mut out, &numbers[at..], sheet)?;
         at += sheet.point_count();
     }
     Ok(out)
+}
+
+/// Adds those of one sheet, by the leaves of its points and of those behind.
+fn push_sheet(out: &mut Vec<Mixed>, numbers: &[u32], sheet: &Sheet) -> Result<(), AllocError>
+    requires room { length sheet.now.points ≤ length numbers.now }
+    ensures value { OnOk result (out.new.items
+        ≡ out.old.items ++ left_by_names numbers.now sheet.now) }
+    ensures valid { IsSheet sheet.now }
+{
+    sheet.known();
+    push_cells(out, numbers, sheet.ranks())
 }
