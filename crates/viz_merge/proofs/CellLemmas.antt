@@ -1,7 +1,7 @@
 -- Cells by leaves, sheet after sheet.
 use Rattle.std.proofs.Common.{◌≡◌, ℕ, zero, suc, ◌+◌, ◌<◌, ◌≤◌, Bool, cond, List, [], ◌∷◌, ◌++◌, length, get_or, map, take, drop, refl, sym, ap, ap₂, subst, ◌∙◌, append_assoc, append-nil, arith}
 use Rattle.std.specs.List.{All, Contains, filter, flat_map}
-use Rattle.std.proofs.lemmas.List.{get_or_default, get_or-append-add, get_or_append_left, get_or-drop, get_or-map, length-append}
+use Rattle.std.proofs.lemmas.List.{get_or_default, get_or-append-add, get_or_append_left, get_or-drop, get_or-map, length-append, length-map}
 use Rattle.std.proofs.lemmas.List.Elements.{All-head, All-tail, filter-append}
 use Rattle.viz_fraction.specs.Points.{Point}
 use Rattle.viz_sheet.specs.Sheet.{SheetData, AreAscending, IsSheet}
@@ -129,3 +129,8 @@ pub filter-one_sheet : (sheets : List SheetData) (i : ℕ) (s : SheetData) (g : 
     → new ≡ filter p (flat_map g (take (i + 1) sheets))
 filter-one_sheet sheets i s g p old new l is made more =
     more ∙ ap (λ t. t ++ filter p (g s)) made ∙ sym (filter-append p (flat_map g (take i sheets)) (g s)) ∙ ap (filter p) (sym (flat-more g sheets i s l is))
+
+pub numbers-size : (ps : List Point) (numbers : List ℕ) → AreNumbers ps numbers → length numbers ≡ length ps
+numbers-size ps numbers n =
+    let count : length (map (group_of (firsts ps)) ps) ≡ length ps = simp length-map in
+    ap length n.each ∙ count

@@ -1,6 +1,9 @@
 -- The sheet of the groups and the cells that are left is the merge.
-use Rattle.std.proofs.Common.{◌≡◌, ℕ, zero, suc, ◌+◌, ◌^◌, ◌<◌, ◌≤◌, Bool, true, false, cond, not, ◌&&◌, List, [], ◌∷◌, length, get_or, map, take, nat_eq, refl, sym, ap, subst, ◌∙◌, true≢false, arith}
+use Rattle.std.proofs.Common.{◌≡◌, ℕ, zero, suc, ◌+◌, ◌^◌, ◌<◌, ◌≤◌, Bool, true, false, cond, not, ◌&&◌, List, [], ◌∷◌, length, get_or, map, take, nat_eq, ℤ, refl, sym, ap, subst, ◌∙◌, true≢false, arith}
 use Rattle.std.specs.List.{All, Contains, filter, flat_map, list_any, range_with_len}
+use Rattle.std.specs.List.Sorted.{IsPermutation, IsSorted}
+use Rattle.std.specs.Cmp.Lexicographic.{slice_cmp}
+use Rattle.std.specs.Ordering.{int_cmp}
 use Rattle.std.proofs.lemmas.Cmp.{nat_eq_equiv}
 use Rattle.std.proofs.lemmas.List.{get_or_default, get_or-map, length-map, same_lists}
 use Rattle.std.proofs.lemmas.List.Elements.{All-head, All-tail, All-nil, All-cons, All-map}
@@ -16,8 +19,9 @@ use Rattle.viz_meaning.proofs.SectionLemmas.{all-cells, corners}
 use Rattle.viz_meaning.specs.Section.{point_of, zero_point}
 use Rattle.viz_mesh_meaning.specs.Merge.{all_points, cells_by_leaves, firsts, group_of, has_no_repeat, leaf_in, merged}
 use Rattle.viz_merge.specs.Steps.Cells.{AreNumbers}
-use Rattle.viz_merge.specs.Steps.Leads.{AreLeads, first_marks}
+use Rattle.viz_merge.specs.Steps.Leads.{AreLeads, AreWritten, HaveIndices, first_marks, keys_from}
 use Rattle.viz_merge.proofs.CellLemmas.{among-all}
+use Rattle.viz_merge.proofs.LeadLemmas.{leads-are, length-keys, sorted-indices}
 use Rattle.viz_merge.proofs.GroupLemmas.{groups-are, rank-is_group, group-below}
 
 -- ---- numbers
@@ -47,6 +51,19 @@ numbers-are ps leads numbers marks h em en =
               let in_ps : j < length ps = omega (arith, h.size, below) in
               get_or-map (kept_rank (first_marks leads)) leads j 0 d below ∙ rank-is_group ps leads j zero_point h in_ps ∙ sym (get_or-map (group_of (firsts ps)) ps j zero_point d in_ps));
     }
+
+-- the same of lists that are lent
+pub marks-few : (leads : List ℕ) (marks lent : List Bool) → length leads < 2 ^ 32 → marks ≡ first_marks leads → lent ≡ marks → length lent < 2 ^ 32
+marks-few leads marks lent few e same = omega (arith, ap length same, marks-size leads marks e, few)
+
+pub leads-lent : (ps : List Point) (leads lent_leads : List ℕ) (marks lent : List Bool) → AreLeads ps leads → marks ≡ first_marks leads → lent ≡ marks → lent_leads ≡ leads → All (λ lead. lead < length lent) lent_leads
+leads-lent ps leads lent_leads marks lent h e same el =
+    subst (λ (ls : List ℕ). All (λ lead. lead < length lent) ls) (sym el) (subst (λ (ms : List Bool). All (λ lead. lead < length ms) leads) (sym same) (leads-below ps leads marks h e))
+
+pub numbers-lent : (ps : List Point) (leads lent_leads numbers lent_numbers : List ℕ) (marks lent : List Bool) → AreLeads ps leads → marks ≡ first_marks leads → lent ≡ marks → lent_leads ≡ leads
+    → numbers ≡ map (kept_rank lent) lent_leads → lent_numbers ≡ numbers → AreNumbers ps lent_numbers
+numbers-lent ps leads lent_leads numbers lent_numbers marks lent h e same el en es =
+    subst (AreNumbers ps) (sym es) (numbers-are ps leads numbers marks h e (en ∙ ap (λ (ms : List Bool). map (kept_rank ms) lent_leads) same ∙ ap (map (kept_rank marks)) el))
 
 -- ---- the rule of the cells
 
@@ -132,3 +149,13 @@ made-sheet sheets s leads names points cells m e =
     let is = points-are sheets leads names points cells m in
     e ∙ ap (λ ns. sheet_with ns points cells) m.named ∙ ap (λ ps. sheet_with (leaf_names (length ps)) ps cells) is
     ∙ ap (sheet_with (leaf_names (length (firsts (all_points sheets)))) (firsts (all_points sheets))) m.left
+
+-- ---- keys that are sorted
+
+pub indices-for : (ps : List Point) (keys sorted lent : List (List ℤ)) → keys ≡ keys_from 0 ps → length keys < 2 ^ 32 → IsPermutation keys sorted → lent ≡ sorted → HaveIndices lent
+indices-for ps keys sorted lent e few p same =
+    subst HaveIndices (sym same) (sorted-indices ps sorted (subst (λ (ks : List (List ℤ)). IsPermutation ks sorted) e p) (omega (arith, ap length e, length-keys 0 ps, few)))
+
+pub leads-for : (ps : List Point) (keys sorted lent : List (List ℤ)) (leads : List ℕ) → keys ≡ keys_from 0 ps → IsPermutation keys sorted → IsSorted (slice_cmp int_cmp) sorted → lent ≡ sorted → AreWritten lent (length lent) leads → AreLeads ps leads
+leads-for ps keys sorted lent leads e p s same w =
+    leads-are ps sorted leads (subst (λ (ks : List (List ℤ)). IsPermutation ks sorted) e p) s (subst (λ (ks : List (List ℤ)). AreWritten ks (length ks) leads) same w)

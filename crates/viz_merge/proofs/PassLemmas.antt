@@ -1,13 +1,14 @@
 -- Loops over points, sheet by sheet.
-use Rattle.std.proofs.Common.{◌≡◌, ◌≢◌, ℕ, zero, suc, ◌+◌, ◌<◌, ◌≤◌, ◌⊎◌, inl, inr, Bool, true, false, cond, List, [], ◌∷◌, ◌++◌, length, get_or, set, take, drop, replicate, ℤ, refl, sym, ap, ap₂, subst, ◌∙◌, append_assoc, append-nil, arith, ⊎_elim}
-use Rattle.std.specs.List.{All}
+use Rattle.std.proofs.Common.{◌≡◌, ◌≢◌, ℕ, zero, suc, ◌+◌, ◌<◌, ◌≤◌, ◌⊎◌, inl, inr, Bool, true, false, cond, List, [], ◌∷◌, ◌++◌, length, map, get_or, set, take, drop, replicate, ℤ, refl, sym, ap, ap₂, subst, ◌∙◌, append_assoc, append-nil, arith, ⊎_elim}
+use Rattle.std.specs.List.{All, range_with_len}
+use Rattle.std.proofs.lemmas.List.Elements.{All-head, All-tail}
+use Rattle.std.proofs.lemmas.List.FromFn.{get_or-map-range_with_len, length-map-range_with_len}
 use Rattle.std.proofs.Math.ListN.{length-set}
 use Rattle.std.proofs.lemmas.Bool.{cases_lt}
 use Rattle.std.proofs.lemmas.List.{get_or-drop, get_or-set_other, get_or-set_same, length-append, length-drop, take_all, length-replicate}
 use Rattle.viz_fraction.specs.Points.{Point}
 use Rattle.viz_sheet.specs.Sheet.{SheetData}
-use Rattle.viz_sheet.specs.Kept.{kept}
-use Rattle.viz_sheet.proofs.KeptLemmas.{kept-take_more}
+use Rattle.viz_sheet.specs.Kept.{kept, kept_rank}
 use Rattle.viz_mesh_meaning.specs.Merge.{all_points}
 use Rattle.viz_merge.specs.Steps.Leads.{AreWritten, HaveIndices, has_same_place, index_in, key_at, key_of, keys_from, lead_in}
 use Rattle.viz_merge.proofs.CellLemmas.{points-more, points-room}
@@ -122,3 +123,30 @@ all-kept marks sheets i at points size l h =
     let all : take i sheets ≡ sheets = take_all i sheets l in
     let place : at ≡ length (all_points sheets) = h.place ∙ ap (λ ss. length (all_points ss)) all in
     h.made ∙ ap₂ (λ ms ss. kept ms (all_points ss)) (take_all at marks (omega (arith, place, size))) all
+
+one-mark : {X : Type 0} (ms : List Bool) (i : ℕ) (x : X) → i < length ms → kept (take 1 (drop i ms)) (x ∷ []) ≡ cond (get_or ms i false) (x ∷ []) []
+one-mark [] i x l = absurd (omega arith)
+one-mark (m ∷ ms) zero x l = refl
+one-mark (m ∷ ms) (suc i) x l = one-mark ms i x (omega arith)
+
+-- one point more, if it is marked
+pub one-kept : (marks : List Bool) (at : ℕ) (ps : List Point) (i : ℕ) (p : Point) (front old new : List Point) → at + length ps ≤ length marks → i < length ps → p ≡ get_or ps i p
+    → old ≡ front ++ kept (take i (drop at marks)) (take i ps) → new ≡ old ++ cond (get_or marks (at + i) false) (p ∷ []) [] → new ≡ front ++ kept (take (i + 1) (drop at marks)) (take (i + 1) ps)
+one-kept marks at ps i p front old new room l is made more =
+    let ms = drop at marks in
+    let size : i < length ms = omega (arith, length-drop at marks, room) in
+    more ∙ ap₂ (λ a b. a ++ cond b (p ∷ []) []) made (sym (get_or-drop at marks i false))
+    ∙ append_assoc front (kept (take i ms) (take i ps)) (cond (get_or ms i false) (p ∷ []) [])
+    ∙ ap (λ t. front ++ (kept (take i ms) (take i ps) ++ t)) (sym (one-mark ms i p size))
+    ∙ ap (λ t. front ++ t) (sym (kept-append i 1 ms (take i ps) (p ∷ []) (length-take ps i (omega arith)) (omega arith)) ∙ ap (kept (take (i + 1) ms)) (sym (take-one ps i p p l is)))
+
+-- numbers looked up in the ranks of all
+pub numbers-by : (marks : List Bool) (before leads : List ℕ) → before ≡ map (kept_rank marks) (range_with_len 0 (length marks)) → All (λ l. l < length marks) leads → map (λ l. get_or before l 0) leads ≡ map (kept_rank marks) leads
+numbers-by marks before [] e h = refl
+numbers-by marks before (l ∷ ls) e h =
+    ap₂ (λ a b. a ∷ b)
+    (ap (λ ns. get_or ns l 0) e ∙ get_or-map-range_with_len (kept_rank marks) 0 (length marks) l l 0 (All-head (λ k. k < length marks) l ls h) (omega arith))
+    (numbers-by marks before ls e (All-tail (λ k. k < length marks) l ls h))
+
+pub before-below : (marks : List Bool) (before leads : List ℕ) → before ≡ map (kept_rank marks) (range_with_len 0 (length marks)) → All (λ l. l < length marks) leads → All (λ l. l < length before) leads
+before-below marks before leads e h = subst (λ n. All (λ l. l < n) leads) (sym (ap length e ∙ length-map-range_with_len (kept_rank marks) 0 (length marks))) h

@@ -31,3 +31,9 @@ pub four-differ : (a b c d : ℕ) (p q r s : Bool) → p ≡ has_no_repeat (a �
 four-differ a b c d p q r s ep eq er es =
     ap₂ (λ u v. u && v) (ap₂ (λ u v. u && v) (ep ∙ two-tests (nat_eq a b)) (ap₂ (λ u v. u && v) (eq ∙ two-tests (nat_eq a c)) (er ∙ two-tests (nat_eq a d)))) es
     ∙ four-tests (nat_eq a b) (nat_eq a c) (nat_eq a d) (has_no_repeat (b ∷ c ∷ d ∷ []))
+
+-- one leaf, or none
+pub few-differ : (leaves : List ℕ) → length leaves ≤ 1 → true ≡ has_no_repeat leaves
+few-differ [] l = refl
+few-differ (a ∷ []) l = refl
+few-differ (a ∷ b ∷ rest) l = absurd (omega arith)

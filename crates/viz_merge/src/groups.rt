@@ -1,6 +1,6 @@
 //! The first point of each group.
 
-ghost use Rattle.std.specs.Prelude.{◌≡◌, ◌+◌, ◌≤◌, ◌++◌, IfOk, IfSome, OnOk, drop, length, take, true};
+ghost use Rattle.std.specs.Prelude.{◌≡◌, ◌+◌, ◌≤◌, ◌++◌, ◌∷◌, [], IfOk, IfSome, OnOk, drop, length, take, true, if◌then◌else◌};
 ghost use Rattle.viz_sheet.specs.Arrays.{points_in};
 ghost use Rattle.viz_sheet.specs.Kept.{kept};
 ghost use Rattle.viz_mesh_meaning.specs.Merge.{all_points};
@@ -37,10 +37,12 @@ fn small_points(
     let mut points = Vec::new(alloc);
     let mut at = 0;
     for sheet in sheets {
-        if !push_small(&mut points, marks, at, sheet.places())? {
+        let places = sheet.places();
+        if !push_small(&mut points, marks, at, places)? {
             return Ok(None);
         }
-        at += sheet.point_count();
+        let count = places.len();
+        at += count;
     }
     Ok(Some(points))
 }
@@ -57,14 +59,32 @@ fn push_small(
         ++ kept (take (length (points_in places.now)) (drop at marks.now)) (points_in places.now)) }
 {
     for rank in 0..places.len() {
-        if marks[at + rank] {
-            match small(&places.get(rank)) {
-                Some(point) => points.push(point)?,
-                None => return Ok(false),
-            }
+        if !push_if_small(points, marks[at + rank], &places.get(rank))? {
+            return Ok(false);
         }
     }
     Ok(true)
+}
+
+/// Adds a point if it is marked; false where it doesn't fit.
+fn push_if_small(
+    points: &mut Vec<SmallPoint>,
+    mark: bool,
+    point: &Point5,
+) -> Result<bool, AllocError>
+    ensures { IfOk result (λ b. b ≡ true
+        → points.new.items ≡ points.old.items ++ (if mark then point.now ∷ [] else [])) }
+{
+    if !mark {
+        return Ok(true);
+    }
+    match small(point) {
+        Some(half) => {
+            points.push(half)?;
+            Ok(true)
+        }
+        None => Ok(false),
+    }
 }
 
 /// The same of whatever width.
@@ -79,8 +99,10 @@ fn wide_points(
     let mut points = Vec::new(alloc);
     let mut at = 0;
     for sheet in sheets {
-        push_wide(&mut points, marks, at, sheet.places())?;
-        at += sheet.point_count();
+        let places = sheet.places();
+        push_wide(&mut points, marks, at, places)?;
+        let count = places.len();
+        at += count;
     }
     Ok(points)
 }
@@ -97,9 +119,18 @@ fn push_wide(
         ++ kept (take (length (points_in places.now)) (drop at marks.now)) (points_in places.now)) }
 {
     for rank in 0..places.len() {
-        if marks[at + rank] {
-            points.push(places.get(rank))?;
-        }
+        push_if_wide(points, marks[at + rank], &places.get(rank))?;
+    }
+    Ok(())
+}
+
+/// Adds a point if it is marked.
+fn push_if_wide(points: &mut Vec<Point5>, mark: bool, point: &Point5) -> Result<(), AllocError>
+    ensures { OnOk result
+        (points.new.items ≡ points.old.items ++ (if mark then point.now ∷ [] else [])) }
+{
+    if mark {
+        points.push(*point)?;
     }
     Ok(())
 }

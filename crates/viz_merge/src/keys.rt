@@ -33,9 +33,19 @@ fn push_keys(keys: &mut Vec<[i128; 5]>, places: &Places) -> Result<(), AllocErro
     }
     keys.reserve(places.len())?;
     for rank in 0..places.len() {
-        let at = keys.len() as u32;
-        keys.push(key_of(&places.get(rank), at))?;
+        push_key(keys, &places.get(rank))?;
     }
+    Ok(())
+}
+
+/// Adds the key of the next point.
+fn push_key(keys: &mut Vec<[i128; 5]>, point: &Point5) -> Result<(), AllocError>
+    requires few { length keys.old.items < 2 ^ 32 }
+    ensures { OnOk result (keys.new.items
+        ≡ keys.old.items ++ key_of (length keys.old.items) point.now ∷ []) }
+{
+    let at = keys.len() as u32;
+    keys.push(key_of(point, at))?;
     Ok(())
 }
 

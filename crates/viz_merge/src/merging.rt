@@ -1,6 +1,6 @@
 //! The merge of sheets.
 
-ghost use Rattle.std.specs.Prelude.{◌≡◌, ◌<◌, ◌≤◌, ◌^◌, ◌++◌, ◌∷◌, [], All, IfOk, OnOk, length};
+ghost use Rattle.std.specs.Prelude.{◌≡◌, ◌+◌, ◌<◌, ◌≤◌, ◌^◌, ◌++◌, ◌∷◌, [], All, IfOk, OnOk, drop, length};
 ghost use Rattle.std.specs.List.{filter, flat_map};
 ghost use Rattle.viz_sheet.specs.Sheet.{IsSheet};
 ghost use Rattle.viz_mesh_meaning.specs.Merge.{all_points, cells_by_leaves, firsts, has_no_repeat, merged};
@@ -70,19 +70,26 @@ fn all_cells(alloc: Global, numbers: &[u32], sheets: &[Sheet]) -> Result<Vec<Mix
     let mut out = Vec::new(alloc);
     let mut at = 0;
     for sheet in sheets {
-        push_sheet(&mut out, &numbers[at..], sheet)?;
-        at += sheet.point_count();
+        push_sheet(&mut out, numbers, at, sheet)?;
+        let count = sheet.places().len();
+        at += count;
     }
     Ok(out)
 }
 
-/// Adds those of one sheet, by the leaves of its points and of those behind.
-fn push_sheet(out: &mut Vec<Mixed>, numbers: &[u32], sheet: &Sheet) -> Result<(), AllocError>
-    requires room { length sheet.now.points ≤ length numbers.now }
+/// Adds those of one sheet whose first point has an index.
+fn push_sheet(
+    out: &mut Vec<Mixed>,
+    numbers: &[u32],
+    at: usize,
+    sheet: &Sheet,
+) -> Result<(), AllocError>
+    requires room { at + length sheet.now.points ≤ length numbers.now }
     ensures value { OnOk result (out.new.items
-        ≡ out.old.items ++ left_by_names numbers.now sheet.now) }
+        ≡ out.old.items ++ left_by_names (drop at numbers.now) sheet.now) }
     ensures valid { IsSheet sheet.now }
 {
     sheet.known();
-    push_cells(out, numbers, sheet.ranks())
+    push_cells(out, &numbers[at..], sheet.ranks())?;
+    Ok(())
 }

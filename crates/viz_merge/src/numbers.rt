@@ -1,6 +1,6 @@
 //! The leaf of each point: the rank of its group.
 
-ghost use Rattle.std.specs.Prelude.{◌≡◌, ◌<◌, ◌^◌, All, IfOk, length, map};
+ghost use Rattle.std.specs.Prelude.{◌≡◌, ◌<◌, ◌^◌, All, IfOk, length, map, slice_index_or};
 ghost use Rattle.std.specs.List.{range_with_len};
 ghost use Rattle.viz_sheet.specs.Kept.{kept_rank};
 ghost use Rattle.viz_merge.specs.Steps.Leads.{first_marks};
@@ -12,8 +12,8 @@ pub(crate) fn first_marks(alloc: Global, leads: &[u32]) -> Result<Vec<bool>, All
     ensures value { IfOk result (λ v. v.items ≡ first_marks leads.now) }
 {
     let mut marks = Vec::with_capacity(alloc, leads.len())?;
-    for (j, lead) in leads.iter().enumerate() {
-        marks.push(*lead as usize == j)?;
+    for j in 0..leads.len() {
+        marks.push(leads[j] as usize == j)?;
     }
     Ok(marks)
 }
@@ -47,9 +47,18 @@ pub(crate) fn numbers(
     ensures value { IfOk result (λ v. v.items ≡ map (kept_rank marks.now) leads.now) }
 {
     let before = ranks_before(alloc, marks)?;
-    let mut numbers = Vec::with_capacity(alloc, leads.len())?;
-    for lead in leads {
-        numbers.push(before[*lead as usize])?;
-    }
+    let numbers = looked_up(alloc, &before, leads)?;
     Ok(numbers)
+}
+
+/// The number at each of these indices.
+fn looked_up(alloc: Global, numbers: &[u32], leads: &[u32]) -> Result<Vec<u32>, AllocError>
+    requires { All (λ lead. lead < length numbers.now) leads.now }
+    ensures { IfOk result (λ v. v.items ≡ map (λ lead. slice_index_or numbers.now lead 0) leads.now) }
+{
+    let mut found = Vec::with_capacity(alloc, leads.len())?;
+    for lead in leads {
+        found.push(numbers[*lead as usize])?;
+    }
+    Ok(found)
 }
