@@ -38,8 +38,8 @@ facet-test : (n : ℕ) (x d : List ℕ) (i : ℕ) → n ≤ 2 ^ 32 → IsSet x �
 facet-test n x d i few hx hd two l set size =
     key-tells_set x (facet d i) hx set
     ∙ ap₂ (λ a b. a && b) (same_test (nat_eq (length (facet d i)) (length x)) (nat_eq (length d) (length x + 1))
-        (λ e. eq-eqb (length d) (length x + 1) (omega (arith, eqb-true (length (facet d i)) (length x) e)))
-        (λ e. eq-eqb (length (facet d i)) (length x) (omega (arith, eqb-true (length d) (length x + 1) e))))
+    (λ e. eq-eqb (length d) (length x + 1) (omega (arith, eqb-true (length (facet d i)) (length x) e)))
+    (λ e. eq-eqb (length (facet d i)) (length x) (omega (arith, eqb-true (length d) (length x + 1) e))))
     (each-facet d x i hd.apart l)
 
 count-tests : (x d : List ℕ) → AreApart x → AreApart d → (s h : Bool) → nat_eq (length d) (length x + 1) ≡ s → has_each nat_eq d x ≡ h

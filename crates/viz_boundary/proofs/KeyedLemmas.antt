@@ -62,9 +62,9 @@ marks-lone xs marks few t =
     let count : length (map (λ x. nat_eq (facet_times xs x) 1) xs) ≡ length xs = simp length-map in
     let size : length marks ≡ length xs = t.size ∙ length-keyed 0 xs in
     same_lists marks (map (λ x. nat_eq (facet_times xs x) 1) xs) (size ∙ sym count) (λ j d l.
-        let below : j < length xs = omega (arith, size) in
-        get_or_default marks j d false l ∙ t.each j (omega (arith, length-keyed 0 xs, size)) ∙ times-keyed xs j few below
-        ∙ sym (get_or-map (λ x. nat_eq (facet_times xs x) 1) xs j [] d below))
+    let below : j < length xs = omega (arith, size) in
+    get_or_default marks j d false l ∙ t.each j (omega (arith, length-keyed 0 xs, size)) ∙ times-keyed xs j few below
+    ∙ sym (get_or-map (λ x. nat_eq (facet_times xs x) 1) xs j [] d below))
 
 -- ---- what the marks keep
 
@@ -101,5 +101,5 @@ kept-lone n cells marks few h size t =
     let p = λ (x : List ℕ). nat_eq (facet_times all x) 1 in
     ap (λ ms. kept ms all) (marks-lone all marks size t) ∙ kept-marked p all ∙ filter-flat p facets_of cells
     ∙ flat-same (λ c. filter p (facets_of c)) (lone_facets nat_eq cells) cells (λ k d l.
-        let c = get_or cells k d in
-        filter-same p (λ x. nat_eq (occurrences nat_eq cells (length c) x) 1) (facets_of c) (λ j e m. lone-count n cells c few h (h k d l) j e m))
+    let c = get_or cells k d in
+    filter-same p (λ x. nat_eq (occurrences nat_eq cells (length c) x) 1) (facets_of c) (λ j e m. lone-count n cells c few h (h k d l) j e m))

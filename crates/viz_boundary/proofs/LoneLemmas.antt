@@ -113,14 +113,14 @@ pub marks-are : (keys sorted : List ℕ) (marks : List Bool) → AreIndexed keys
 marks-are keys sorted marks h p m j l =
     same_test (get_or marks j false) (is_alone keys j)
     (λ e.
-        let from = m.only j e in
-        let at = at-index keys sorted from.0 h p from.1 in
-        sym (alone-moved keys sorted from.0 j p (at.1 ∙ ap (λ i. get_or keys i 0) from.2)) ∙ from.3)
+    let from = m.only j e in
+    let at = at-index keys sorted from.0 h p from.1 in
+    sym (alone-moved keys sorted from.0 j p (at.1 ∙ ap (λ i. get_or keys i 0) from.2)) ∙ from.3)
     (λ e.
-        let key = get_or keys j 0 in
-        let c : Contains sorted key = Contains-permutation keys sorted key p (j, l, get_or_default keys j key 0 l) in
-        let is : get_or sorted c.0 0 ≡ key = get_or_default sorted c.0 0 key c.1 ∙ c.2 in
-        subst (λ i. get_or marks i false ≡ true) (ap index_of is ∙ h.each j l) (m.set c.0 c.1 (alone-moved keys sorted c.0 j p is ∙ e)))
+    let key = get_or keys j 0 in
+    let c : Contains sorted key = Contains-permutation keys sorted key p (j, l, get_or_default keys j key 0 l) in
+    let is : get_or sorted c.0 0 ≡ key = get_or_default sorted c.0 0 key c.1 ∙ c.2 in
+    subst (λ i. get_or marks i false ≡ true) (ap index_of is ∙ h.each j l) (m.set c.0 c.1 (alone-moved keys sorted c.0 j p is ∙ e)))
 
 -- the sorted keys have indices below their number
 pub sorted-indices : (keys sorted : List ℕ) → AreIndexed keys → IsPermutation keys sorted → length sorted ≡ length keys → HaveIndices sorted

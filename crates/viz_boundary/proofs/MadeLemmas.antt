@@ -19,13 +19,13 @@ use Rattle.viz_boundary.proofs.NamedLemmas.{boundary-named}
 lone-cells : (n : ℕ) (cells : List (List ℕ)) (cell : List ℕ) → IsCell n cell → All (IsCell n) (lone_facets nat_eq cells cell)
 lone-cells n cells cell h =
     All-filter _ (IsCell n) (facets_of cell) (λ k d l.
-        let most = (facets-size cell h.most k d l).most in
-        record {
-          some = (facets-size cell h.most k d l).some;
-          most = omega arith;
-          below = facets-all (λ r. r < n) cell h.most h.below k d l;
-          apart = facets-apart cell h.most h.apart k d l;
-        })
+    let most = (facets-size cell h.most k d l).most in
+    record {
+      some = (facets-size cell h.most k d l).some;
+      most = omega arith;
+      below = facets-all (λ r. r < n) cell h.most h.below k d l;
+      apart = facets-apart cell h.most h.apart k d l;
+    })
 
 -- the marks keep the lone facets
 pub facets-are : (s : SheetData) (cells left : List (List ℕ)) (keys : List ℕ) (marks : List Bool) → AreRanks s.names s.points cells → length keys ≤ 2 ^ 32

@@ -72,9 +72,9 @@ lone-named names cells cell s h hc =
     let count : length (g cell) ≡ length cell = simp length-map in
     filter-map g (λ x. nat_eq (occurrences nat_eq cells (length cell) x) 1) (λ x. nat_eq (occurrences is_same_name (by_names names cells) (length (g cell)) x) 1) (facets_of cell)
     (λ k d l.
-        let x = get_or (facets_of cell) k d in
-        ap (λ n. nat_eq n 1) (ap (λ size. occurrences is_same_name (by_names names cells) size (g x)) count
-        ∙ occurrences-named names cells (length cell) x s h (facets-all (λ q. q < length names) cell hc.most hc.below k d l)))
+    let x = get_or (facets_of cell) k d in
+    ap (λ n. nat_eq n 1) (ap (λ size. occurrences is_same_name (by_names names cells) size (g x)) count
+    ∙ occurrences-named names cells (length cell) x s h (facets-all (λ q. q < length names) cell hc.most hc.below k d l)))
     ∙ ap (filter (λ x. nat_eq (occurrences is_same_name (by_names names cells) (length (g cell)) x) 1)) (facets-map (λ r. get_or names r []) cell hc.most)
 
 pub boundary-named : (names : List (List ℕ)) (cells : List (List ℕ)) → AreAscending names → All (IsCell (length names)) cells

@@ -86,9 +86,9 @@ sorted-put r (s ∷ ss) n a =
     cond_both (nat_lt r s) (r ∷ s ∷ ss) (s ∷ put r ss) (IsStrictlySortedBy nat_cmp)
     (λ h. in_front r s ss (ltb-true r s h) a)
     (λ h.
-        let other : r ≢ s = All-head (λ z. r ≢ z) s ss n in
-        let above : s < r = omega (arith, not_lt r s h, other) in
-        (all_put (λ z. nat_cmp s z ≡ Less) r ss (less s r above) a.0, sorted-put r ss (All-tail (λ z. r ≢ z) s ss n) a.1))
+    let other : r ≢ s = All-head (λ z. r ≢ z) s ss n in
+    let above : s < r = omega (arith, not_lt r s h, other) in
+    (all_put (λ z. nat_cmp s z ≡ Less) r ss (less s r above) a.0, sorted-put r ss (All-tail (λ z. r ≢ z) s ss n) a.1))
 
 pub sorted-in_order : (rs : List ℕ) → AreApart rs → IsStrictlySortedBy nat_cmp (in_order rs)
 unfolding IsStrictlySortedBy
@@ -212,9 +212,10 @@ few-in_order xs h = record {
 set-each : (x y : List ℕ) → IsSet x → IsSet y → set_key y ≡ set_key x → (length y ≡ length x) × (has_each nat_eq y x ≡ true)
 unfolding set_key
 set-each x y h k e =
-    let same : in_order y ≡ in_order x = filled-same (in_order y) (in_order x) (few-in_order y k) (few-in_order x h) e in
-    (sym (length-in_order y) ∙ ap length same ∙ length-in_order x,
-    each-to y x (λ j d l. to-mem y (get_or x j d) (of-order y _ (subst (λ zs. Contains zs (get_or x j d)) (sym same) (in-order x _ (j, l, get_or_default x j (get_or x j d) d l))))))
+    let same : in_order y ≡ in_order x = filled-same (in_order y) (in_order x) (few-in_order y k) (few-in_order x h) e in (
+      sym (length-in_order y) ∙ ap length same ∙ length-in_order x,
+      each-to y x (λ j d l. to-mem y (get_or x j d) (of-order y _ (subst (λ zs. Contains zs (get_or x j d)) (sym same) (in-order x _ (j, l, get_or_default x j (get_or x j d) d l))))),
+    )
 
 -- as many, and all of the first among the second, have one number
 each-set : (x y : List ℕ) → IsSet x → IsSet y → length y ≡ length x → has_each nat_eq y x ≡ true → set_key y ≡ set_key x

@@ -98,12 +98,12 @@ count-same p (x ∷ xs) a c =
     let rest = λ (d : Contains xs p). count-same p xs a.1 d in
     ⊎_elim
     (λ (e : x ≡ p).
-        let first : nat_eq x p ≡ true = eq-eqb x p e in
-        let none : count_by (λ r. nat_eq r p) xs ≡ 0 = count-none (λ r. nat_eq r p) xs (λ k d l. is_false _ (λ h. a.0 k d l (e ∙ sym (eqb-true (get_or xs k d) p h)))) in
-        count_by-cons (λ r. nat_eq r p) x xs ∙ rw first (omega (arith, none)))
+    let first : nat_eq x p ≡ true = eq-eqb x p e in
+    let none : count_by (λ r. nat_eq r p) xs ≡ 0 = count-none (λ r. nat_eq r p) xs (λ k d l. is_false _ (λ h. a.0 k d l (e ∙ sym (eqb-true (get_or xs k d) p h)))) in
+    count_by-cons (λ r. nat_eq r p) x xs ∙ rw first (omega (arith, none)))
     (λ (c2 : Contains xs p).
-        let other : nat_eq x p ≡ false = is_false _ (λ h. a.0 c2.0 p c2.1 (eqb-true x p h ∙ sym c2.2)) in
-        count_by-cons (λ r. nat_eq r p) x xs ∙ rw other (omega (arith, rest c2)))
+    let other : nat_eq x p ≡ false = is_false _ (λ h. a.0 c2.0 p c2.1 (eqb-true x p h ∙ sym c2.2)) in
+    count_by-cons (λ r. nat_eq r p) x xs ∙ rw other (omega (arith, rest c2)))
     (member_cases x xs p c)
 
 -- of different numbers just as many are among some of them as these are

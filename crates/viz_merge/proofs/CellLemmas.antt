@@ -74,9 +74,10 @@ points-room sheets i s l is = omega (arith, ap length (points-more sheets i s l 
 pub among-all : (sheets : List SheetData) (i : ℕ) (s : SheetData) (r : ℕ) → IsSheet s → i < length sheets → s ≡ get_or sheets i s → r < length s.names
     → (length (all_points (take i sheets)) + r < length (all_points sheets)) × (get_or (all_points sheets) (length (all_points (take i sheets)) + r) zero_point ≡ point_of s (get_or s.names r []))
 among-all sheets i s r h l is below =
-    let in_sheet : r < length s.points = omega (arith, h.matched, below) in
-    (omega (arith, points-room sheets i s l is, in_sheet),
-    flat-at points_of sheets i s r zero_point l is in_sheet ∙ sym (point-at s r zero_point h.ascending h.matched below))
+    let in_sheet : r < length s.points = omega (arith, h.matched, below) in (
+      omega (arith, points-room sheets i s l is, in_sheet),
+      flat-at points_of sheets i s r zero_point l is in_sheet ∙ sym (point-at s r zero_point h.ascending h.matched below),
+    )
 
 -- ---- leaves
 

@@ -113,10 +113,10 @@ lead-new ps leads j d h l e = record {
 pub marks-are : (ps : List Point) (leads : List ℕ) → AreLeads ps leads → first_marks leads ≡ new_marks [] ps
 marks-are ps leads h =
     same_lists (first_marks leads) (new_marks [] ps) (length-marks leads ∙ h.size ∙ sym (length-new [] ps)) (λ j d l.
-        let below : j < length leads = omega (arith, length-marks leads, l) in
-        let in_ps : j < length ps = omega (arith, h.size, below) in
-        get_or_default (first_marks leads) j d false l ∙ mark-at leads j below ∙ mark j in_ps (nat_eq (get_or leads j 0) j) refl
-        ∙ get_or_default (new_marks [] ps) j false d (omega (arith, length-new [] ps, in_ps)))
+    let below : j < length leads = omega (arith, length-marks leads, l) in
+    let in_ps : j < length ps = omega (arith, h.size, below) in
+    get_or_default (first_marks leads) j d false l ∙ mark-at leads j below ∙ mark j in_ps (nat_eq (get_or leads j 0) j) refl
+    ∙ get_or_default (new_marks [] ps) j false d (omega (arith, length-new [] ps, in_ps)))
   where
     mark : (j : ℕ) → j < length ps → (b : Bool) → nat_eq (get_or leads j 0) j ≡ b → b ≡ get_or (new_marks [] ps) j false
     mark j l true e = sym (new-is [] ps j zero_point l (lead-new ps leads j zero_point h l (eqb-true (get_or leads j 0) j e)))
@@ -169,14 +169,14 @@ rank-is_group ps leads j d h l =
     (group-at (kept marks ps) (get_or ps j d) (kept_rank marks k) d below
     (ap (λ p. is_same_place p (get_or ps j d)) here ∙ places-same (place_of (get_or ps k d)) (place_of (get_or ps j d)) (lead.same d))
     (λ i il.
-        let from = rank-from marks ps i size (omega arith) in
-        let r = from.0 in
-        let at : get_or (kept marks ps) i d ≡ get_or ps r d = ap (λ n. get_or (kept marks ps) n d) (sym from.2) ∙ kept-at marks ps r d size from.1 in
-        let before : r < k =
-        ⊎_elim (λ (b : r < k). b)
-        (λ (f : k ≤ r). ⊎_elim (λ (s : k < r). absurd (omega (arith, rank-rises marks k r s marked, from.2, il))) (λ (e : r ≤ k). absurd (omega (arith, ap (kept_rank marks) {x = r} {y = k} (omega arith), from.2, il))) (cases_lt k r))
-        (cases_lt r k) in
-        ap (λ p. is_same_place p (get_or ps j d)) at ∙ other-places (place_of (get_or ps r d)) (place_of (get_or ps j d)) (lead.first r d before))))
+    let from = rank-from marks ps i size (omega arith) in
+    let r = from.0 in
+    let at : get_or (kept marks ps) i d ≡ get_or ps r d = ap (λ n. get_or (kept marks ps) n d) (sym from.2) ∙ kept-at marks ps r d size from.1 in
+    let before : r < k =
+    ⊎_elim (λ (b : r < k). b)
+    (λ (f : k ≤ r). ⊎_elim (λ (s : k < r). absurd (omega (arith, rank-rises marks k r s marked, from.2, il))) (λ (e : r ≤ k). absurd (omega (arith, ap (kept_rank marks) {x = r} {y = k} (omega arith), from.2, il))) (cases_lt k r))
+    (cases_lt r k) in
+    ap (λ p. is_same_place p (get_or ps j d)) at ∙ other-places (place_of (get_or ps r d)) (place_of (get_or ps j d)) (lead.first r d before))))
 
 -- so it is below the number of groups
 pub group-below : (ps : List Point) (leads : List ℕ) (j : ℕ) (d : Point) → AreLeads ps leads → j < length ps → group_of (firsts ps) (get_or ps j d) < length (firsts ps)

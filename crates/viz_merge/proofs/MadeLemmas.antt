@@ -47,9 +47,9 @@ numbers-are ps leads numbers marks h em en =
       each =
           en ∙ ap (λ ms. map (kept_rank ms) leads) em
           ∙ same_lists (map (kept_rank (first_marks leads)) leads) (map (group_of (firsts ps)) ps) (count ∙ h.size ∙ sym other) (λ j d l.
-              let below : j < length leads = omega (arith, count, l) in
-              let in_ps : j < length ps = omega (arith, h.size, below) in
-              get_or-map (kept_rank (first_marks leads)) leads j 0 d below ∙ rank-is_group ps leads j zero_point h in_ps ∙ sym (get_or-map (group_of (firsts ps)) ps j zero_point d in_ps));
+          let below : j < length leads = omega (arith, count, l) in
+          let in_ps : j < length ps = omega (arith, h.size, below) in
+          get_or-map (kept_rank (first_marks leads)) leads j 0 d below ∙ rank-is_group ps leads j zero_point h in_ps ∙ sym (get_or-map (group_of (firsts ps)) ps j zero_point d in_ps));
     }
 
 -- the same of lists that are lent
@@ -99,18 +99,18 @@ sheet-mapped sheets leads i s hl h l is =
     let gs = firsts all in
     let f = leaf_in gs s in
     All-map (IsMapped (length gs)) (map f) s.cells (λ k d kl.
-        let cell = get_or s.cells k d in
-        let count : length (map f cell) ≡ length cell = simp length-map in
-        record {
-          some = omega (arith, count, (h.each k d kl).some);
-          most = omega (arith, count, (h.each k d kl).most);
-          below = All-map (λ r. r < length gs) f cell (λ j e jl.
-              let n = get_or cell j e in
-              let c = corners s h k d kl j e jl in
-              let name : get_or s.names c.0 [] ≡ n = get_or_default s.names c.0 [] n c.1 ∙ c.2 in
-              let at = among-all sheets i s c.0 h l is c.1 in
-              subst (λ p. group_of gs p < length gs) (at.1 ∙ ap (point_of s) name) (group-below all leads (length (all_points (take i sheets)) + c.0) zero_point hl at.0));
-        })
+    let cell = get_or s.cells k d in
+    let count : length (map f cell) ≡ length cell = simp length-map in
+    record {
+      some = omega (arith, count, (h.each k d kl).some);
+      most = omega (arith, count, (h.each k d kl).most);
+      below = All-map (λ r. r < length gs) f cell (λ j e jl.
+          let n = get_or cell j e in
+          let c = corners s h k d kl j e jl in
+          let name : get_or s.names c.0 [] ≡ n = get_or_default s.names c.0 [] n c.1 ∙ c.2 in
+          let at = among-all sheets i s c.0 h l is c.1 in
+          subst (λ p. group_of gs p < length gs) (at.1 ∙ ap (point_of s) name) (group-below all leads (length (all_points (take i sheets)) + c.0) zero_point hl at.0));
+    })
 
 pub merged-cells : (sheets : List SheetData) (leads : List ℕ) → AreLeads (all_points sheets) leads → All IsSheet sheets → All (IsCell (length (firsts (all_points sheets)))) (filter has_no_repeat (flat_map (cells_by_leaves (firsts (all_points sheets))) sheets))
 merged-cells sheets leads hl h =

@@ -156,6 +156,6 @@ least keys k m lead h kl ml top e =
     let low = top.most in
     ⊎_elim
     (λ (before : m < top.at).
-        absurd (top.first (omega arith) (between keys h m (top.at - 1) top.at (omega arith) (omega arith) (omega arith) e2)))
+    absurd (top.first (omega arith) (between keys h m (top.at - 1) top.at (omega arith) (omega arith) (omega arith) e2)))
     (λ (from : top.at ≤ m). subst (λ n. n ≤ index_in (key_at keys m)) top.index (rises keys h top.at m from ml (sym e2)))
     (cases_lt m top.at)

@@ -60,9 +60,9 @@ one-written keys at lead old new h l w is more =
           ⊎_elim
           (λ (e : i ≡ j). (at, l, e, ap (λ xs. get_or xs j 0) more ∙ ap (λ n. get_or (set old i lead) n 0) (sym e) ∙ here old i below ∙ is))
           (λ (n : i ≡ j → ⊥).
-              let before : k < at = ⊎_elim (λ (b : k < at). b) (λ (f : at ≤ k). absurd (n (ap (λ m. index_in (key_at keys m)) {x = at} {y = k} (omega arith)))) (cases_lt k at) in
-              let by = w.each k before in
-              (by.0, by.1, by.2, ap (λ xs. get_or xs j 0) more ∙ there old i j (λ e. n (sym e)) ∙ by.3))
+          let before : k < at = ⊎_elim (λ (b : k < at). b) (λ (f : at ≤ k). absurd (n (ap (λ m. index_in (key_at keys m)) {x = at} {y = k} (omega arith)))) (cases_lt k at) in
+          let by = w.each k before in
+          (by.0, by.1, by.2, ap (λ xs. get_or xs j 0) more ∙ there old i j (λ e. n (sym e)) ∙ by.3))
           (same_or_not i j);
     }
   where

@@ -32,7 +32,7 @@ fn push_cell(out: &mut Vec<Mixed>, numbers: &[u32], cell: &[u32]) -> Result<(), 
     requires cell { IsCell (length numbers.now) cell.now }
     ensures { OnOk result (out.new.items ≡ out.old.items
         ++ (if has_no_repeat (looked_up numbers.now cell.now)
-            then looked_up numbers.now cell.now ∷ [] else [])) }
+        then looked_up numbers.now cell.now ∷ [] else [])) }
 {
     let made = cell_of(numbers, cell);
     if has_no_repeat(made.ranks()) {
@@ -99,7 +99,10 @@ fn three_differ(a: u32, b: u32, c: u32) -> bool
 fn four_differ(a: u32, b: u32, c: u32, d: u32) -> bool
     ensures { result ≡ has_no_repeat (a ∷ b ∷ c ∷ d ∷ []) }
 {
-    both(both(differ(a, b), both(differ(a, c), differ(a, d))), three_differ(b, c, d))
+    both(
+        both(differ(a, b), both(differ(a, c), differ(a, d))),
+        three_differ(b, c, d),
+    )
 }
 
 /// Both are true.

@@ -88,11 +88,7 @@ fn push_if_small(
 }
 
 /// The same of whatever width.
-fn wide_points(
-    alloc: Global,
-    marks: &[bool],
-    sheets: &[Sheet],
-) -> Result<Vec<Point5>, AllocError>
+fn wide_points(alloc: Global, marks: &[bool], sheets: &[Sheet]) -> Result<Vec<Point5>, AllocError>
     requires matched { length marks.now ≡ length (all_points sheets.now) }
     ensures value { IfOk result (λ v. v.items ≡ kept marks.now (all_points sheets.now)) }
 {

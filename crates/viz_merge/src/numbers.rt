@@ -37,11 +37,7 @@ pub(crate) fn ranks_before(alloc: Global, marks: &[bool]) -> Result<Vec<u32>, Al
 }
 
 /// How many marked items stand before the lead of each point.
-pub(crate) fn numbers(
-    alloc: Global,
-    marks: &[bool],
-    leads: &[u32],
-) -> Result<Vec<u32>, AllocError>
+pub(crate) fn numbers(alloc: Global, marks: &[bool], leads: &[u32]) -> Result<Vec<u32>, AllocError>
     requires few { length marks.now < 2 ^ 32 }
     requires below { All (λ lead. lead < length marks.now) leads.now }
     ensures value { IfOk result (λ v. v.items ≡ map (kept_rank marks.now) leads.now) }

@@ -30,10 +30,10 @@ points-are : (s t : SheetData) → IsSheet s → IsSheet t → KeepPoints t.name
 points-are s t h k keep =
     let count : length (map (point_of s) t.names) ≡ length t.names = simp length-map in
     same_lists t.points (map (point_of s) t.names) (k.matched ∙ sym count) (λ i d l.
-        let below : i < length t.names = omega (arith, k.matched) in
-        let from = keep i d below in
-        from.3 ∙ sym (point-at s from.0 d h.ascending h.matched from.1)
-        ∙ ap (point_of s) (sym from.2) ∙ sym (get_or-map (point_of s) t.names i [] d below))
+    let below : i < length t.names = omega (arith, k.matched) in
+    let from = keep i d below in
+    from.3 ∙ sym (point-at s from.0 d h.ascending h.matched from.1)
+    ∙ ap (point_of s) (sym from.2) ∙ sym (get_or-map (point_of s) t.names i [] d below))
 
 same_sheet : (s : SheetData) (names : List (List ℕ)) (points : List Point) → s.names ≡ names → s.points ≡ points → s ≡ record { names = names; points = points; cells = s.cells }
 same_sheet s names points en ep = λ i. record { names = en i; points = ep i; cells = s.cells }
@@ -62,9 +62,9 @@ module _ {X : Type 0} {R : X → X → Ordering} (o : IsTotalOrder R) where
   past_head x xs y ys s t in_ys z c d =
       ⊎_elim
       (λ is_head. ⊎_elim
-          (λ is_x. subst (Contains ys) is_x in_ys)
-          (λ in_xs. absurd (not_itself x (o.trans x y x (subst (λ u. R x u ≡ Less) (sym is_head) (all_after o x xs s z in_xs)) (all_after o y ys t x in_ys))))
-          (member_cases x xs z c))
+      (λ is_x. subst (Contains ys) is_x in_ys)
+      (λ in_xs. absurd (not_itself x (o.trans x y x (subst (λ u. R x u ≡ Less) (sym is_head) (all_after o x xs s z in_xs)) (all_after o y ys t x in_ys))))
+      (member_cases x xs z c))
       (λ in_tail. in_tail)
       (member_cases y ys z d)
 

@@ -46,8 +46,8 @@ two_true false b h k = absurd (true≢false (sym h))
 
 pub test-within : (lo hi : ℤ) (p : Point) → (has_scalar_within lo hi p ≡ true) ↔ IsWithin p lo hi
 test-within lo hi p = (
-    λ h.
-        let both = both_true (int_le (lo *ℤ p.w) p.s) (int_le p.s (hi *ℤ p.w)) h in
-        record { above = omega (arith, ints, le-true (lo *ℤ p.w) p.s both.0); below = omega (arith, ints, le-true p.s (hi *ℤ p.w) both.1) },
-    λ w. two_true (int_le (lo *ℤ p.w) p.s) (int_le p.s (hi *ℤ p.w)) (sym (true_is_le (lo *ℤ p.w) p.s (omega (arith, ints, w.above)))) (sym (true_is_le p.s (hi *ℤ p.w) (omega (arith, ints, w.below)))),
+  λ h.
+      let both = both_true (int_le (lo *ℤ p.w) p.s) (int_le p.s (hi *ℤ p.w)) h in
+      record { above = omega (arith, ints, le-true (lo *ℤ p.w) p.s both.0); below = omega (arith, ints, le-true p.s (hi *ℤ p.w) both.1) },
+  λ w. two_true (int_le (lo *ℤ p.w) p.s) (int_le p.s (hi *ℤ p.w)) (sym (true_is_le (lo *ℤ p.w) p.s (omega (arith, ints, w.above)))) (sym (true_is_le p.s (hi *ℤ p.w) (omega (arith, ints, w.below)))),
 )

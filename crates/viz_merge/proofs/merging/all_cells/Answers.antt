@@ -13,8 +13,14 @@ push_sheet-requires c = record {
 
 pub overflow_add-at : goal.overflow_add-at
 overflow_add-at c =
-    omega (arith, points-room c.args.sheets.now c.loop-sheet.sheet-index c.sheet-item.result c.loop-sheet-test.true c.sheet-item.is, c.loop-sheet.invariant.place, numbers-size (all_points c.args.sheets.now) c.args.numbers.now c.requires.numbers,
-    c.len-count.ensures.value, ap length c.places.ensures.value)
+    omega (
+      arith,
+      points-room c.args.sheets.now c.loop-sheet.sheet-index c.sheet-item.result c.loop-sheet-test.true c.sheet-item.is,
+      c.loop-sheet.invariant.place,
+      numbers-size (all_points c.args.sheets.now) c.args.numbers.now c.requires.numbers,
+      c.len-count.ensures.value,
+      ap length c.places.ensures.value,
+    )
 
 pub loop-sheet-preserved : goal.loop-sheet-preserved
 loop-sheet-preserved c =
