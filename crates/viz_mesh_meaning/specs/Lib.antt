@@ -1,0 +1,6 @@
+pub mod Cells
+pub mod Select
+pub mod Append
+pub mod Facets
+pub mod Merge
+pub mod Laws

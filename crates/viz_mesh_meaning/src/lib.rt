@@ -1,0 +1,10 @@
+//! What filters of meshes mean: selection, joining, boundary and merging, by the names of points.
+//!
+//! Contract: the laws of the definitions. What a filter gives of sheets are sheets again, whose
+//! points are those that the names had. Definitions: `specs/Cells.antt`, `specs/Select.antt`,
+//! `specs/Append.antt`, `specs/Facets.antt` and `specs/Merge.antt`.
+#![tactic(auto)]
+
+mod laws;
+
+pub use laws::{boundaries_have_facets, cells_make_sheets, selections_are_cell_by_cell};
