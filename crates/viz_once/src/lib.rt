@@ -15,9 +15,9 @@ mod report;
 mod stop;
 mod threshold;
 
-pub use outcome::Status;
 pub use command::file_name;
 pub use entry::run_once;
+pub use outcome::Status;
 
 #[cfg(test)]
 mod contour_tests;

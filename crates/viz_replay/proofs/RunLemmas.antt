@@ -150,21 +150,21 @@ module _ {P O : Type 0} (m : port.Ghosts P) (o : out.Ghosts O) (c : Replay) (des
   pub script : ended ≡ status.Script → IsScript m o c desk new_desk old new before after
   script is = elim (told_at telling.0 telling.1 ended status.Script telling.3 is) [
     | inl e ↦
-      let f = found_is found telling.0 came.NoPort telling.2 e (λ bad. let b : came.Memory ≡ came.NoPort = bad in cc) in
-      let d = no_port m c old new ran.0 (ends_in came.NoPort f) in
-      inl (d.1.0, d.1.1, asked_is None d.0, puts o (line_of came.NoPort) before after telling.1 (line_put came.NoPort e))
+        let f = found_is found telling.0 came.NoPort telling.2 e (λ bad. let b : came.Memory ≡ came.NoPort = bad in cc) in
+        let d = no_port m c old new ran.0 (ends_in came.NoPort f) in
+        inl (d.1.0, d.1.1, asked_is None d.0, puts o (line_of came.NoPort) before after telling.1 (line_put came.NoPort e))
     | inr t ↦
-      let f = found_is found telling.0 (came.Refused t.0 t.1) telling.2 t.2 (λ bad. let b : came.Memory ≡ came.Refused t.0 t.1 = bad in cc) in
-      let d = refused_journal m c old new ran.0 t.0 t.1 (ends_in (came.Refused t.0 t.1) f) in
-      inr (d.0, t.0, t.1, d.2, d.3, asked_is (Some d.0) d.1, puts o (line_of (came.Refused t.0 t.1)) before after telling.1 (line_put (came.Refused t.0 t.1) t.2))
+        let f = found_is found telling.0 (came.Refused t.0 t.1) telling.2 t.2 (λ bad. let b : came.Memory ≡ came.Refused t.0 t.1 = bad in cc) in
+        let d = refused_journal m c old new ran.0 t.0 t.1 (ends_in (came.Refused t.0 t.1) f) in
+        inr (d.0, t.0, t.1, d.2, d.3, asked_is (Some d.0) d.1, puts o (line_of (came.Refused t.0 t.1)) before after telling.1 (line_put (came.Refused t.0 t.1) t.2))
   ]
 
   pub fault : ended ≡ status.Fault → IsFault m o c desk new_desk old new before after
   fault is = elim (told_at telling.0 telling.1 ended status.Fault telling.3 is) [
     | inl e ↦
-      let f = found_is found telling.0 came.Unread telling.2 e (λ bad. let b : came.Memory ≡ came.Unread = bad in cc) in
-      let d = unread m c old new ran.0 (ends_in came.Unread f) in
-      inl (asked_is (Some read.Failed) d.0, d.1, puts o (line_of came.Unread) before after telling.1 (line_put came.Unread e))
+        let f = found_is found telling.0 came.Unread telling.2 e (λ bad. let b : came.Memory ≡ came.Unread = bad in cc) in
+        let d = unread m c old new ran.0 (ends_in came.Unread f) in
+        inl (asked_is (Some read.Failed) d.0, d.1, puts o (line_of came.Unread) before after telling.1 (line_put came.Unread e))
     | inr t ↦ elim t [
       | inl e ↦ inr (inl (updated_from line.WriteFault e, puts o (line_of (came.Updated line.WriteFault)) before after telling.1 (line_put (came.Updated line.WriteFault) e)))
       | inr failed ↦ inr (inr (telling.4.cause failed))

@@ -49,11 +49,7 @@ fn network_after(alloc: Global, entries: &[JournalEntry]) -> Result<Net, AllocEr
 }
 
 /// The network of so many first entries, or of all where there are fewer.
-pub fn network_of(
-    alloc: Global,
-    entries: &[JournalEntry],
-    count: u32,
-) -> Result<Net, AllocError>
+pub fn network_of(alloc: Global, entries: &[JournalEntry], count: u32) -> Result<Net, AllocError>
     ensures { IfOk result (λ net. net ≡ network_at count entries.now) }
 {
     network_after(alloc, first(entries, count))

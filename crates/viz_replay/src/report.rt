@@ -148,7 +148,10 @@ fn report_update<O: Out>(alloc: Global, out: &mut O, line: &Line) -> Status
     let came = Came::Updated(*line);
     match line {
         Line::File {
-            at, cells, points, ..
+            at,
+            cells,
+            points,
+            ..
         } => {
             let made = file_line(alloc, *at, *cells, *points);
             put_made(alloc, out, &came, made)

@@ -56,12 +56,7 @@ fn serve_entries<P: Port>(
 }
 
 /// Reads the journal from the desk, and updates the sink on the network of its first entries.
-fn serve_over<P: Port>(
-    alloc: Global,
-    command: &Replay<'_>,
-    desk: &mut P,
-    ports: &mut [P],
-) -> Came
+fn serve_over<P: Port>(alloc: Global, command: &Replay<'_>, desk: &mut P, ports: &mut [P]) -> Came
     ensures { IsRan P.Port (replay_of command.now) result desk.old desk.new ports.old ports.new }
 {
     if ports.is_empty() {
@@ -89,12 +84,7 @@ fn serve_over<P: Port>(
 }
 
 /// The same over the list of ports.
-pub fn serve<P: Port>(
-    alloc: Global,
-    command: &Replay<'_>,
-    desk: &mut P,
-    ports: &mut Vec<P>,
-) -> Came
+pub fn serve<P: Port>(alloc: Global, command: &Replay<'_>, desk: &mut P, ports: &mut Vec<P>) -> Came
     ensures { IsRan P.Port (replay_of command.now) result desk.old desk.new
         ports.old.items ports.new.items }
 {

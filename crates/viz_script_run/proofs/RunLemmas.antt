@@ -195,8 +195,8 @@ module _ {P : Type 0} (m : port.Ghosts P) (limit : ℕ) (h : List Entry) (ends :
   some_rose (p ∷ passes) (s ∷ script) (l ∷ told) (b ∷ before) [] a e = absurd a
   some_rose (p ∷ passes) (s ∷ script) (l ∷ told) (b ∷ before) (c ∷ after) a e =
       ⊎_elim (λ mine.
-        let f = one_fault (flat_map (λ (ls : List Line). ls) l) mine in
-        inl (rose_by f.0 (m.faults b) (m.faults c) (subst (λ (n : ℕ). RoseBy n (m.faults b) (m.faults c)) f.1 a.0.faults)))
+      let f = one_fault (flat_map (λ (ls : List Line). ls) l) mine in
+      inl (rose_by f.0 (m.faults b) (m.faults c) (subst (λ (n : ℕ). RoseBy n (m.faults b) (m.faults c)) f.1 a.0.faults)))
       (λ others. inr (some_rose passes script told before after a.1 others))
       (any_flat (flat_map (λ (ls : List Line). ls) l) (flat_map (λ (phases : List (List Line)). flat_map (λ (ls : List Line). ls) phases) told) e)
 
@@ -262,8 +262,8 @@ module _ {P O : Type 0} (m : port.Ghosts P) (o : out.Ghosts O) (script journal :
   fault is = elim (told_at telling.0 telling.1 ended status.Fault telling.3 is) [
     | inl t ↦ inr (unread t.0)
     | inr t ↦
-      let s = served_lines t.0 t.1 (found_served t.0 t.1 t.2) in
-      inl (t.0, s.0, s.1, t.3, why t.0 t.1 s.0 s.2 t.4, puts o (lines_text 1 1 t.0) before after telling.1 (text_put (ran.Served t.0 t.1) t.2))
+        let s = served_lines t.0 t.1 (found_served t.0 t.1 t.2) in
+        inl (t.0, s.0, s.1, t.3, why t.0 t.1 s.0 s.2 t.4, puts o (lines_text 1 1 t.0) before after telling.1 (text_put (ran.Served t.0 t.1) t.2))
   ]
 
   rose_in : (lines : List Line) (answer : WriteAnswer) → IsServedBy m script journal lines answer desk new_desk old new

@@ -39,9 +39,9 @@ pub fn run_script<P: Port, O: Out>(
         Status.Refused desk.old desk.new ports.old.items ports.new.items out.old out.new }
     ensures fault { result ≡ Status.Fault
         → IsServedWithFault P.Port O.Out script.now journal.now desk.old desk.new
-            ports.old.items ports.new.items out.old out.new
+        ports.old.items ports.new.items out.old out.new
         ⊎ IsUnread P.Port O.Out script.now journal.now desk.old desk.new
-            ports.old.items ports.new.items out.old out.new }
+        ports.old.items ports.new.items out.old out.new }
     ensures cause { result ≡ Status.Fault → Rose (P.faults desk.old) (P.faults desk.new)
         ⊎ (SomeRose P.Port ports.old.items ports.new.items
         ⊎ Rose (O.faults out.old) (O.faults out.new)) }

@@ -27,10 +27,7 @@ fn actors<P>(ports: &[P]) -> u32
 }
 
 /// The entries as those of the first actor.
-fn journal_entries(
-    alloc: Global,
-    history: Vec<Entry>,
-) -> Result<Vec<JournalEntry>, AllocError>
+fn journal_entries(alloc: Global, history: Vec<Entry>) -> Result<Vec<JournalEntry>, AllocError>
     requires legal { IsLegal history.items }
     requires own { own_of 0 history.items ≡ history.items }
     ensures { IfOk result (λ entries. entries.items ≡ numbered ((0 ∷ []) ∷ []) [] history.items) }

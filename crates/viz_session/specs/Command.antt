@@ -27,11 +27,11 @@ script_of words = None
 unfoldable pub scratch_of : List (List ℕ) → Option Command
 scratch_of (journal ∷ count ∷ sink ∷ output ∷ []) =
     option_and_then (λ j. option_and_then (λ n. option_and_then (λ s. option_map (λ o.
-      Scratch (record { journal = j; count = n; sink = s; output = o }))
-      (given (named_in is_file_name output)))
-      (given (named_in is_node_name sink)))
-      (given (natural_in 0 65536 count)))
-      (file_name_of journal)
+    Scratch (record { journal = j; count = n; sink = s; output = o }))
+    (given (named_in is_file_name output)))
+    (given (named_in is_node_name sink)))
+    (given (natural_in 0 65536 count)))
+    (file_name_of journal)
 scratch_of words = None
 
 -- the command that all words are, where it uses the desk

@@ -38,7 +38,7 @@ fn scratch(words: &[Bytes]) -> Option<Command<'_>>
         return None;
     };
     let journal = file_name(journal.list())?;
-    let count = natural(0, 65_536, count.list()).ok()?;
+    let count = natural(count.list(), 0, 65_536).ok()?;
     let sink = node_name(sink.list()).ok()?;
     let output = output_name(output.list()).ok()?;
     Some(Command::Scratch(Replay {
@@ -51,7 +51,7 @@ fn scratch(words: &[Bytes]) -> Option<Command<'_>>
 
 /// The command that all words are, where it uses the desk.
 #[tactic(auto, unfolding(crate::specs::Command::command_of))]
-pub fn command(words: &[Bytes]) -> Option<Command<'_>>
+pub fn read_command(words: &[Bytes]) -> Option<Command<'_>>
     ensures { option_map command_view result ≡ command_of words.now }
 {
     let [verb, rest @ ..] = words else {

@@ -8,7 +8,7 @@ ghost use Rattle.viz_script_run.specs.Promises.{SomeRose};
 ghost use Rattle.viz_session.specs.Command.{command_of, AreNone};
 ghost use Rattle.viz_session.specs.Runs.{IsRun, IsDone, IsRefused, IsScript, IsFault, IsCutOff, OthersStay, Refuses};
 
-use crate::command::{Command, command};
+use crate::command::{Command, read_command};
 use std::alloc::Global;
 use std::sync::Wait;
 use std::thread::Threads;
@@ -58,7 +58,7 @@ pub fn run<R: Threads + Wait + Sync, P: Port + Send + Drop, O: Out, G: Gate + Sy
         ports.new.items out.old out.new (command_of words.now) }
     ensures one_put { O.puts out.new ≡ one_more (O.puts out.old) }
 {
-    match command(words) {
+    match read_command(words) {
         Some(Command::Script { script, journal }) => {
             run_script(alloc, script, journal, desk, ports, out)
         }

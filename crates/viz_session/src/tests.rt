@@ -6,9 +6,7 @@ use std::process::Abort;
 use std::sync::Wait;
 use std::test::Fail;
 use std::thread::Threads;
-use viz_base::{
-    Bytes, FILE_LIMIT, FailAt, FileEntry, MemoryOut, MemoryPort, OpenGate, Word,
-};
+use viz_base::{Bytes, FILE_LIMIT, FailAt, FileEntry, MemoryOut, MemoryPort, OpenGate, Word};
 
 /// An image of 2 x 2 x 2 points, all 0 but the last, which is 9.
 const CORNER: &str = "# vtk DataFile Version 5.1
@@ -56,6 +54,7 @@ edit 1 7 at 6
 ";
 
 /// What a run left.
+#[derive(Drop)]
 struct Left {
     status: Status,
     text: String,
@@ -87,7 +86,7 @@ fn words(alloc: Global, line: &str) -> Result<Vec<Bytes>, Fail> {
 }
 
 // Runs the line over a desk whose one file is `s`, and a port.
-fn left<R: Threads + Wait + Sync>(
+fn run_over<R: Threads + Wait + Sync>(
     rt: &R,
     alloc: Global,
     line: &str,
@@ -98,7 +97,9 @@ fn left<R: Threads + Wait + Sync>(
     let mut desk = port(alloc, "s", script, FILE_LIMIT, Vec::new(alloc))?;
     let mut ports = vec![in alloc; first]?;
     let mut out = MemoryOut::new(alloc, Vec::new(alloc));
-    let status = run(rt, alloc, &words, &mut desk, &mut ports, &mut out, &OpenGate);
+    let status = run(
+        rt, alloc, &words, &mut desk, &mut ports, &mut out, &OpenGate,
+    );
     let text = String::from_utf8(out.text().to_vec(alloc)?)?;
     Ok(Left {
         status,
@@ -121,7 +122,7 @@ fn a_changed_level_is_contoured_again(rt: HostRuntime) -> Result<(), Fail> {
     // level-changed, and scratch-of-journal on its journal
     let alloc = rt.alloc();
     let first = corner(alloc, Vec::new(alloc))?;
-    let left = left(&rt, alloc, "run s j", LEVELS.as_bytes(), first)?;
+    let left = run_over(&rt, alloc, "run s j", LEVELS.as_bytes(), first)?;
     assert!(rt; left.status == Status::Done, "{}", left.text);
     let want = format!(in alloc; "{LEVELS_REPORT}file 1 8 at 6 cells 0 points 0 ran 2\n")?;
     assert_eq!(rt; left.text.as_str(), want.as_str());
@@ -144,12 +145,20 @@ fn replayed<R: Threads + Wait + Sync + Abort>(
 ) -> Result<(), Fail> {
     for (line, want, bytes) in [
         ("scratch s 5 iso o.vtk", "file at 5 cells 6 points 7\n", one),
-        ("scratch s 99 iso o.vtk", "file at 6 cells 0 points 0\n", Some(EMPTY.as_bytes())),
+        (
+            "scratch s 99 iso o.vtk",
+            "file at 6 cells 0 points 0\n",
+            Some(EMPTY.as_bytes()),
+        ),
         ("scratch s 2 iso o.vtk", "refused Unknown at 2\n", None),
-        ("scratch s 3 iso o.vtk", "refused fault:iso:Unconnected(1) at 3\n", None),
+        (
+            "scratch s 3 iso o.vtk",
+            "refused fault:iso:Unconnected(1) at 3\n",
+            None,
+        ),
     ] {
         let first = MemoryPort::new(alloc, Vec::new(alloc), FILE_LIMIT, Vec::new(alloc));
-        let left = left(rt, alloc, line, journal, first)?;
+        let left = run_over(rt, alloc, line, journal, first)?;
         assert_eq!(rt; left.text.as_str(), want);
         assert!(rt; file(&left.ports, "o.vtk") == bytes, "{want}");
     }
@@ -162,7 +171,7 @@ fn a_fault_of_a_port_is_one_line(rt: HostRuntime) -> Result<(), Fail> {
     let alloc = rt.alloc();
     let failing = vec![in alloc; FailAt { call: 3, kept: 40 }]?;
     let first = corner(alloc, failing)?;
-    let left = left(&rt, alloc, "run s j", LEVELS.as_bytes(), first)?;
+    let left = run_over(&rt, alloc, "run s j", LEVELS.as_bytes(), first)?;
     assert!(rt; left.status == Status::Fault, "{}", left.text);
     let want = format!(in alloc; "{LEVELS_REPORT}fault 1 8 write\n")?;
     assert_eq!(rt; left.text.as_str(), want.as_str());
@@ -177,8 +186,18 @@ fn refusals_have_their_lines(rt: HostRuntime) -> Result<(), Fail> {
     let (script, refused, done) = (Status::Script, Status::Refused, Status::Done);
     for (text, limit, status, want) in [
         // script-refused, and the empty script
-        ("\n\n1 blend a\n", FILE_LIMIT, script, "script line 3 Word\n"),
-        ("2 remove a\n", FILE_LIMIT, script, "script line 1 ActorRange\n"),
+        (
+            "\n\n1 blend a\n",
+            FILE_LIMIT,
+            script,
+            "script line 3 Word\n",
+        ),
+        (
+            "2 remove a\n",
+            FILE_LIMIT,
+            script,
+            "script line 1 ActorRange\n",
+        ),
         ("", FILE_LIMIT, done, ""),
         // a long file of usage-and-long-file
         (
@@ -197,7 +216,7 @@ fn refusals_have_their_lines(rt: HostRuntime) -> Result<(), Fail> {
         ("1 load src b.vtk\n", 9, Status::Fault, "fault 1 1 read\n"),
     ] {
         let first = port(alloc, "a.vtk", CORNER.as_bytes(), limit, Vec::new(alloc))?;
-        let left = left(&rt, alloc, "run s j", text.as_bytes(), first)?;
+        let left = run_over(&rt, alloc, "run s j", text.as_bytes(), first)?;
         assert_eq!(rt; left.text.as_str(), want);
         assert!(rt; left.status == status, "{want}");
         assert_eq!(rt; left.desk.file("j").is_some(), status != script, "{want}");
@@ -217,10 +236,14 @@ fn other_words_are_usage(rt: HostRuntime) -> Result<(), Fail> {
         ("run t j", Status::Fault, "fault read\n"),
         ("scratch t 1 a o", Status::Fault, "fault read\n"),
         ("scratch s 1 a o", Status::Script, "script line 1 Word\n"),
-        ("once a.vtk o.vtk contour 10", Status::Done, "file cells 0 points 0\n"),
+        (
+            "once a.vtk o.vtk contour 10",
+            Status::Done,
+            "file cells 0 points 0\n",
+        ),
     ] {
         let first = corner(alloc, Vec::new(alloc))?;
-        let left = left(&rt, alloc, line, b"no journal", first)?;
+        let left = run_over(&rt, alloc, line, b"no journal", first)?;
         assert_eq!(rt; left.text.as_str(), want, "{line}");
         assert!(rt; left.status == status, "{line}");
     }

@@ -5,11 +5,15 @@ use Rattle.viz_script_run.proofs.serving.keep.Goals as goal
 pub returns-in-Err-Failed : goal.returns-in-Err-Failed
 returns-in-Err-Failed g c =
     let w = rw c.in-Err-Failed.field-0-is at c.in-Err-Failed.ensures in
-    inr (write.Failed, search rules, record {
-      calls = search rules;
-      left = search rules;
-      others = search rules;
-      cause = λ e. w.failed refl;
-      later = w.later;
-      limit = w.same_limit;
-    })
+    inr (
+      write.Failed,
+      search rules,
+      record {
+        calls = search rules;
+        left = search rules;
+        others = search rules;
+        cause = λ e. w.failed refl;
+        later = w.later;
+        limit = w.same_limit;
+      },
+    )
