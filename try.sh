@@ -1,5 +1,5 @@
 #!/usr/bin/env bash
-# Proves and builds the program, leaves it here as `vizrun` with the examples' files, and runs both.
+# Proves and builds the program, leaves it here as `vizrun` with the examples' files, and runs them.
 # What it makes is ignored by git.
 set -eu
 cd "$(dirname "$0")"
@@ -28,4 +28,17 @@ type_in ./vizrun once b.vtk o.vtk threshold 2 3
 type_in tail -n 2 o.vtk
 type_in ./vizrun once c.vtk o.vtk contour 5
 type_in head -n 7 o.vtk
+cat >s <<'END'
+1 add file src
+1 load src c.vtk
+1 add contour iso
+1 connect src iso 1
+1 set iso levels 5
+1 update iso one.vtk 1 1
+1 set iso levels 10
+1 update iso two.vtk 1 1
+END
+type_in ./vizrun run s j
+type_in ./vizrun scratch j 5 iso again.vtk
+type_in cmp one.vtk again.vtk
 echo "The program is $PWD/vizrun. It reads and writes files of the folder that it is started in."
