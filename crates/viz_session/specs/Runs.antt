@@ -22,7 +22,7 @@ use Rattle.viz_session.specs.declared.command.Command.TheVariants as words
 
 -- a command as contracts see it
 abbrev pub command_view : Words → Command
-command_view (words.Script script journal) = Script script journal
+command_view (words.Script script journal) = Script script.now journal.now
 command_view (words.Scratch replay) = Scratch (replay_of replay)
 
 module _ {P O : Type 0} (m : port.Ghosts P) (o : out.Ghosts O) (words : List (List ℕ)) (desk new_desk : P) (old new : List P) (before after : O) where
