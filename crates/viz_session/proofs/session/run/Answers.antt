@@ -1,0 +1,22 @@
+use Rattle.std.proofs.Common.{Option, Some, subst, sym, inl, inr}
+use Rattle.viz_session.specs.Command.{Command}
+use Rattle.viz_session.specs.declared.command.Command.{Command as Words}
+use Rattle.viz_session.specs.Runs.{IsFault, command_view}
+use Rattle.viz_session.proofs.RoseLemmas.{some_of_first}
+use Rattle.viz_session.proofs.session.run.Goals as goal
+
+pub returns-in-Some-Script-clause-fault : goal.returns-in-Some-Script-clause-fault
+returns-in-Some-Script-clause-fault g c = λ is.
+    subst (λ (x : Option Command). IsFault g.P.Port g.O.Out c.args.words.now c.args.desk.now c.run_script.new.desk c.args.ports.now.items c.run_script.new.ports.items c.args.out.now c.run_script.new.out x)
+    c.in-Some-Script.ensures
+    (subst (λ (w : Words). IsFault g.P.Port g.O.Out c.args.words.now c.args.desk.now c.run_script.new.desk c.args.ports.now.items c.run_script.new.ports.items c.args.out.now c.run_script.new.out (Some (command_view w)))
+    (sym c.in-Some-Script.field-0-is) (c.run_script.ensures.fault is))
+
+pub returns-in-Some-Scratch-clause-cause : goal.returns-in-Some-Scratch-clause-cause
+returns-in-Some-Scratch-clause-cause g c = λ is. elim (c.run_scratch.ensures.cause is) [
+  | inl desk ↦ inl desk
+  | inr t ↦ elim t [
+    | inl first ↦ inr (inl (some_of_first g.P.Port c.args.ports.now.items c.run_scratch.new.ports.items first))
+    | inr put ↦ inr (inr put)
+  ]
+]
