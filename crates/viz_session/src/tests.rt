@@ -160,7 +160,7 @@ fn replayed<R: Threads + Wait + Sync + Abort>(
         let first = MemoryPort::new(alloc, Vec::new(alloc), FILE_LIMIT, Vec::new(alloc));
         let left = run_over(rt, alloc, line, journal, first)?;
         assert_eq!(rt; left.text.as_str(), want);
-        assert!(rt; file(&left.ports, "o.vtk") == bytes, "{want}");
+        assert!(rt; file(&left.ports, "o.vtk") == bytes);
     }
     Ok(())
 }
@@ -218,8 +218,8 @@ fn refusals_have_their_lines(rt: HostRuntime) -> Result<(), Fail> {
         let first = port(alloc, "a.vtk", CORNER.as_bytes(), limit, Vec::new(alloc))?;
         let left = run_over(&rt, alloc, "run s j", text.as_bytes(), first)?;
         assert_eq!(rt; left.text.as_str(), want);
-        assert!(rt; left.status == status, "{want}");
-        assert_eq!(rt; left.desk.file("j").is_some(), status != script, "{want}");
+        assert!(rt; left.status == status);
+        assert_eq!(rt; left.desk.file("j").is_some(), status != script);
     }
     Ok(())
 }
