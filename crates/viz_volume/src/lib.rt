@@ -1,0 +1,12 @@
+//! Volumes that a number makes.
+//!
+//! Contract: `generate` gives the volume of its definition, the same for the same number.
+//! Definitions: `specs/Volume.antt`; the rule is that of docs/FORMATS.md, "Made volumes".
+#![tactic(auto)]
+
+mod generated;
+
+pub use generated::{Generated, generate};
+
+#[cfg(test)]
+mod tests;
