@@ -5,8 +5,10 @@
 #![tactic(auto)]
 
 mod generated;
+mod laws;
 
 pub use generated::{Generated, generate};
+pub use laws::volumes_are_narrow;
 
 #[cfg(test)]
 mod tests;
