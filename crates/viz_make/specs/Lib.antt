@@ -1,0 +1,4 @@
+pub mod Make
+pub mod Views
+pub mod Told
+pub mod Promises

@@ -1,0 +1,16 @@
+//! The command that makes a volume: from its words to the status.
+//!
+//! Contract: a run writes the volume of a number and tells its numbers and the audit of its contour,
+//! by which the contour is closed up to the boundary; or it says why not.
+//! Definitions: `specs/Make.antt` and the files that it names; the rules are those of
+//! docs/FORMATS.md, "Made volumes" and "Report".
+#![tactic(auto)]
+
+mod came;
+mod made;
+mod report;
+mod run;
+mod serving;
+
+pub use run::run_make;
+pub use serving::Make;

@@ -1,0 +1,104 @@
+//! A made volume, and its numbers.
+
+ghost use Rattle.std.specs.Prelude.{◌≡◌, IfOk, length};
+ghost use Rattle.viz_surface_law.specs.Audit.{count_sides, count_two, count_lone, count_border};
+ghost use Rattle.viz_make.specs.Make.{IsMade, contour_of, image_of, text_of};
+ghost use Rattle.viz_make.specs.Promises.{IsClosed};
+ghost use Rattle.viz_make.specs.Views.{make_of};
+
+use crate::serving::Make;
+use std::alloc::{AllocError, Global};
+use viz_base::Bytes;
+use viz_contour::contour;
+use viz_dataset::Image;
+use viz_legacy_write::{Style, WriteStop, write_image};
+use viz_piece::WorkStop;
+use viz_surface_law::{Counts, audit, contours_are_closed};
+use viz_volume::{Generated, generate, volumes_are_narrow};
+
+/// The level of the contour that is audited.
+const MIDDLE: i64 = 128;
+
+/// How volumes are written: in words.
+const STYLE: Style = Style {
+    binary: false,
+    digits: 0,
+};
+
+/// The numbers of a made volume: its points, the sum of its values, the triangles of its contour,
+/// and their sides: all, those in two triangles, those in one, and those of them on the boundary.
+#[derive(Clone, Copy, PartialEq, Eq, Debug)]
+pub struct Made {
+    pub points: u64,
+    pub sum: u64,
+    pub cells: u64,
+    pub sides: u64,
+    pub two: u64,
+    pub lone: u64,
+    pub border: u64,
+}
+
+/// The audit of the contour at the middle, and how many triangles it has.
+fn audited(alloc: Global, command: &Make, image: &Image) -> Result<(Counts, u64), AllocError>
+    requires { image.now ≡ image_of (make_of command.now) }
+    ensures cells { IfOk result (λ r. r.1 ≡ length (contour_of (make_of command.now))) }
+    ensures sides { IfOk result (λ r. r.0.sides ≡ count_sides (contour_of (make_of command.now))) }
+    ensures two { IfOk result (λ r. r.0.two ≡ count_two (contour_of (make_of command.now))) }
+    ensures lone { IfOk result (λ r. r.0.lone ≡ count_lone (contour_of (make_of command.now))) }
+    ensures border { IfOk result (λ r.
+        r.0.border ≡ count_border command.now.extent (contour_of (make_of command.now))) }
+{
+    volumes_are_narrow();
+    contours_are_closed();
+    let extent = image.extent();
+    let sheet = match contour(alloc, &MIDDLE, image) {
+        Ok(sheet) => sheet,
+        Err(WorkStop::TooWide) => unreachable!(),
+        Err(WorkStop::Memory) => return Err(AllocError),
+    };
+    let counts = audit(alloc, &sheet, &extent)?;
+    Ok((counts, sheet.cell_count() as u64))
+}
+
+/// The text of a volume.
+fn volume_text(alloc: Global, command: &Make, image: &Image) -> Result<Bytes, AllocError>
+    requires { image.now ≡ image_of (make_of command.now) }
+    ensures { IfOk result (λ text. text ≡ text_of (make_of command.now)) }
+{
+    let _valid = image.extent().bounds();
+    match write_image(alloc, image, &STYLE) {
+        Ok(text) => Ok(text),
+        Err(WriteStop::TooWide) => unreachable!(),
+        Err(WriteStop::TooMany) => unreachable!(),
+        Err(WriteStop::Memory) => Err(AllocError),
+    }
+}
+
+/// The text and the numbers of the volume that a command names.
+pub fn made_of(alloc: Global, command: &Make) -> Result<(Bytes, Made), AllocError>
+    ensures text { IfOk result (λ r. r.0 ≡ text_of (make_of command.now)) }
+    ensures made { IfOk result (λ r. IsMade (make_of command.now) r.1) }
+{
+    let Generated { image, sum } = generate(alloc, command.number, &command.extent)?;
+    let (counts, cells) = audited(alloc, command, &image)?;
+    let text = volume_text(alloc, command, &image)?;
+    let made = Made {
+        points: command.extent.count(),
+        sum,
+        cells,
+        sides: counts.sides,
+        two: counts.two,
+        lone: counts.lone,
+        border: counts.border,
+    };
+    Ok((text, made))
+}
+
+/// By the numbers of a made volume its contour is closed up to the boundary; it does nothing.
+pub fn made_is_closed(command: &Make, made: &Made)
+    requires { IsMade (make_of command.now) made.now }
+    ensures { IsClosed made.now }
+{
+    contours_are_closed();
+    let _bounds = command.extent.bounds();
+}

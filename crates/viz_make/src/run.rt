@@ -1,0 +1,53 @@
+//! One run of the words `make NUMBER NX NY NZ OUT`.
+
+ghost use Rattle.std.specs.Prelude.{◌≡◌, ◌≢◌, ◌⊎◌};
+ghost use Rattle.viz_base.specs.Faults.{Rose, one_more};
+ghost use Rattle.viz_make.specs.declared.came.Came.{Came as End};
+ghost use Rattle.viz_make.specs.Make.{IsRan};
+ghost use Rattle.viz_make.specs.Promises.{IsDone, IsFault, IsScript};
+ghost use Rattle.viz_make.specs.Told.{IsTold};
+ghost use Rattle.viz_make.specs.Views.{make_of};
+ghost use Rattle.viz_once.specs.Promises.{FirstRose, OthersStay};
+
+use crate::report::report;
+use crate::serving::{Make, serve};
+use std::alloc::Global;
+use viz_base::{Out, Port};
+use viz_once::Status;
+use viz_surface_law::contours_are_closed;
+
+/// Makes the volume of a number, writes it by the first port, and puts its numbers and the audit of
+/// its contour at 128.
+///
+/// The statuses and lines are those of docs/FORMATS.md, "Report".
+pub fn run_make<P: Port, O: Out>(
+    alloc: Global,
+    command: &Make,
+    ports: &mut Vec<P>,
+    out: &mut O,
+) -> Status
+    // What the run was: how it ended, and the text put of it.
+    ensures account { (came : End) × IsRan P.Port (make_of command.now) came ports.old.items
+        ports.new.items × IsTold O.Out came result out.old out.new }
+
+    // What follows of it for each status.
+    ensures script { result ≡ Status.Script → IsScript P.Port O.Out
+        ports.old.items ports.new.items out.old out.new }
+    ensures done { result ≡ Status.Done → IsDone P.Port O.Out (make_of command.now)
+        ports.old.items ports.new.items out.old out.new }
+    ensures fault { result ≡ Status.Fault → IsFault P.Port O.Out (make_of command.now)
+        ports.old.items ports.new.items out.old out.new }
+    ensures cause { result ≡ Status.Fault → FirstRose P.Port ports.old.items ports.new.items
+        ⊎ Rose (O.faults out.old) (O.faults out.new) }
+    ensures usage { result ≢ Status.Usage }
+    ensures refused { result ≢ Status.Refused }
+
+    // What is called and changed, whatever the status.
+    ensures others { OthersStay ports.old.items ports.new.items }
+    ensures one_put { O.puts out.new ≡ one_more (O.puts out.old) }
+{
+    contours_are_closed();
+    let _bounds = command.extent.bounds();
+    let came = serve(alloc, command, ports);
+    report(alloc, out, &came)
+}
