@@ -1,4 +1,5 @@
 pub mod Make
 pub mod Views
+pub mod Size
 pub mod Told
 pub mod Promises

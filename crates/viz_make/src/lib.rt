@@ -11,6 +11,8 @@ mod made;
 mod report;
 mod run;
 mod serving;
+mod size;
 
 pub use run::run_make;
 pub use serving::Make;
+pub use size::volume_extent;

@@ -39,7 +39,7 @@ pub struct Made {
 }
 
 /// The audit of the contour at the middle, and how many triangles it has.
-fn audited(alloc: Global, command: &Make, image: &Image) -> Result<(Counts, u64), AllocError>
+fn audited(alloc: Global, command: &Make<'_>, image: &Image) -> Result<(Counts, u64), AllocError>
     requires { image.now ≡ image_of (make_of command.now) }
     ensures cells { IfOk result (λ r. r.1 ≡ length (contour_of (make_of command.now))) }
     ensures sides { IfOk result (λ r. r.0.sides ≡ count_sides (contour_of (make_of command.now))) }
@@ -61,7 +61,7 @@ fn audited(alloc: Global, command: &Make, image: &Image) -> Result<(Counts, u64)
 }
 
 /// The text of a volume.
-fn volume_text(alloc: Global, command: &Make, image: &Image) -> Result<Bytes, AllocError>
+fn volume_text(alloc: Global, command: &Make<'_>, image: &Image) -> Result<Bytes, AllocError>
     requires { image.now ≡ image_of (make_of command.now) }
     ensures { IfOk result (λ text. text ≡ text_of (make_of command.now)) }
 {
@@ -75,7 +75,7 @@ fn volume_text(alloc: Global, command: &Make, image: &Image) -> Result<Bytes, Al
 }
 
 /// The text and the numbers of the volume that a command names.
-pub fn made_of(alloc: Global, command: &Make) -> Result<(Bytes, Made), AllocError>
+pub fn made_of(alloc: Global, command: &Make<'_>) -> Result<(Bytes, Made), AllocError>
     ensures text { IfOk result (λ r. r.0 ≡ text_of (make_of command.now)) }
     ensures made { IfOk result (λ r. IsMade (make_of command.now) r.1) }
 {
@@ -95,7 +95,7 @@ pub fn made_of(alloc: Global, command: &Make) -> Result<(Bytes, Made), AllocErro
 }
 
 /// By the numbers of a made volume its contour is closed up to the boundary; it does nothing.
-pub fn made_is_closed(command: &Make, made: &Made)
+pub fn made_is_closed(command: &Make<'_>, made: &Made)
     requires { IsMade (make_of command.now) made.now }
     ensures { IsClosed made.now }
 {

@@ -22,7 +22,7 @@ use viz_surface_law::contours_are_closed;
 /// The statuses and lines are those of docs/FORMATS.md, "Report".
 pub fn run_make<P: Port, O: Out>(
     alloc: Global,
-    command: &Make,
+    command: &Make<'_>,
     ports: &mut Vec<P>,
     out: &mut O,
 ) -> Status

@@ -8,29 +8,29 @@ ghost use Rattle.viz_make.specs.Views.{make_of};
 use crate::came::Came;
 use crate::made::made_of;
 use std::alloc::Global;
-use viz_base::{Port, Word, WriteRefusal};
+use viz_base::{Port, WriteRefusal};
 use viz_extent::Extent;
 
 /// The words of the command.
 #[derive(Clone, Copy, Debug)]
-pub struct Make {
+pub struct Make<'a> {
     /// The number that the volume is made of.
     pub number: u32,
     /// The extent of the volume.
     pub extent: Extent,
     /// The name of its file.
-    pub output: Word,
+    pub output: &'a str,
 }
 
 /// Makes the volume, audits its contour, and writes the volume with one call.
-fn serve_port<P: Port>(alloc: Global, command: &Make, port: &mut P) -> Came
+fn serve_port<P: Port>(alloc: Global, command: &Make<'_>, port: &mut P) -> Came
     ensures { (answer : Option WriteAnswer) × EndsIn (make_of command.now) answer result
         × IsAnswered P.Port (make_of command.now) answer port.old port.new }
 {
     let Ok((text, made)) = made_of(alloc, command) else {
         return Came::Memory;
     };
-    match port.write(alloc, command.output.as_str(), text.list()) {
+    match port.write(alloc, command.output, text.list()) {
         Ok(()) => Came::Written(made),
         Err(WriteRefusal::Failed) => Came::Unwritten,
         Err(WriteRefusal::Memory) => Came::Memory,
@@ -38,7 +38,7 @@ fn serve_port<P: Port>(alloc: Global, command: &Make, port: &mut P) -> Came
 }
 
 /// The same by the first port.
-fn serve_over<P: Port>(alloc: Global, command: &Make, ports: &mut [P]) -> Came
+fn serve_over<P: Port>(alloc: Global, command: &Make<'_>, ports: &mut [P]) -> Came
     ensures { IsRan P.Port (make_of command.now) result ports.old ports.new }
 {
     match ports {
@@ -48,7 +48,7 @@ fn serve_over<P: Port>(alloc: Global, command: &Make, ports: &mut [P]) -> Came
 }
 
 /// The same over the list of ports.
-pub fn serve<P: Port>(alloc: Global, command: &Make, ports: &mut Vec<P>) -> Came
+pub fn serve<P: Port>(alloc: Global, command: &Make<'_>, ports: &mut Vec<P>) -> Came
     ensures { IsRan P.Port (make_of command.now) result ports.old.items ports.new.items }
 {
     serve_over(alloc, command, ports.as_mut_slice())

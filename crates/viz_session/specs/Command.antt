@@ -1,4 +1,4 @@
--- The words of commands that use the desk (docs/FORMATS.md, "Words of a command").
+-- The words of commands on scripts, journals and volumes (docs/FORMATS.md, "Words of a command").
 use Rattle.std.specs.Prelude.{◌≡◌, ℕ, List, [], ◌∷◌, codes, Option, None, Some, Result, Ok, Err, option_map, option_and_then, if◌then◌else◌}
 use Rattle.std.specs.Str.{bytes_eq}
 use Rattle.viz_once.specs.Command.{file_name_of}
@@ -6,12 +6,15 @@ use Rattle.viz_once.specs.Command as once
 use Rattle.viz_words.specs.declared.refusal.ScriptRefusal.{ScriptRefusal}
 use Rattle.viz_words.specs.Names.{named_in, is_node_name, is_file_name}
 use Rattle.viz_words.specs.Numbers.{natural_in}
+use Rattle.viz_make.specs.Make.{Make as Making}
+use Rattle.viz_make.specs.Size.{volume_extent}
 use Rattle.viz_replay.specs.Replay.{Replay}
 
--- a command that uses the desk: a script with the name of its journal, or the prefix of a journal
+-- a command on more than one file: a script with the name of its journal; the prefix of a journal; or a volume to be made
 pub data Command : Type 0 where
   Script : List ℕ → List ℕ → Command
   Scratch : Replay → Command
+  Make : Making → Command
 
 -- what was read, where it was
 abbrev pub given : {X : Type 0} → Result X ScriptRefusal → Option X
@@ -34,10 +37,24 @@ scratch_of (journal ∷ count ∷ sink ∷ output ∷ []) =
     (file_name_of journal)
 scratch_of words = None
 
--- the command that all words are, where it uses the desk
+-- a size of a volume along an axis, before the product of all three is known
+abbrev pub size_in : List ℕ → Option ℕ
+size_in word = given (natural_in 1 262144 word)
+
+-- NUMBER NX NY NZ OUT
+unfoldable pub make_of : List (List ℕ) → Option Command
+make_of (number ∷ x ∷ y ∷ z ∷ output ∷ []) = option_and_then (λ n. option_and_then (λ a. option_and_then (λ b. option_and_then (λ c.
+    option_and_then (λ e. option_map (λ o. Make (record { number = n; extent = e; output = o }))
+    (file_name_of output)) (volume_extent a b c)) (size_in z)) (size_in y)) (size_in x)) (given (natural_in 0 2147483647 number))
+make_of words = None
+
+-- the command that all words are, where they aren't of one file
 unfoldable pub command_of : List (List ℕ) → Option Command
 command_of [] = None
-command_of (verb ∷ words) = if bytes_eq verb (codes "run") then script_of words else (if bytes_eq verb (codes "scratch") then scratch_of words else None)
+command_of (verb ∷ words) =
+    if bytes_eq verb (codes "run") then script_of words
+    else if bytes_eq verb (codes "scratch") then scratch_of words
+    else if bytes_eq verb (codes "make") then make_of words else None
 
 -- the words are no command at all
 abbrev pub AreNone : List (List ℕ) → Type 0

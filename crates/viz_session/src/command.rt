@@ -1,21 +1,24 @@
-//! Commands that use the desk, read from their words (docs/FORMATS.md, "Words of a command").
+//! Commands on scripts, journals and volumes, read from their words (docs/FORMATS.md, "Words of a command").
 
 ghost use Rattle.std.specs.Prelude.{◌≡◌, option_map};
-ghost use Rattle.viz_session.specs.Command.{script_of, scratch_of, command_of};
+ghost use Rattle.viz_session.specs.Command.{script_of, scratch_of, size_in, make_of, command_of};
 ghost use Rattle.viz_session.specs.Runs.{command_view};
 
 use viz_base::Bytes;
+use viz_make::{Make, volume_extent};
 use viz_once::file_name;
 use viz_replay::Replay;
 use viz_words::{file_name as output_name, natural, node_name};
 
-/// A command that uses the desk.
+/// A command that isn't of one file.
 #[derive(Clone, Copy, Debug)]
 pub enum Command<'a> {
     /// The words `run SCRIPT JOURNAL`.
     Script { script: &'a str, journal: &'a str },
     /// The words `scratch JOURNAL N SINK OUT`.
     Scratch(Replay<'a>),
+    /// The words `make NUMBER NX NY NZ OUT`.
+    Make(Make<'a>),
 }
 
 #[tactic(auto, unfolding(crate::specs::Command::script_of))]
@@ -49,7 +52,34 @@ fn scratch(words: &[Bytes]) -> Option<Command<'_>>
     }))
 }
 
-/// The command that all words are, where it uses the desk.
+/// A size along an axis.
+fn size(word: &[u8]) -> Option<u32>
+    ensures { result ≡ size_in word.now }
+{
+    natural(word, 1, 262_144).ok()
+}
+
+#[tactic(auto, unfolding(crate::specs::Command::make_of))]
+fn make(words: &[Bytes]) -> Option<Command<'_>>
+    ensures { option_map command_view result ≡ make_of words.now }
+{
+    let [number, x, y, z, output] = words else {
+        return None;
+    };
+    let number = natural(number.list(), 0, 2_147_483_647).ok()?;
+    let x = size(x.list())?;
+    let y = size(y.list())?;
+    let z = size(z.list())?;
+    let extent = volume_extent(x, y, z)?;
+    let output = file_name(output.list())?;
+    Some(Command::Make(Make {
+        number,
+        extent,
+        output,
+    }))
+}
+
+/// The command that all words are, where they aren't of one file.
 #[tactic(auto, unfolding(crate::specs::Command::command_of))]
 pub fn read_command(words: &[Bytes]) -> Option<Command<'_>>
     ensures { option_map command_view result ≡ command_of words.now }
@@ -62,6 +92,9 @@ pub fn read_command(words: &[Bytes]) -> Option<Command<'_>>
     }
     if verb.list() == b"scratch".as_slice() {
         return scratch(rest);
+    }
+    if verb.list() == b"make".as_slice() {
+        return make(rest);
     }
     None
 }

@@ -13,6 +13,7 @@ use std::alloc::Global;
 use std::sync::Wait;
 use std::thread::Threads;
 use viz_base::{Bytes, Gate, Out, Port};
+use viz_make::run_make;
 use viz_once::{Status, run_once};
 use viz_replay::run_scratch;
 use viz_script_run::run_script;
@@ -63,6 +64,7 @@ pub fn run<R: Threads + Wait + Sync, P: Port + Send + Drop, O: Out, G: Gate + Sy
             run_script(alloc, script, journal, desk, ports, out)
         }
         Some(Command::Scratch(replay)) => run_scratch(alloc, &replay, desk, ports, out),
+        Some(Command::Make(make)) => run_make(alloc, &make, ports, out),
         None => run_once(alloc, words, ports, out),
     }
 }

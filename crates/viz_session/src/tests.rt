@@ -249,3 +249,31 @@ fn other_words_are_usage(rt: HostRuntime) -> Result<(), Fail> {
     }
     Ok(())
 }
+
+#[test]
+fn a_volume_is_made_and_audited(rt: HostRuntime) -> Result<(), Fail> {
+    // generated-volume, and one whose contour was counted by another program
+    let alloc = rt.alloc();
+    for (line, status, want) in [
+        (
+            "make 7 2 2 1 v.vtk",
+            Status::Done,
+            "made points 4 sum 448\naudit cells 0 sides 0 two 0 open 0 border 0\n",
+        ),
+        (
+            "make -0 2 02 2 v.vtk",
+            Status::Done,
+            "made points 8 sum 728\naudit cells 6 sides 14 two 4 open 10 border 10\n",
+        ),
+        ("make 7 2 0 2 v.vtk", Status::Usage, "vizrun: usage\n"),
+        ("make 7 64 64 65 v.vtk", Status::Usage, "vizrun: usage\n"),
+    ] {
+        let first = corner(alloc, Vec::new(alloc))?;
+        let left = run_over(&rt, alloc, line, b"", first)?;
+        assert_eq!(rt; left.text.as_str(), want, "{line}");
+        assert!(rt; left.status == status, "{line}");
+        let is_made = status == Status::Done;
+        assert_eq!(rt; file(&left.ports, "v.vtk").is_some(), is_made, "{line}");
+    }
+    Ok(())
+}

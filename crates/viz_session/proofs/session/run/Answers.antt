@@ -20,3 +20,9 @@ returns-in-Some-Scratch-clause-cause g c = λ is. elim (c.run_scratch.ensures.ca
     | inr put ↦ inr (inr put)
   ]
 ]
+
+pub returns-in-Some-Make-clause-cause : goal.returns-in-Some-Make-clause-cause
+returns-in-Some-Make-clause-cause g c = λ is. elim (c.run_make.ensures.cause is) [
+  | inl first ↦ inr (inl (some_of_first g.P.Port c.args.ports.now.items c.run_make.new.ports.items first))
+  | inr put ↦ inr (inr put)
+]
