@@ -1,0 +1,5 @@
+mod GivenLemmas
+mod ContourLemmas
+mod AuditLemmas
+mod StepLemmas
+mod GroundLemmas
