@@ -51,5 +51,5 @@ scratch_fed node n own others d s = told s.0 s.1 s.2
     told (Err fault) given behind = let bad : ⊥ = cc in absurd bad
     told (Ok i) given behind =
         let known = first_fed InformationRule node n own others i given in
-        let data = first_fed DataRule node n own others d behind in
-        (data.first, data.rest, (Ok known.first, known.given, data.given), data.made)
+        let made = first_fed DataRule node n own others d behind in
+        (made.first, made.rest, (Ok known.first, known.given, made.given), made.made)

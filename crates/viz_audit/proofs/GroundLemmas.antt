@@ -1,26 +1,22 @@
 -- What feeds the first port of a node, by its inputs.
-use Rattle.std.proofs.Common.{◌≡◌, ℕ, List, [], ◌∷◌, Option, None, Some, Result, Ok, Err, refl, sym, ap, subst, ◌∙◌}
+use Rattle.std.proofs.Common.{◌≡◌, ℕ, true, List, slice_index_or, [], ◌∷◌, Option, None, Some, Result, Ok, Err, refl, sym, ap, subst, ◌∙◌}
 use Rattle.viz_base.specs.declared.node.NodeId.{NodeId}
 use Rattle.viz_extent.specs.Extent.{Bounds}
 use Rattle.viz_dataset.specs.Images.{ImageData, IsImage}
 use Rattle.viz_dataset.specs.declared.dataset.Dataset.{Dataset}
 use Rattle.viz_dataset.specs.declared.dataset.Dataset.TheVariants.{Image, Mesh}
+use Rattle.viz_sheet.specs.Sheet.{SheetData}
 use Rattle.viz_network.specs.declared.node.Node.{Node}
 use Rattle.viz_network.specs.declared.fault.Fault.{Fault}
 use Rattle.viz_network.specs.declared.steps.Step.{Step}
-use Rattle.viz_network.specs.Network.{Network, node_of}
+use Rattle.viz_network.specs.Network.{Network, node_of, input_of}
 use Rattle.viz_network.specs.Cone.{Cone, Tree, none, empty, fed, port, grow, above, cone_of}
 use Rattle.viz_network.specs.Step.{nodes_of, IsStepOf, AreSteps}
 use Rattle.viz_scratch.specs.Scratch.{IsScratchOf, IsScratch}
 use Rattle.viz_scratch.specs.Laws.{ConesGiveOne}
 use Rattle.viz_audit.specs.Audited.{is_contour, IsFedFirst, StandsOn}
-use Rattle.viz_audit.specs.Steps.Ground.{IsGround}
+use Rattle.viz_audit.specs.Steps.Ground.{GivesImage, IsGround}
 use Rattle.viz_audit.proofs.StepLemmas.{step_there}
-
--- the first of inputs
-abbrev pub first_input : List (Option NodeId) → Option NodeId
-first_input [] = None
-first_input (o ∷ os) = o
 
 -- what feeds a port gives a dataset
 fed_port : (o : Option Tree) (others : Cone) (d : Dataset) → IsScratchOf o (Ok d) → IsFedFirst (port o others) d
@@ -31,7 +27,7 @@ port_fed : (o : Option Tree) (others : Cone) (d : Dataset) → IsFedFirst (port 
 port_fed None others d p = absurd p
 port_fed (Some t) others d p = p
 
-inputs_fed : (net : Network) (inputs : List (Option NodeId)) (from : NodeId) (d : Dataset) → first_input inputs ≡ Some from → IsScratch net from.0 (Ok d)
+inputs_fed : (net : Network) (inputs : List (Option NodeId)) (from : NodeId) (d : Dataset) → slice_index_or inputs 0 None ≡ Some from → IsScratch net from.0 (Ok d)
     → IsFedFirst (grow (cone_of net) inputs) d
 inputs_fed net [] from d is s = let bad : ⊥ = cc in absurd bad
 inputs_fed net (None ∷ inputs) from d is s = let bad : ⊥ = cc in absurd bad
@@ -40,7 +36,7 @@ inputs_fed net (Some id ∷ inputs) from d is s =
     fed_port (cone_of net id.0) (grow (cone_of net) inputs) d (subst (λ i. IsScratch net i.0 (Ok d)) e s)
 
 fed_inputs : (net : Network) (inputs : List (Option NodeId)) (d : Dataset) → IsFedFirst (grow (cone_of net) inputs) d
-    → (from : NodeId) × (first_input inputs ≡ Some from) × IsScratch net from.0 (Ok d)
+    → (from : NodeId) × (slice_index_or inputs 0 None ≡ Some from) × IsScratch net from.0 (Ok d)
 fed_inputs net [] d p = absurd p
 fed_inputs net (None ∷ inputs) d p = absurd p
 fed_inputs net (Some id ∷ inputs) d p = (id, refl, port_fed (cone_of net id.0) (grow (cone_of net) inputs) d p)
@@ -61,14 +57,26 @@ module _ (net : Network) (steps : List Step) (id : NodeId) (node : Node) (all : 
   cone : cone_of net id.0 ≡ Some (node, grow (cone_of net) node.inputs)
   cone = cone_there net steps id node all there
 
-  -- a contour whose first input gives an image stands on it
-  pub stands : (from : NodeId) (image : ImageData) → is_contour node.settings ≡ true → first_input node.inputs ≡ Some from → IsScratch net from.0 (Ok (Image image))
-      → StandsOn (cone_of net id.0) image
-  stands from image is first given = subst (λ o. StandsOn o image) (sym cone) (is, inputs_fed net node.inputs from (Image image) first given)
+  -- a contour stands on the image that its first input gives
+  pub ground_from : (from : NodeId) (r : Option Bounds) → is_contour node.settings ≡ true → input_of node 1 ≡ Some from → GivesImage net from.0 r → IsGround net id.0 r
+  ground_from from (Some whole) is first g =
+      let image = g.0 in
+      let stands = subst (λ o. StandsOn o image) (sym cone) (is, inputs_fed net node.inputs from (Image image) first g.2) in
+      (image, g.1, stands, g.3)
+  ground_from from None is first g = λ image stands.
+      let here = subst (λ o. StandsOn o image) cone stands in
+      let fed = fed_inputs net node.inputs (Image image) here.1 in
+      let same : fed.0 ≡ from = (let one = sym fed.1 ∙ first in let e : fed.0 ≡ from = cc in e) in
+      g image (subst (λ (i : NodeId). IsScratch net i.0 (Ok (Image image))) same fed.2)
 
-  -- what a node that stands on an image has
-  pub stood : (image : ImageData) → StandsOn (cone_of net id.0) image
-      → (is_contour node.settings ≡ true) × (from : NodeId) × (first_input node.inputs ≡ Some from) × IsScratch net from.0 (Ok (Image image))
-  stood image s =
-      let here = subst (λ o. StandsOn o image) cone s in
-      (here.0, fed_inputs net node.inputs (Image image) here.1)
+-- what a node gives is one
+module _ (cones : ConesGiveOne) where
+  pub gives_mesh : (net : Network) (id : ℕ) (sheets : List SheetData) → IsScratch net id (Ok (Mesh sheets)) → GivesImage net id None
+  gives_mesh net id sheets given image other =
+      let same = cones (cone_of net id) (Ok (Mesh sheets)) (Ok (Image image)) given other in
+      let bad : ⊥ = cc in bad
+
+  pub gives_fault : (net : Network) (id : ℕ) (f : Fault) → IsScratch net id (Err f) → GivesImage net id None
+  gives_fault net id f given image other =
+      let same = cones (cone_of net id) (Err f) (Ok (Image image)) given other in
+      let bad : ⊥ = cc in bad

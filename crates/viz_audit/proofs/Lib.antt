@@ -3,3 +3,4 @@ mod ContourLemmas
 mod AuditLemmas
 mod StepLemmas
 mod GroundLemmas
+mod SumLemmas

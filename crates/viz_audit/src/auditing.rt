@@ -1,9 +1,10 @@
 //! The audit of a node.
 
-ghost use Rattle.std.specs.Prelude.{IsSome};
+ghost use Rattle.std.specs.Prelude.{◌≡◌, IsSome};
 ghost use Rattle.viz_network.specs.Network.{node_of};
 ghost use Rattle.viz_scratch.specs.Scratch.{Answers};
 ghost use Rattle.viz_audit.specs.Audited.{IsAuditOf};
+ghost use Rattle.viz_audit.specs.Steps.Ground.{no_surface};
 
 use crate::ground::ground;
 use crate::sums::audit_all;
@@ -13,6 +14,16 @@ use viz_dataset::Dataset;
 use viz_network::{Cause, Fault, Net, Stop};
 use viz_scratch::{scratch, scratch_is_one};
 use viz_surface_law::{Counts, contours_are_closed};
+
+// The fault of a node that is no contour on an image.
+fn no_surface(node: NodeId) -> Stop
+    ensures { result ≡ no_surface node }
+{
+    Stop::Fault(Fault {
+        node,
+        cause: Cause::WrongInput(1),
+    })
+}
 
 /// Counts the sides of the surface of a node, evaluated from scratch: of all its sheets together.
 /// What the node stands on is evaluated before it, to know the extent.
@@ -29,12 +40,12 @@ pub fn audit_of(alloc: Global, net: &Net, node: NodeId) -> Result<Counts, Stop>
     contours_are_closed();
     let whole = ground(alloc, net, node)?;
     let dataset = scratch(alloc, net, node)?;
-    if let (Some(whole), Dataset::Mesh(mesh)) = (whole, dataset.get()) {
-        Ok(audit_all(alloc, mesh.sheets(), &whole)?)
-    } else {
-        Err(Stop::Fault(Fault {
-            node,
-            cause: Cause::WrongInput(1),
-        }))
-    }
+    let Some(whole) = whole else {
+        return Err(no_surface(node));
+    };
+    let Dataset::Mesh(mesh) = dataset.get() else {
+        return Err(no_surface(node));
+    };
+    let counts = audit_all(alloc, mesh.sheets(), &whole)?;
+    Ok(counts)
 }

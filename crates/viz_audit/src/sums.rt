@@ -1,6 +1,6 @@
 //! The counts of all sheets.
 
-ghost use Rattle.std.specs.Prelude.{All, IfOk};
+ghost use Rattle.std.specs.Prelude.{◌≡◌, ◌+◌, All, IfOk};
 ghost use Rattle.viz_surface_law.specs.Surfaces.{IsSurface};
 ghost use Rattle.viz_audit.specs.Audited.{AreSums};
 ghost use Rattle.viz_audit.specs.Steps.Ground.{IsAdded};
