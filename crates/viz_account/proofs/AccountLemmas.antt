@@ -13,7 +13,7 @@ use Rattle.viz_script.specs.Orders.{Asked, edit, load, update, audit}
 use Rattle.viz_report.specs.declared.line.Line.{Line}
 use Rattle.viz_report.specs.declared.line.Line.TheVariants as line
 use Rattle.viz_report.specs.declared.line.Reason.TheVariants as reason
-use Rattle.viz_account.specs.Lines.{network_at, TellsEdit, TellsLoad, TellsUpdate, Tells}
+use Rattle.viz_account.specs.Lines.{network_at, TellsEdit, TellsLoad, TellsUpdate, TellsAudit, Tells}
 use Rattle.viz_account.specs.Account.{edited, least, AreTold, places, faults_told, RoseBy}
 use Rattle.viz_account.specs.Served.{Serves, ServesAll}
 
@@ -41,6 +41,7 @@ edit_more limit h more ps n e (line.Refused reason.TooLong at) b t = absurd t
 edit_more limit h more ps n e (line.Refused reason.Unknown at) b t = absurd t
 edit_more limit h more ps n e (line.Refused (reason.Fault f node) at) b t = absurd t
 edit_more limit h more ps n e (line.File at cells points ran) b t = absurd t
+edit_more limit h more ps n e (line.Audit at sides two lone border) b t = absurd t
 edit_more limit h more ps n e line.ReadFault b t = absurd t
 edit_more limit h more ps n e line.WriteFault b t = absurd t
 
@@ -55,6 +56,7 @@ load_more limit h more ps n node file (line.Refused reason.Full at) calls b t = 
 load_more limit h more ps n node file (line.Refused reason.Unknown at) calls b t = absurd t.1
 load_more limit h more ps n node file (line.Refused (reason.Fault f name) at) calls b t = absurd t.1
 load_more limit h more ps n node file (line.File at cells points ran) calls b t = absurd t.1
+load_more limit h more ps n node file (line.Audit at sides two lone border) calls b t = absurd t.1
 load_more limit h more ps n node file line.WriteFault calls b t = absurd t.1
 
 tells_more : (limit : ℕ) (h more : List Entry) (ps : List ℕ) (n : ℕ) (o : Asked) (l : Line) (calls : List Call) → n ≤ length h
@@ -62,7 +64,7 @@ tells_more : (limit : ℕ) (h more : List Entry) (ps : List ℕ) (n : ℕ) (o : 
 tells_more limit h more ps n (edit e) l calls b t = (edit_more limit h more ps n e l b t.0, t.1)
 tells_more limit h more ps n (load node file) l calls b t = load_more limit h more ps n node file l calls b t
 tells_more limit h more ps n (update node file pieces workers) l calls b t = subst (λ g. TellsUpdate g n node file l calls) (network_more h more n b) t
-tells_more limit h more ps n (audit node pieces workers) l calls b t = t
+tells_more limit h more ps n (audit node pieces workers) l calls b t = (subst (λ g. TellsAudit g n node l) (network_more h more n b) t.0, t.1)
 
 -- an account holds of each longer history
 pub told_longer : (limit : ℕ) (h more : List Entry) (ps : List ℕ) (low : ℕ) (os : List Asked) (ls : List Line) (calls : List Call) (last : ℕ)
@@ -78,6 +80,7 @@ told_longer limit h more ps low (o ∷ os) (l ∷ ls) calls last t =
 least_up : (low mid n : ℕ) (l : Line) → low ≤ mid → least mid l ≤ n → least low l ≤ n
 least_up low mid n (line.Edit at) a b = omega (arith, a, b)
 least_up low mid n (line.File at cells points ran) a b = omega (arith, a, b)
+least_up low mid n (line.Audit at sides two lone border) a b = omega (arith, a, b)
 least_up low mid n (line.Refused r at) a b = omega (arith, a, b)
 least_up low mid n line.ReadFault a b = omega (arith, a, b)
 least_up low mid n line.WriteFault a b = omega (arith, a, b)
@@ -104,6 +107,7 @@ faults_append (line.ReadFault ∷ ls) ms = ap (λ n. n + 1) (faults_append ls ms
 faults_append (line.WriteFault ∷ ls) ms = ap (λ n. n + 1) (faults_append ls ms) ∙ (let s : (faults_told ls + faults_told ms) + 1 ≡ (faults_told ls + 1) + faults_told ms = omega arith in s)
 faults_append (line.Edit at ∷ ls) ms = faults_append ls ms
 faults_append (line.File at cells points ran ∷ ls) ms = faults_append ls ms
+faults_append (line.Audit at sides two lone border ∷ ls) ms = faults_append ls ms
 faults_append (line.Refused r at ∷ ls) ms = faults_append ls ms
 faults_append (line.Memory ∷ ls) ms = faults_append ls ms
 

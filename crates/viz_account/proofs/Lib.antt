@@ -7,3 +7,4 @@ mod CountLemmas
 mod ScriptLemmas
 mod OnceLemmas
 mod NumberLemmas
+mod AuditLemmas

@@ -53,12 +53,14 @@ stopped_told net n node x (stop.Fault f) (line.Refused reason.TooLong at) there 
 stopped_told net n node x (stop.Fault f) (line.Refused reason.Unknown at) there made t = absurd t
 stopped_told net n node x (stop.Fault f) (line.Edit at) there made t = absurd t
 stopped_told net n node x (stop.Fault f) (line.File at cells points ran) there made t = absurd t
+stopped_told net n node x (stop.Fault f) (line.Audit at sides two lone border) there made t = absurd t
 stopped_told net n node x (stop.Fault f) line.ReadFault there made t = absurd t
 stopped_told net n node x (stop.Fault f) line.WriteFault there made t = absurd t
 stopped_told net n node x stop.Memory line.Memory there made t = tt
 stopped_told net n node x stop.Memory (line.Refused r at) there made t = absurd t
 stopped_told net n node x stop.Memory (line.Edit at) there made t = absurd t
 stopped_told net n node x stop.Memory (line.File at cells points ran) there made t = absurd t
+stopped_told net n node x stop.Memory (line.Audit at sides two lone border) there made t = absurd t
 stopped_told net n node x stop.Memory line.ReadFault there made t = absurd t
 stopped_told net n node x stop.Memory line.WriteFault there made t = absurd t
 
@@ -72,5 +74,6 @@ stopped_update net n node file (line.Refused reason.Full at) t = absurd t
 stopped_update net n node file (line.Refused reason.TooLong at) t = absurd t
 stopped_update net n node file (line.Edit at) t = absurd t
 stopped_update net n node file (line.File at cells points ran) t = absurd t
+stopped_update net n node file (line.Audit at sides two lone border) t = absurd t
 stopped_update net n node file line.ReadFault t = absurd t
 stopped_update net n node file line.WriteFault t = absurd t

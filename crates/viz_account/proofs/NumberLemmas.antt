@@ -3,6 +3,7 @@ use Rattle.std.proofs.Common.{◌≡◌, ℕ, zero, suc, ◌+◌, ◌≤◌, Boo
 use Rattle.viz_base.specs.declared.call.Call.{Call}
 use Rattle.viz_base.specs.declared.port.Port as port
 use Rattle.viz_network.specs.declared.edit.Edit.{Edit}
+use Rattle.viz_network.specs.Network.{Network}
 use Rattle.viz_turn.specs.Tales.{has, entries_of}
 use Rattle.viz_core.specs.declared.entry.Entry.{Entry}
 use Rattle.viz_core.specs.History.{by_of, own_of}
@@ -10,7 +11,7 @@ use Rattle.viz_script.specs.Orders.{Asked, edit, load, update, audit}
 use Rattle.viz_report.specs.declared.line.Line.{Line}
 use Rattle.viz_report.specs.declared.line.Line.TheVariants as line
 use Rattle.viz_report.specs.declared.line.Reason.TheVariants as reason
-use Rattle.viz_account.specs.Lines.{TellsEdit, TellsLoad, Tells}
+use Rattle.viz_account.specs.Lines.{network_at, TellsEdit, TellsLoad, TellsAudit, Tells}
 use Rattle.viz_account.specs.Account.{edited, AreTold, places_from}
 use Rattle.viz_account.specs.Served.{ServesAll}
 use Rattle.viz_account.specs.Laws.{Shows, CountEdits}
@@ -27,6 +28,7 @@ edit_shows limit h ps n e (line.Refused reason.TooLong at) t = absurd t
 edit_shows limit h ps n e (line.Refused reason.Unknown at) t = absurd t
 edit_shows limit h ps n e (line.Refused (reason.Fault f node) at) t = absurd t
 edit_shows limit h ps n e (line.File at cells points ran) t = absurd t
+edit_shows limit h ps n e (line.Audit at sides two lone border) t = absurd t
 edit_shows limit h ps n e line.ReadFault t = tt
 edit_shows limit h ps n e line.WriteFault t = tt
 edit_shows limit h ps n e line.Memory t = tt
@@ -39,12 +41,14 @@ load_shows limit h ps n node file (line.Refused reason.Full at) calls t = t.1.0
 load_shows limit h ps n node file (line.Refused reason.Unknown at) calls t = absurd t.1
 load_shows limit h ps n node file (line.Refused (reason.Fault f name) at) calls t = absurd t.1
 load_shows limit h ps n node file (line.File at cells points ran) calls t = absurd t.1
+load_shows limit h ps n node file (line.Audit at sides two lone border) calls t = absurd t.1
 load_shows limit h ps n node file line.ReadFault calls t = tt
 load_shows limit h ps n node file line.WriteFault calls t = tt
 load_shows limit h ps n node file line.Memory calls t = tt
 
 update_shows : (limit : ℕ) (h : List Entry) (ps : List ℕ) (n : ℕ) (node file : List ℕ) (pieces workers : ℕ) (l : Line) (calls : List Call) → Tells limit h ps n (update node file pieces workers) l calls → Shows n l
 update_shows limit h ps n node file pieces workers (line.File at cells points ran) calls t = t.0
+update_shows limit h ps n node file pieces workers (line.Audit at sides two lone border) calls t = absurd t
 update_shows limit h ps n node file pieces workers (line.Refused reason.Unknown at) calls t = t.0
 update_shows limit h ps n node file pieces workers (line.Refused (reason.Fault f name) at) calls t = t.0
 update_shows limit h ps n node file pieces workers (line.Refused (reason.Edit r) at) calls t = absurd t
@@ -55,11 +59,24 @@ update_shows limit h ps n node file pieces workers line.ReadFault calls t = tt
 update_shows limit h ps n node file pieces workers line.WriteFault calls t = tt
 update_shows limit h ps n node file pieces workers line.Memory calls t = tt
 
+audit_shows : (net : Network) (n : ℕ) (node : List ℕ) (l : Line) → TellsAudit net n node l → Shows n l
+audit_shows net n node (line.Audit at sides two lone border) t = t.0
+audit_shows net n node (line.Refused reason.Unknown at) t = t.0
+audit_shows net n node (line.Refused (reason.Fault f name) at) t = t.0
+audit_shows net n node (line.Refused (reason.Edit r) at) t = absurd t
+audit_shows net n node (line.Refused reason.Full at) t = absurd t
+audit_shows net n node (line.Refused reason.TooLong at) t = absurd t
+audit_shows net n node (line.Edit at) t = absurd t
+audit_shows net n node (line.File at cells points ran) t = absurd t
+audit_shows net n node line.ReadFault t = tt
+audit_shows net n node line.WriteFault t = tt
+audit_shows net n node line.Memory t = tt
+
 shows : (limit : ℕ) (h : List Entry) (ps : List ℕ) (n : ℕ) (o : Asked) (l : Line) (calls : List Call) → Tells limit h ps n o l calls → Shows n l
 shows limit h ps n (edit e) l calls t = edit_shows limit h ps n e l t.0
 shows limit h ps n (load node file) l calls t = load_shows limit h ps n node file l calls t
 shows limit h ps n (update node file pieces workers) l calls t = update_shows limit h ps n node file pieces workers l calls t
-shows limit h ps n (audit node pieces workers) l calls t = subst (Shows n) (sym t.0) tt
+shows limit h ps n (audit node pieces workers) l calls t = audit_shows (network_at h n) n node l t.0
 
 -- ---- positions in turn
 
@@ -100,6 +117,7 @@ module _ (limit : ℕ) (h : List Entry) (ps : List ℕ) where
       let s : at ≡ t.0 = shows limit h ps t.0 o (line.Edit at) t.1 t.4 in
       omega (arith, r.2, s, t.5)
   bound low n c (o ∷ os) (line.File at cells points ran ∷ ls) calls last t e whole within = omega (arith, t.5, bound t.0 n c os ls t.2 last t.7 e whole t.6)
+  bound low n c (o ∷ os) (line.Audit at sides two lone border ∷ ls) calls last t e whole within = omega (arith, t.5, bound t.0 n c os ls t.2 last t.7 e whole t.6)
   bound low n c (o ∷ os) (line.Refused r at ∷ ls) calls last t e whole within = omega (arith, t.5, bound t.0 n c os ls t.2 last t.7 e whole t.6)
   bound low n c (o ∷ os) (line.ReadFault ∷ ls) calls last t e whole within = omega (arith, t.5, bound t.0 n c os ls t.2 last t.7 e whole t.6)
   bound low n c (o ∷ os) (line.WriteFault ∷ ls) calls last t e whole within = omega (arith, t.5, bound t.0 n c os ls t.2 last t.7 e whole t.6)
@@ -124,6 +142,8 @@ module _ (limit : ℕ) (h : List Entry) (ps : List ℕ) where
       let same : t.0 ≡ n + 1 = sym s ∙ r.2 in (r.2, counted (n + 1) r.0 os ls t.2 last (subst (λ m. AreTold limit h ps m os ls t.2 last) same t.7) r.3 (omega (arith, whole, r.1)))
   counted n c (o ∷ os) (line.File at cells points ran ∷ ls) calls last t e whole =
       let q = quiet n c o os (line.File at cells points ran) ls calls last t e whole in (q.2, subst (λ k. CountEdits k ls) (let z : n ≡ n + 0 = omega arith in z) (counted n c os ls q.3.0 last (subst (λ k. AreTold limit h ps k os ls q.3.0 last) (let z : n + 0 ≡ n = omega arith in z) q.3.1) e whole))
+  counted n c (o ∷ os) (line.Audit at sides two lone border ∷ ls) calls last t e whole =
+      let q = quiet n c o os (line.Audit at sides two lone border) ls calls last t e whole in (q.2, subst (λ k. CountEdits k ls) (let z : n ≡ n + 0 = omega arith in z) (counted n c os ls q.3.0 last (subst (λ k. AreTold limit h ps k os ls q.3.0 last) (let z : n + 0 ≡ n = omega arith in z) q.3.1) e whole))
   counted n c (o ∷ os) (line.Refused r at ∷ ls) calls last t e whole = let q = quiet n c o os (line.Refused r at) ls calls last t e whole in (q.2, subst (λ k. CountEdits k ls) (let z : n ≡ n + 0 = omega arith in z) (counted n c os ls q.3.0 last (subst (λ k. AreTold limit h ps k os ls q.3.0 last) (let z : n + 0 ≡ n = omega arith in z) q.3.1) e whole))
   counted n c (o ∷ os) (line.ReadFault ∷ ls) calls last t e whole = let q = quiet n c o os line.ReadFault ls calls last t e whole in (q.2, subst (λ k. CountEdits k ls) (let z : n ≡ n + 0 = omega arith in z) (counted n c os ls q.3.0 last (subst (λ k. AreTold limit h ps k os ls q.3.0 last) (let z : n + 0 ≡ n = omega arith in z) q.3.1) e whole))
   counted n c (o ∷ os) (line.WriteFault ∷ ls) calls last t e whole = let q = quiet n c o os line.WriteFault ls calls last t e whole in (q.2, subst (λ k. CountEdits k ls) (let z : n ≡ n + 0 = omega arith in z) (counted n c os ls q.3.0 last (subst (λ k. AreTold limit h ps k os ls q.3.0 last) (let z : n + 0 ≡ n = omega arith in z) q.3.1) e whole))

@@ -14,6 +14,7 @@ use Rattle.viz_account.specs.Served.{ServesAll}
 pub least_low : (low n : ℕ) (l : Line) → least low l ≤ n → low ≤ n
 least_low low n (line.Edit at) a = omega (arith, a)
 least_low low n (line.File at cells points ran) a = a
+least_low low n (line.Audit at sides two lone border) a = a
 least_low low n (line.Refused r at) a = a
 least_low low n line.ReadFault a = a
 least_low low n line.WriteFault a = a

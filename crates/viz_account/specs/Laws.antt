@@ -1,5 +1,5 @@
 -- What follows for accounts (docs/DEFINITIONS.md, "The account of a script").
-use Rattle.std.specs.Prelude.{◌≡◌, ℕ, ◌+◌, ◌<◌, ◌≤◌, nat_eq, if◌then◌else◌, List, [], ◌∷◌, ◌++◌, length, flat_map}
+use Rattle.std.specs.Prelude.{◌≡◌, ℕ, ◌+◌, ◌<◌, ◌≤◌, nat_eq, if◌then◌else◌, List, [], ◌∷◌, ◌++◌, length, flat_map, All}
 use Rattle.viz_base.specs.declared.call.Call.{Call}
 use Rattle.viz_base.specs.declared.port.Port as port
 use Rattle.viz_core.specs.declared.entry.Entry.{Entry}
@@ -41,6 +41,7 @@ EntriesAreToldOnce {P} m = (limit : ℕ) (script : List (List (List Asked))) (h 
 abbrev pub Shows : ℕ → Line → Type 0
 Shows n (line.Edit at) = at ≡ n
 Shows n (line.File at cells points ran) = at ≡ n
+Shows n (line.Audit at sides two lone border) = at ≡ n
 Shows n (line.Refused reason at) = at ≡ n
 Shows n l = Unit {0}
 
@@ -53,3 +54,14 @@ CountEdits n (l ∷ ls) = Shows (n + length (edited l)) l × CountEdits (n + len
 abbrev pub LinesCountEdits : {P : Type 0} → port.Ghosts P → Type 0
 LinesCountEdits {P} m = (limit pass : ℕ) (h : List Entry) (os : List Asked) (ls : List Line) (p q : P) → own_of pass h ≡ h
     → ServesAll m limit pass os ls [] h p q → CountEdits 0 ls
+
+-- what an audit's line tells is closed up to the boundary: each side lies in two triangles or in one, and in one only on the boundary
+abbrev pub IsClosedLine : Line → Type 0
+IsClosedLine (line.Audit at sides two lone border) = (sides ≡ two + lone) × (lone ≡ border)
+IsClosedLine l = Unit {0}
+
+-- so it is in the lines of each account
+abbrev pub AuditLinesAreClosed : {P : Type 0} → port.Ghosts P → Type 0
+AuditLinesAreClosed {P} m = (limit : ℕ) (script : List (List (List Asked))) (h : List Entry) (lines : List (List (List Line)))
+    (before after : List P) → IsAccountOf m limit script h lines before after
+    → All IsClosedLine (flat_map (λ actor. flat_map (λ ls. ls) actor) lines)

@@ -14,6 +14,7 @@ use Rattle.viz_core.specs.declared.entry.Entry.{Entry}
 use Rattle.viz_core.specs.History.{network_of}
 use Rattle.viz_script.specs.Orders.{Asked, edit, load, update, audit}
 use Rattle.viz_scratch.specs.Written.{IsFileOf}
+use Rattle.viz_audit.specs.Audited.{IsAuditOf}
 use Rattle.viz_report.specs.declared.line.Line.{Line}
 use Rattle.viz_report.specs.declared.line.Line.TheVariants as line
 use Rattle.viz_report.specs.declared.line.Reason.TheVariants as reason
@@ -69,9 +70,20 @@ TellsUpdate net n node file line.WriteFault calls =
 TellsUpdate net n node file line.Memory calls = calls ≡ []
 TellsUpdate net n node file l calls = ⊥
 
--- a line of number n, of a command by one of these passes, and the calls of that command; audits aren't served yet
+-- an audit on the network of the first n entries: the counts of its node; or its node is unknown; or has a fault in their place
+abbrev pub TellsAudit : Network → ℕ → List ℕ → Line → Type 0
+TellsAudit net n node (line.Audit at sides two lone border) =
+    (at ≡ n) × ((x : Node) × (named net node ≡ Some x)
+    × IsAuditOf net x.id.0 (Ok (record { sides = sides; two = two; lone = lone; border = border })))
+TellsAudit net n node (line.Refused reason.Unknown at) = (at ≡ n) × (named net node ≡ None)
+TellsAudit net n node (line.Refused (reason.Fault fault name) at) =
+    (at ≡ n) × ((x : Node) × (named net node ≡ Some x) × IsAuditOf net x.id.0 (Err fault)) × (name_of net fault.node.0 ≡ Some name)
+TellsAudit net n node line.Memory = Unit {0}
+TellsAudit net n node l = ⊥
+
+-- a line of number n, of a command by one of these passes, and the calls of that command: an audit has none
 abbrev pub Tells : ℕ → List Entry → List ℕ → ℕ → Asked → Line → List Call → Type 0
 Tells limit h passes n (edit e) l calls = TellsEdit limit h passes n e l × (calls ≡ [])
 Tells limit h passes n (load node file) l calls = TellsLoad limit h passes n node file l calls
 Tells limit h passes n (update node file pieces workers) l calls = TellsUpdate (network_at h n) n node file l calls
-Tells limit h passes n (audit node pieces workers) l calls = (l ≡ line.Memory) × (calls ≡ [])
+Tells limit h passes n (audit node pieces workers) l calls = TellsAudit (network_at h n) n node l × (calls ≡ [])

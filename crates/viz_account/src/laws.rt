@@ -1,8 +1,9 @@
 //! Laws on accounts. A law is a function that does nothing: its contract holds of the definitions
 //! alone.
 
-ghost use Rattle.viz_account.specs.Laws.{EntriesAreToldOnce, HoldLater, LinesCountEdits, OneActor};
+ghost use Rattle.viz_account.specs.Laws.{AuditLinesAreClosed, EntriesAreToldOnce, HoldLater, LinesCountEdits, OneActor};
 
+use viz_audit::audits_are_closed;
 use viz_base::Port;
 
 /// Lines that tell of commands in a history tell of them in each longer one.
@@ -26,3 +27,11 @@ pub fn entries_are_told_once<P: Port>()
 pub fn lines_count_edits<P: Port>()
     ensures { LinesCountEdits P.Port }
 {}
+
+/// What the lines of audits tell is closed up to the boundary, in each account: `sides` is `two` and
+/// `open` together, and `open` is `border`.
+pub fn audit_lines_are_closed<P: Port>()
+    ensures { AuditLinesAreClosed P.Port }
+{
+    audits_are_closed();
+}

@@ -6,6 +6,7 @@
 #![tactic(auto)]
 
 mod actor;
+mod auditing;
 mod counts;
 mod laws;
 mod made;
@@ -14,8 +15,9 @@ mod serving;
 mod updating;
 
 pub use actor::Actor;
+pub use auditing::audit;
 pub use laws::{
-    accounts_hold_later, entries_are_told_once, lines_count_edits, one_actor_is_accounted_for,
+    accounts_hold_later, audit_lines_are_closed, entries_are_told_once, lines_count_edits, one_actor_is_accounted_for,
 };
 pub use serving::{serve, serve_all};
 pub use updating::update;

@@ -87,8 +87,8 @@ fn file_there(alloc: Global, net: &Net, node: NodeId) -> Result<Made, Stop>
     }
 }
 
-// The line of an update of a node that has no file.
-fn stopped(net: &Net, at: u32, stop: Stop) -> Line
+/// The line of a command whose node has a fault.
+pub fn stopped(net: &Net, at: u32, stop: Stop) -> Line
     ensures { IsStop net.now at stop result }
 {
     let Stop::Fault(fault) = stop else {

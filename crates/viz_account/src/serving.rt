@@ -7,6 +7,7 @@ ghost use Rattle.viz_account.specs.Served.{commands, IsCounted, GoesOnAlone, Ser
 ghost use Rattle.viz_account.specs.Steps.Edits.{line_of, count_after, Edits};
 
 use crate::actor::Actor;
+use crate::auditing::audit;
 use crate::updating::{file_name, update};
 use std::alloc::{AllocError, Global};
 use viz_base::{Bytes, Port, ReadRefusal, Shared, Word};
@@ -147,7 +148,7 @@ fn load<P: Port>(
 
 /// Serves one command by the pass of an actor: an edit is the next entry of the history, or is
 /// refused; a load reads its file first; an update evaluates the network of all entries and writes
-/// once.
+/// once; an audit evaluates it, and calls nothing.
 pub fn serve<P: Port>(
     alloc: Global,
     core: &mut Core,
@@ -170,7 +171,7 @@ pub fn serve<P: Port>(
             file,
             shape: _,
         } => { update(alloc, core.net(), core.front(), port, node, file) }
-        Order::Audit { .. } => Line::Memory,
+        Order::Audit { node, shape: _ } => audit(alloc, core.net(), core.front(), node),
     }
 }
 

@@ -44,6 +44,7 @@ told_line (line.File at cells points ran) a ok = (at, cells, points, ran, refl, 
 told_line (line.Refused reason at) a ok = (reason, at, refl, ok)
 told_line line.WriteFault a ok = inr (inl refl)
 told_line (line.Edit at) a ok = tt
+told_line (line.Audit at sides two lone border) a ok = tt
 told_line line.ReadFault a ok = tt
 told_line line.Memory a ok = tt
 
@@ -52,6 +53,7 @@ failed_line (line.File at cells points ran) a failed = inr (inr failed)
 failed_line (line.Refused reason at) a failed = inr (inr failed)
 failed_line line.WriteFault a failed = inr (inr failed)
 failed_line (line.Edit at) a failed = tt
+failed_line (line.Audit at sides two lone border) a failed = tt
 failed_line line.ReadFault a failed = tt
 failed_line line.Memory a failed = tt
 

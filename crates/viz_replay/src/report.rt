@@ -78,7 +78,7 @@ fn update_status(line: &Line) -> Status
         Line::File { .. } => Status::Done,
         Line::Refused { .. } => Status::Refused,
         Line::WriteFault => Status::Fault,
-        Line::Edit { .. } | Line::ReadFault | Line::Memory => Status::Memory,
+        Line::Edit { .. } | Line::Audit { .. } | Line::ReadFault | Line::Memory => Status::Memory,
     }
 }
 
@@ -161,7 +161,9 @@ fn report_update<O: Out>(alloc: Global, out: &mut O, line: &Line) -> Status
             put_made(alloc, out, &came, made)
         }
         Line::WriteFault => put(alloc, out, &came, write_fault()),
-        Line::Edit { .. } | Line::ReadFault | Line::Memory => put(alloc, out, &came, memory()),
+        Line::Edit { .. } | Line::Audit { .. } | Line::ReadFault | Line::Memory => {
+            put(alloc, out, &came, memory())
+        }
     }
 }
 

@@ -21,10 +21,16 @@ at_text n = and_number (codes " at ") n
 abbrev pub numbers_text : ℕ → ℕ → ℕ → List ℕ
 numbers_text cells points ran = and_number (codes " cells ") cells ++ and_number (codes " points ") points ++ and_number (codes " ran ") ran
 
+-- the numbers of an audit
+abbrev pub counts_text : ℕ → ℕ → ℕ → ℕ → List ℕ
+counts_text sides two lone border =
+    and_number (codes " sides ") sides ++ and_number (codes " two ") two ++ and_number (codes " open ") lone ++ and_number (codes " border ") border
+
 -- what stands behind the front of a line
 abbrev pub behind : Line → List ℕ
 behind (line.Edit at) = at_text at
 behind (line.File at cells points ran) = at_text at ++ numbers_text cells points ran
+behind (line.Audit at sides two lone border) = at_text at ++ counts_text sides two lone border
 behind (line.Refused reason at) = codes " " ++ reason_text reason ++ at_text at
 behind line.ReadFault = codes " read"
 behind line.WriteFault = codes " write"
@@ -34,6 +40,7 @@ behind line.Memory = []
 abbrev pub word_of : Line → List ℕ
 word_of (line.Edit at) = codes "edit"
 word_of (line.File at cells points ran) = codes "file"
+word_of (line.Audit at sides two lone border) = codes "audit"
 word_of (line.Refused reason at) = codes "refused"
 word_of line.ReadFault = codes "fault"
 word_of line.WriteFault = codes "fault"

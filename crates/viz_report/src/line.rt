@@ -12,9 +12,10 @@ pub enum Reason {
     Full,
     /// The file that was to be loaded is longer than the port's limit.
     TooLong,
-    /// No node has the name of an update.
+    /// No node has the name of an update or an audit.
     Unknown,
-    /// The node of an update has no file for this fault, of the node of this name.
+    /// The node of an update has no file, or that of an audit no surface, for this fault of the node
+    /// of this name.
     Fault { fault: Fault, node: Word },
 }
 
@@ -32,6 +33,15 @@ pub enum Line {
         cells: u64,
         points: u64,
         ran: u32,
+    },
+    /// The surface of a node was audited: how many sides its triangles have, how many of them lie in
+    /// two triangles, how many in one, and how many of these on the boundary of the image's grid.
+    Audit {
+        at: u32,
+        sides: u64,
+        two: u64,
+        lone: u64,
+        border: u64,
     },
     /// The command was refused.
     Refused {

@@ -40,6 +40,15 @@ fn each_line_is_spelled_so(rt: HostRuntime) -> Result<(), Fail> {
     };
     told(&rt, alloc, Line::Edit { at: 65536 }, "edit 3 2 at 65536")?;
     told(&rt, alloc, file, "file 3 2 at 5 cells 6 points 7 ran 2")?;
+    let audit = Line::Audit {
+        at: 5,
+        sides: 12,
+        two: 6,
+        lone: 5,
+        border: 4,
+    };
+    let counts = "audit 3 2 at 5 sides 12 two 6 open 5 border 4";
+    told(&rt, alloc, audit, counts)?;
     told(&rt, alloc, Line::ReadFault, "fault 3 2 read")?;
     told(&rt, alloc, Line::WriteFault, "fault 3 2 write")?;
     Ok(())

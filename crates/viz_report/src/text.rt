@@ -1,7 +1,7 @@
 //! The text of lines.
 
 ghost use Rattle.std.specs.Prelude.{◌≡◌, ◌++◌, IfOk, OnOk};
-ghost use Rattle.viz_report.specs.Report.{and_number, heading, at_text, numbers_text, behind, word_of, line_text, lines_text};
+ghost use Rattle.viz_report.specs.Report.{and_number, heading, at_text, counts_text, numbers_text, behind, word_of, line_text, lines_text};
 
 use crate::line::Line;
 use crate::words::put_reason;
@@ -42,6 +42,23 @@ fn put_numbers(text: &mut Vec<u8>, cells: u64, points: u64, ran: u32) -> Result<
     Ok(())
 }
 
+fn put_counts(
+    text: &mut Vec<u8>,
+    sides: u64,
+    two: u64,
+    lone: u64,
+    border: u64,
+) -> Result<(), AllocError>
+    ensures { OnOk result (text.new.items
+        ≡ text.old.items ++ counts_text sides two lone border) }
+{
+    put_number(text, b" sides ", sides)?;
+    put_number(text, b" two ", two)?;
+    put_number(text, b" open ", lone)?;
+    put_number(text, b" border ", border)?;
+    Ok(())
+}
+
 fn put_behind(text: &mut Vec<u8>, line: &Line) -> Result<(), AllocError>
     ensures { OnOk result (text.new.items ≡ text.old.items ++ behind line.now) }
 {
@@ -55,6 +72,16 @@ fn put_behind(text: &mut Vec<u8>, line: &Line) -> Result<(), AllocError>
         } => {
             put_at(text, *at)?;
             put_numbers(text, *cells, *points, *ran)
+        }
+        Line::Audit {
+            at,
+            sides,
+            two,
+            lone,
+            border,
+        } => {
+            put_at(text, *at)?;
+            put_counts(text, *sides, *two, *lone, *border)
         }
         Line::Refused { reason, at } => {
             text.push(b' ')?;
@@ -73,6 +100,7 @@ fn word_of(line: &Line) -> &'static str
     match line {
         Line::Edit { .. } => "edit",
         Line::File { .. } => "file",
+        Line::Audit { .. } => "audit",
         Line::Refused { .. } => "refused",
         Line::ReadFault | Line::WriteFault => "fault",
         Line::Memory => "memory",

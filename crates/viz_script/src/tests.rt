@@ -35,7 +35,7 @@ const WORDS: [Row; 14] = [
     (b"+1 remove a\n", Some((1, Word))),
     (b"9223372036854775808 remove a\n", Some((1, Word))),
     (b"1 blend a\n", Some((1, Word))),
-    (b"1 audit a 1 1\n", Some((1, Word))),
+    (b"1 audits a 1 1\n", Some((1, Word))),
     (b"1 add tets a\n", Some((1, Word))),
     (b"1 add cut\n", Some((1, Word))),
     (b"1 add smooth a\n", None),
@@ -167,7 +167,12 @@ fn order_of(order: &Order) -> (&[u8], &[u8], i64, i64) {
             i64::from(shape.pieces),
             i64::from(shape.workers),
         ),
-        Order::Audit { node, .. } => (node.bytes(), b"", -2, 0),
+        Order::Audit { node, shape } => (
+            node.bytes(),
+            b"audit",
+            i64::from(shape.pieces),
+            i64::from(shape.workers),
+        ),
     }
 }
 
@@ -190,7 +195,7 @@ fn edit_of(edit: &Edit) -> (&[u8], &[u8], i64, i64) {
 /// The actor, the phase, the line and the order of a step.
 type Told<'a> = (u32, u32, u32, (&'a [u8], &'a [u8], i64, i64));
 
-const STEPS: [Told; 8] = [
+const STEPS: [Told; 9] = [
     (1, 1, 1, (b"smooth", b"s", -3, 0)),
     (2, 1, 3, (b"s", b"t", 7, -5)),
     (2, 2, 5, (b"t", b"", 255, -6)),
@@ -198,11 +203,13 @@ const STEPS: [Told; 8] = [
     (1, 3, 8, (b"op", b"max", -7, 0)),
     (8, 3, 9, (b"s", b"s.vtk", -1, 0)),
     (1, 3, 10, (b"s", b"o", 2, 64)),
-    (1, 3, 11, (b"s", b"", -4, 0)),
+    (1, 3, 11, (b"s", b"audit", 64, 3)),
+    (1, 3, 12, (b"s", b"", -4, 0)),
 ];
 
 const SCRIPT: &[u8] = b"1 add smooth s\n# no step\n2 connect s t 007\nphase\n2 disconnect t 255\n\
-    1 set s range -9 -4\n phase \r\n1 set s op max\n8 load s s.vtk\n1 update s o 2 64\n1 remove s";
+    1 set s range -9 -4\n phase \r\n1 set s op max\n8 load s s.vtk\n1 update s o 2 64\n\
+    1 audit s 64 3\n1 remove s";
 
 fn is_step(rt: &impl Abort, step: &Step, want: &Told) {
     let found = (step.actor, step.phase, step.line, order_of(&step.order));

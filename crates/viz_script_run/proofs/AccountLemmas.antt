@@ -1,7 +1,9 @@
 -- From what one pass served to the account of its script.
 use Rattle.std.proofs.Common.{◌≡◌, ℕ, zero, suc, ◌+◌, ◌≤◌, Bool, true, false, cond, List, [], ◌∷◌, ◌++◌, length, length-append, map, append_assoc, append-nil, Result, Ok, refl, sym, ap, ap₂, subst, ◌∙◌, ⊎_elim, true≢false, arith}
 use Rattle.std.specs.Prelude.{flat_map, IsTrue}
+use Rattle.std.specs.List.{All}
 use Rattle.std.proofs.lemmas.List.{length-map}
+use Rattle.std.proofs.lemmas.List.Elements.{All-nil}
 use Rattle.std.proofs.lemmas.List.Concat.{flat_map-append}
 use Rattle.viz_base.specs.declared.port.Port as port
 use Rattle.viz_turn.specs.Tales.{has, once, entries_of}
@@ -15,7 +17,7 @@ use Rattle.viz_report.specs.declared.line.Line.{Line}
 use Rattle.viz_report.specs.Report.{lines_text, report}
 use Rattle.viz_account.specs.Account.{edited, places, AreTold, ArePhases, faults_told, RoseBy, IsActor, AreActors, IsAccountOf}
 use Rattle.viz_account.specs.Served.{commands, ServesAll}
-use Rattle.viz_account.specs.Laws.{OneActor}
+use Rattle.viz_account.specs.Laws.{OneActor, IsClosedLine, AuditLinesAreClosed}
 use Rattle.viz_script_run.specs.Groups.{numbers, commands_in, by_phase, by_actor}
 use Rattle.viz_script_run.specs.Journals.{numbered}
 use Rattle.viz_script_run.specs.Deeds.{actors_over, history_limit}
@@ -75,6 +77,7 @@ module _ {P : Type 0} (m : port.Ghosts P) (bytes : List ℕ) (steps : List Step)
     (within : length history ≤ history_limit)
     (own : own_of 0 history ≡ history)
     (accounted : OneActor m)
+    (closed : AuditLinesAreClosed m)
     (reported : (phases : List (List Line)) → report (length phases) (phases ∷ []) ≡ lines_text 1 1 (flat_map (λ ls. ls) phases)) where
   abbrev script : List (List Asked)
   script = by_phase phase_limit (map stepped steps) 1
@@ -89,11 +92,15 @@ module _ {P : Type 0} (m : port.Ghosts P) (bytes : List ℕ) (steps : List Step)
   all_phases_are : length told.0 ≡ phase_limit
   all_phases_are = told.2 ∙ length-map (numbers phase_limit 1) (commands_in (map stepped steps) 1) ∙ numbers_length phase_limit 1
 
+  lines_are : lines ≡ flat_map (λ (actor : List (List Line)). flat_map (λ (ls : List Line). ls) actor) (told.0 ∷ [])
+  lines_are = sym told.1 ∙ sym (append-nil (flat_map (λ (ls : List Line). ls) told.0))
+
   pub account_of_one : IsAccount m (map stepped steps) lines history (before ∷ others) (after ∷ others)
   account_of_one = record {
     told = told.0 ∷ [];
     account = told.3;
-    lines_are = sym told.1 ∙ sym (append-nil (flat_map (λ (ls : List Line). ls) told.0));
+    lines_are = lines_are;
+    closed = subst (All IsClosedLine) (sym lines_are) (closed history_limit (script ∷ []) history (told.0 ∷ []) (before ∷ others) (after ∷ others) told.3);
     report_is = ap (lines_text 1 1) (sym told.1) ∙ sym (reported told.0) ∙ ap (λ n. report n (told.0 ∷ [])) all_phases_are;
     numbers = one_pass_of m history_limit history told.3.ends script told.0 (before ∷ others) (after ∷ others) told.3.passes told.3.actors told.3.whole own;
     legal = legal;
@@ -119,6 +126,7 @@ account_of_none m steps = record {
     actors = refl;
   };
   lines_are = refl;
+  closed = All-nil IsClosedLine;
   report_is = sym (no_report phase_limit);
   numbers = refl;
   legal = tt;

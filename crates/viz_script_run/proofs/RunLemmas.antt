@@ -171,6 +171,7 @@ one_fault (line.ReadFault ∷ ls) e = (faults_told ls, refl)
 one_fault (line.WriteFault ∷ ls) e = (faults_told ls, refl)
 one_fault (line.Edit at ∷ ls) e = one_fault ls e
 one_fault (line.File at cells points ran ∷ ls) e = one_fault ls e
+one_fault (line.Audit at sides two lone border ∷ ls) e = one_fault ls e
 one_fault (line.Refused reason at ∷ ls) e = one_fault ls e
 one_fault (line.Memory ∷ ls) e = one_fault ls e
 

@@ -29,7 +29,7 @@ pub account_over : {P : Type 0} (m : port.Ghosts P) (steps : List Step) (lines :
     → IsServedFirst m steps lines history (slice_index_or ports 0 x) q → IsAccount m (map stepped steps) lines history ports (slice_set ports 0 q)
 account_over m steps lines history [] x q some script served = absurd (omega (arith, some))
 account_over m steps lines history (p ∷ ps) x q some script served =
-    account_of_one m script.0 steps lines history p q ps script.1 served.served served.legal served.within served.own served.accounted served.reported
+    account_of_one m script.0 steps lines history p q ps script.1 served.served served.legal served.within served.own served.accounted served.closed served.reported
 
 -- ---- the account of bytes
 
@@ -47,6 +47,7 @@ module _ {P : Type 0} (m : port.Ghosts P) (bytes name : List ℕ) (steps : List 
     reads = reads;
     account = account.account;
     lines_are = account.lines_are;
+    closed = account.closed;
     report_is = account.report_is;
     journal = ap journal (sym account.numbers);
   })

@@ -1,5 +1,5 @@
 -- What a run of a script did: at the desk, at the ports, and how it ended (docs/DEFINITIONS.md, "The account of a script").
-use Rattle.std.specs.Prelude.{◌≡◌, ℕ, ◌≤◌, Bool, true, false, List, [], ◌∷◌, ◌++◌, ◌⊎◌, flat_map, Option, Some, Result, Ok, Err, IsTrue}
+use Rattle.std.specs.Prelude.{◌≡◌, ℕ, ◌≤◌, Bool, true, false, List, [], ◌∷◌, ◌++◌, ◌⊎◌, flat_map, All, Option, Some, Result, Ok, Err, IsTrue}
 use Rattle.viz_base.specs.Faults.{Rose}
 use Rattle.viz_base.specs.Files.{Files, SameFiles, SameOthers}
 use Rattle.viz_base.specs.declared.port.Port as port
@@ -17,6 +17,7 @@ use Rattle.viz_words.specs.declared.refusal.ScriptRefusal.TheVariants as refusal
 use Rattle.viz_report.specs.declared.line.Line.{Line}
 use Rattle.viz_report.specs.Report.{lines_text, report}
 use Rattle.viz_account.specs.Account.{IsAccountOf}
+use Rattle.viz_account.specs.Laws.{IsClosedLine}
 use Rattle.viz_script_run.specs.declared.ran.Ran.{Ran}
 use Rattle.viz_script_run.specs.declared.ran.Ran.TheVariants as ran
 use Rattle.viz_script_run.specs.Groups.{by_actor}
@@ -67,7 +68,8 @@ actors_over (p ∷ ps) = 1
 abbrev pub history_limit : ℕ
 history_limit = 65536
 
--- the account of the script of these bytes: a history, whose journal is this text, and a line for each command, whose report is that of these lines
+-- the account of the script of these bytes: a history, whose journal is this text, and a line for each command, whose report is that of these lines;
+-- what their audits counted is closed up to the boundary
 pub record IsAccounted {P : Type 0} (m : port.Ghosts P) (bytes : List ℕ) (lines : List Line) (text : List ℕ) (old new : List P) : Type 0 where
   pub steps : List Stepped
   pub history : List Entry
@@ -75,6 +77,7 @@ pub record IsAccounted {P : Type 0} (m : port.Ghosts P) (bytes : List ℕ) (line
   pub reads : script_of (actors_over old) bytes ≡ Ok steps
   pub account : IsAccountOf m history_limit (by_actor (actors_over old) phase_limit steps) history told old new
   pub lines_are : lines ≡ flat_map (λ phases. flat_map (λ ls. ls) phases) told
+  pub closed : All IsClosedLine lines
   pub report_is : lines_text 1 1 lines ≡ report phase_limit told
   pub journal : text ≡ journal_of account.passes history
 

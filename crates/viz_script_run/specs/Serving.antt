@@ -1,5 +1,5 @@
 -- What is done of a script behind its reading. Words of private contracts alone.
-use Rattle.std.specs.Prelude.{◌≡◌, ℕ, ◌≤◌, List, [], ◌∷◌, ◌++◌, ◌⊎◌, Option, Some, Result, Ok, Err, IsTrue, map, flat_map, length}
+use Rattle.std.specs.Prelude.{◌≡◌, ℕ, ◌≤◌, List, [], ◌∷◌, ◌++◌, ◌⊎◌, Option, Some, Result, Ok, Err, IsTrue, All, map, flat_map, length}
 use Rattle.viz_base.specs.Faults.{Rose}
 use Rattle.viz_base.specs.Files.{SameFiles, SameOthers}
 use Rattle.viz_base.specs.declared.port.Port as port
@@ -16,7 +16,7 @@ use Rattle.viz_report.specs.declared.line.Line.{Line}
 use Rattle.viz_report.specs.Report.{lines_text, report}
 use Rattle.viz_account.specs.Account.{IsAccountOf}
 use Rattle.viz_account.specs.Served.{commands, ServesAll}
-use Rattle.viz_account.specs.Laws.{OneActor}
+use Rattle.viz_account.specs.Laws.{OneActor, IsClosedLine, AuditLinesAreClosed}
 use Rattle.viz_script_run.specs.declared.ran.Ran.{Ran}
 use Rattle.viz_script_run.specs.declared.ran.Ran.TheVariants as ran
 use Rattle.viz_journal.specs.Journal.{journal}
@@ -29,6 +29,7 @@ pub record IsAccount {P : Type 0} (m : port.Ghosts P) (steps : List Stepped) (li
   pub told : List (List (List Line))
   pub account : IsAccountOf m history_limit (by_actor (actors_over old) phase_limit steps) history told old new
   pub lines_are : lines ≡ flat_map (λ phases. flat_map (λ ls. ls) phases) told
+  pub closed : All IsClosedLine lines
   pub report_is : lines_text 1 1 lines ≡ report phase_limit told
   pub numbers : numbered account.passes [] history ≡ numbered ((0 ∷ []) ∷ []) [] history
   pub legal : IsLegal history
@@ -41,6 +42,7 @@ pub record IsServedFirst {P : Type 0} (m : port.Ghosts P) (steps : List Step) (l
   pub within : length history ≤ history_limit
   pub own : own_of 0 history ≡ history
   pub accounted : OneActor m
+  pub closed : AuditLinesAreClosed m
   pub reported : (phases : List (List Line)) → report (length phases) (phases ∷ []) ≡ lines_text 1 1 (flat_map (λ ls. ls) phases)
 
 -- the steps are those of a script over these ports

@@ -9,7 +9,7 @@ ghost use Rattle.viz_script_run.specs.Serving.{AreOfScript, IsAccount, IsKept, I
 
 use crate::ran::Ran;
 use std::alloc::{AllocError, Global};
-use viz_account::{Actor, one_actor_is_accounted_for, serve_all};
+use viz_account::{Actor, audit_lines_are_closed, one_actor_is_accounted_for, serve_all};
 use viz_base::{CACHE, HISTORY, Items, Port, ReadRefusal, WriteRefusal};
 use viz_core::{Core, Entry};
 use viz_journal::{JournalEntry, journal_text};
@@ -54,6 +54,7 @@ fn serve_first<P: Port>(
     ensures err { OnErr result (port.new ≡ port.old) }
 {
     one_actor_is_accounted_for::<P>();
+    audit_lines_are_closed::<P>();
     one_actor_is_reported_in_order();
     let mut core = Core::new(alloc, HISTORY, CACHE)?;
     let mut actor = Actor {

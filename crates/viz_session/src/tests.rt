@@ -25,6 +25,20 @@ INFORMATION 0
 
 ";
 
+/// The same image, the last point of which is 5.
+const TIE: &str = "# vtk DataFile Version 3.0
+t
+ASCII
+DATASET STRUCTURED_POINTS
+DIMENSIONS 2 2 2
+ORIGIN 0 0 0
+SPACING 1 1 1
+POINT_DATA 8
+SCALARS s int
+LOOKUP_TABLE default
+0 0 0 0 0 0 0 5
+";
+
 /// A mesh without points.
 const EMPTY: &str = "# vtk DataFile Version 3.0
 vizrun fixed 10^-3
@@ -221,6 +235,77 @@ fn refusals_have_their_lines(rt: HostRuntime) -> Result<(), Fail> {
         assert!(rt; left.status == status);
         assert_eq!(rt; left.desk.file("j").is_some(), status != script);
     }
+    Ok(())
+}
+
+const SURFACE: &str = "1 add file src
+1 load src a.vtk
+1 add contour iso
+1 connect src iso 1
+1 set iso levels 5
+";
+
+const SURFACE_REPORT: &str = "edit 1 1 at 1
+edit 1 2 at 2
+edit 1 3 at 3
+edit 1 4 at 4
+edit 1 5 at 5
+";
+
+#[test]
+fn audits_count_the_sides_of_a_surface(rt: HostRuntime) -> Result<(), Fail> {
+    let alloc = rt.alloc();
+    for (image, script, want) in [
+        // corner-contour and audit-line
+        (
+            CORNER,
+            "1 audit iso 1 1\n1 audit src 1 1\n1 audit none 1 1\n",
+            "audit 1 6 at 5 sides 12 two 6 open 6 border 6\n\
+             refused 1 7 fault:src:WrongInput(1) at 5\nrefused 1 8 Unknown at 5\n",
+        ),
+        // tie-at-corner
+        (
+            TIE,
+            "1 audit iso 3 2\n",
+            "audit 1 6 at 5 sides 12 two 6 open 6 border 6\n",
+        ),
+        // two levels, a contour of the surface, and one behind a writer of the image
+        (
+            CORNER,
+            "1 set iso levels 5 1\n1 audit iso 1 1\n1 add contour c\n1 audit c 1 1\n\
+             1 connect iso c 1\n1 audit c 1 1\n1 disconnect c 1\n1 add writer w\n\
+             1 connect src w 1\n1 connect w c 1\n1 set c levels 5\n1 audit c 1 1\n",
+            "edit 1 6 at 6\naudit 1 7 at 6 sides 24 two 12 open 12 border 12\nedit 1 8 at 7\n\
+             refused 1 9 fault:c:Unconnected(1) at 7\nedit 1 10 at 8\n\
+             refused 1 11 fault:c:WrongInput(1) at 8\nedit 1 12 at 9\nedit 1 13 at 10\n\
+             edit 1 14 at 11\nedit 1 15 at 12\nedit 1 16 at 13\n\
+             audit 1 17 at 13 sides 12 two 6 open 6 border 6\n",
+        ),
+    ] {
+        audited(&rt, alloc, image, script, want)?;
+    }
+    Ok(())
+}
+
+// A script behind the first five commands, over this image.
+fn audited<R: Threads + Wait + Sync + Abort>(
+    rt: &R,
+    alloc: Global,
+    image: &str,
+    script: &str,
+    want: &str,
+) -> Result<(), Fail> {
+    let first = port(
+        alloc,
+        "a.vtk",
+        image.as_bytes(),
+        FILE_LIMIT,
+        Vec::new(alloc),
+    )?;
+    let script = format!(in alloc; "{SURFACE}{script}")?;
+    let left = run_over(rt, alloc, "run s j", script.as_bytes(), first)?;
+    let want = format!(in alloc; "{SURFACE_REPORT}{want}")?;
+    assert_eq!(rt; left.text.as_str(), want.as_str());
     Ok(())
 }
 

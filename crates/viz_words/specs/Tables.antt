@@ -57,9 +57,9 @@ param_word param.Style = codes "form"
 param_word param.Digits = codes "digits"
 param_word param.Release = codes "release"
 
--- the commands that are read; audit isn't yet
+-- the commands
 abbrev pub commands : List Command
-commands = command.Add ∷ command.Remove ∷ command.Connect ∷ command.Disconnect ∷ command.Set ∷ command.Load ∷ command.Update ∷ []
+commands = command.Add ∷ command.Remove ∷ command.Connect ∷ command.Disconnect ∷ command.Set ∷ command.Load ∷ command.Update ∷ command.Audit ∷ []
 
 -- the kinds that are read; those that make or change meshes aren't yet, but for contours
 abbrev pub kinds : List Kind

@@ -6,8 +6,8 @@ ghost use Rattle.viz_words.specs.Tables.{command_word, kind_word, param_word, co
 use crate::command::Command;
 use viz_kinds::{Kind, Param};
 
-/// The commands that are read. `audit` isn't yet: it is opened here and in `specs/Tables.antt`.
-const COMMANDS: [Command; 7] = [
+/// The commands.
+const COMMANDS: [Command; 8] = [
     Command::Add,
     Command::Remove,
     Command::Connect,
@@ -15,6 +15,7 @@ const COMMANDS: [Command; 7] = [
     Command::Set,
     Command::Load,
     Command::Update,
+    Command::Audit,
 ];
 
 /// The kinds that are read. Those that make or change meshes aren't yet, but for contours: they are
@@ -106,7 +107,7 @@ pub fn param_word(param: Param) -> &'static [u8]
     }
 }
 
-/// The command that is read with this word.
+/// The command of this word.
 pub fn command_named(text: &[u8]) -> Option<Command>
     ensures value { result ≡ command_named text.now }
 {

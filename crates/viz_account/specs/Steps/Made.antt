@@ -25,7 +25,7 @@ IsStopped net n node (line.Refused (reason.Fault fault name) at) =
 IsStopped net n node line.Memory = Unit {0}
 IsStopped net n node l = ⊥
 
--- the line of number n of an update that stopped so
+-- the line of number n of a command that stopped so
 abbrev pub IsStop : Network → ℕ → Stop → Line → Type 0
 IsStop net n (stop.Fault fault) (line.Refused (reason.Fault f name) at) = (f ≡ fault) × (at ≡ n) × (name_of net fault.node.0 ≡ Some name)
 IsStop net n s line.Memory = Unit {0}

@@ -1,0 +1,6 @@
+mod GivenLemmas
+mod ContourLemmas
+mod AuditLemmas
+mod StepLemmas
+mod GroundLemmas
+mod SumLemmas

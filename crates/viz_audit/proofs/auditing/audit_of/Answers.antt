@@ -1,0 +1,26 @@
+use Rattle.std.proofs.Common.{Ok, sym, subst, ap, ◌∙◌}
+use Rattle.viz_dataset.specs.declared.dataset.Dataset.TheVariants.{Mesh}
+use Rattle.viz_scratch.specs.Scratch.{IsScratch}
+use Rattle.viz_audit.specs.Steps.Ground.{IsGround}
+use Rattle.viz_audit.proofs.AuditLemmas.{may_audit, is_audited, gives_image}
+use Rattle.viz_audit.proofs.auditing.audit_of.Goals as goal
+
+pub audit_all-requires : goal.audit_all-requires
+audit_all-requires c =
+    let net = c.args.net.now in
+    let id = c.args.node.0 in
+    may_audit c.scratch_is_one.ensures.cones c.contours_are_closed.ensures.surface net id c.in-Some.whole c.sheets.result.now
+    (subst (IsGround net id) c.in-Some.is c.in_ok-whole.ensures)
+    (subst (λ d. IsScratch net id (Ok d)) (sym c.get.ensures ∙ c.in-Mesh.is ∙ ap (λ s. Mesh s) (sym c.sheets.ensures.value)) c.in_ok-dataset.ensures.value)
+
+pub returns : goal.returns
+returns c =
+    let net = c.args.net.now in
+    let id = c.args.node.0 in
+    record {
+      value =
+          is_audited c.scratch_is_one.ensures.cones net id c.in-Some.whole c.sheets.result.now c.in_ok-counts.counts
+          (subst (IsGround net id) c.in-Some.is c.in_ok-whole.ensures)
+          (subst (λ d. IsScratch net id (Ok d)) (sym c.get.ensures ∙ c.in-Mesh.is ∙ ap (λ s. Mesh s) (sym c.sheets.ensures.value)) c.in_ok-dataset.ensures.value)
+          c.in_ok-counts.ensures;
+    }

@@ -1,0 +1,22 @@
+//! What audits keep. A law is a function that does nothing: its contract holds of the definitions
+//! alone.
+
+ghost use Rattle.viz_audit.specs.Laws.{AuditsAreClosed, AuditsAreOne};
+
+use viz_scratch::scratch_is_one;
+use viz_surface_law::contours_are_closed;
+
+/// Whatever an audit counts is closed up to the boundary of the image's grid.
+pub fn audits_are_closed()
+    ensures { AuditsAreClosed }
+{
+    scratch_is_one();
+    contours_are_closed();
+}
+
+/// A node has one audit, or one fault of it.
+pub fn audits_are_one()
+    ensures { AuditsAreOne }
+{
+    scratch_is_one();
+}
