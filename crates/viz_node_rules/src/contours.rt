@@ -1,6 +1,6 @@
 //! Sections of what feeds a port: contours at levels, and the cut by a plane.
 
-ghost use Rattle.std.specs.Prelude.{◌≡◌, All, IfOk, IfSome, Some, min, take};
+ghost use Rattle.std.specs.Prelude.{◌≡◌, ◌∷◌, [], All, IfOk, IfSome, Some, min, take};
 ghost use Rattle.std.specs.Option.{option_copied};
 ghost use Rattle.viz_legacy_read.specs.Reading.{IsSound};
 ghost use Rattle.viz_node_rules.specs.Rules.{Makes};

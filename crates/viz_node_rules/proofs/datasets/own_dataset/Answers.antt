@@ -19,6 +19,18 @@ use Rattle.viz_node_rules.proofs.datasets.own_dataset.Goals as goal
 pub contours-requires : goal.contours-requires
 contours-requires c = record { sound = subst (λ o. IfSome o IsSound) (sym c.dataset_at-first.ensures) (sound_at IsSound c.args.table.now _ c.requires.sound) }
 
+pub select_input-requires : goal.select_input-requires
+select_input-requires c = record { sound = subst (λ o. IfSome o IsSound) (sym c.dataset_at-first.ensures) (sound_at IsSound c.args.table.now _ c.requires.sound) }
+
+pub cut_input-requires : goal.cut_input-requires
+cut_input-requires c = record { sound = subst (λ o. IfSome o IsSound) (sym c.dataset_at-first.ensures) (sound_at IsSound c.args.table.now _ c.requires.sound) }
+
+pub boundary_input-requires : goal.boundary_input-requires
+boundary_input-requires c = record { sound = subst (λ o. IfSome o IsSound) (sym c.dataset_at-first.ensures) (sound_at IsSound c.args.table.now _ c.requires.sound) }
+
+pub merge_input-requires : goal.merge_input-requires
+merge_input-requires c = record { sound = subst (λ o. IfSome o IsSound) (sym c.dataset_at-first.ensures) (sound_at IsSound c.args.table.now _ c.requires.sound) }
+
 pub passed_on-requires : goal.passed_on-requires
 passed_on-requires c = record { sound = subst (λ o. IfSome o IsSound) (sym c.dataset_at-first.ensures) (sound_at IsSound c.args.table.now _ c.requires.sound) }
 
