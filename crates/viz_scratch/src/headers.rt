@@ -43,11 +43,7 @@ fn inputs_of(table: &[Known], places: &[Option<usize>; 8]) -> [Option<Informatio
     ]
 }
 
-fn known_of(
-    table: &[Known],
-    node: &Node,
-    places: &[Option<usize>; 8],
-) -> Result<Information, Fault>
+fn known_of(table: &[Known], node: &Node, places: &[Option<usize>; 8]) -> Result<Information, Fault>
     ensures { IsMade InformationRule node.now (told table.now places.now) result }
 {
     if let Some(fault) = fault_in(table, places) {
