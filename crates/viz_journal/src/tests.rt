@@ -54,7 +54,7 @@ const ENTRIES: [Row; 14] = [
     (b"#\nend 0\n", Some((2, ScriptRefusal::Word))),
     (b"\nend 0\n", Some((2, ScriptRefusal::Word))),
     (b"1 1 update a f 1 1\n", Some((2, ScriptRefusal::Word))),
-    (b"1 1 add merge a\n", Some((2, ScriptRefusal::Word))),
+    (b"1 1 add glyph a\n", Some((2, ScriptRefusal::Word))),
     (b"1 1 add file\n", Some((2, Arity))),
     (b"1 0 add file a-b\n", Some((2, Name))),
     (b"1 2 add file a\n", Some((2, Number))),

@@ -1,3 +1,4 @@
 pub mod CellLemmas
 pub mod SelectLemmas
 pub mod FacetLemmas
+pub mod FitLemmas

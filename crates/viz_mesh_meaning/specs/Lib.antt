@@ -4,3 +4,4 @@ pub mod Append
 pub mod Facets
 pub mod Merge
 pub mod Laws
+pub mod FitLaws

@@ -1,5 +1,6 @@
 //! Laws of filters of meshes. A function that calls one may rest on it.
 
+ghost use Rattle.viz_mesh_meaning.specs.FitLaws.{BoundaryFits, MergeFits, SelectionFits};
 ghost use Rattle.viz_mesh_meaning.specs.Laws.{BoundaryHasFacets, BoundaryIsSheet, CellsMakeSheet, KeptPointsMakeCells, ScalarTestIsWithin, SelectionIsCellByCell, SelectionIsSheet};
 
 /// Cells of names of a sheet are a sheet with the points that the names had, and there is but one.
@@ -19,4 +20,11 @@ pub fn selections_are_cell_by_cell()
 pub fn boundaries_have_facets()
     ensures sheet { BoundaryIsSheet }
     ensures facets { BoundaryHasFacets }
+{}
+
+/// What a filter of meshes gives fits.
+pub fn filters_fit()
+    ensures selection { SelectionFits }
+    ensures boundary { BoundaryFits }
+    ensures merge { MergeFits }
 {}

@@ -2,9 +2,12 @@
 //!
 //! Contract: the laws of the definitions. What a filter gives of sheets are sheets again, whose
 //! points are those that the names had. Definitions: `specs/Cells.antt`, `specs/Select.antt`,
-//! `specs/Append.antt`, `specs/Facets.antt` and `specs/Merge.antt`.
+//! `specs/Append.antt`, `specs/Facets.antt` and `specs/Merge.antt`; `specs/FitLaws.antt` says that
+//! sections of what a filter gives have names.
 #![tactic(auto)]
 
 mod laws;
 
-pub use laws::{boundaries_have_facets, cells_make_sheets, selections_are_cell_by_cell};
+pub use laws::{
+    boundaries_have_facets, cells_make_sheets, filters_fit, selections_are_cell_by_cell,
+};

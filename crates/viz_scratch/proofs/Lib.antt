@@ -1,11 +1,4 @@
 pub mod TableLemmas
 pub mod ReaderLemmas
 pub mod OneLemmas
-pub mod RuleLemmas
-pub mod GridLemmas
-pub mod DataLemmas
-pub mod FilterLemmas
-pub mod MakesLemmas
-pub mod DataOneLemmas
 pub mod ScratchLemmas
-pub mod SectionLemmas

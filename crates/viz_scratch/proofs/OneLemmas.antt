@@ -4,11 +4,8 @@ use Rattle.viz_network.specs.declared.node.Node.{Node}
 use Rattle.viz_network.specs.declared.fault.Cause.{Cause}
 use Rattle.viz_network.specs.declared.fault.Fault.{Fault}
 use Rattle.viz_network.specs.Cone.{Cone, Tree, none, empty, fed}
-use Rattle.viz_scratch.specs.Fold.{Inputs, NodeRule, at_node, filled, joined, IsMade, AreGiven, IsGiven}
-
--- a rule has at most one result for each node and inputs
-abbrev pub IsOne : {X : Type 0} → NodeRule X → Type 0
-IsOne {X} rule = (n : Node) (inputs : Inputs X) (a b : Result X Cause) → rule n inputs a → rule n inputs b → a ≡ b
+use Rattle.viz_node_rules.specs.Rules.{Inputs, NodeRule, IsOne}
+use Rattle.viz_scratch.specs.Fold.{at_node, filled, joined, IsMade, AreGiven, IsGiven}
 
 module _ {X : Type 0} (rule : NodeRule X) (one : IsOne rule) where
   made_one : (n : Node) (inputs : Result (Inputs X) Fault) (a b : Result X Fault) → IsMade rule n inputs a → IsMade rule n inputs b → a ≡ b

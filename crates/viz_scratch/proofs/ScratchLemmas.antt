@@ -10,14 +10,15 @@ use Rattle.viz_network.specs.Cone.{Tree, cone_of, stamp_of}
 use Rattle.viz_network.specs.EqualStamps.{EqualStamps}
 use Rattle.viz_network.specs.History.{net_of}
 use Rattle.viz_network.specs.Network.{Network}
-use Rattle.viz_scratch.specs.declared.information.Information.{Information}
+use Rattle.viz_node_rules.specs.declared.information.Information.{Information}
 use Rattle.viz_scratch.specs.Fold.{IsGiven}
-use Rattle.viz_scratch.specs.Information.{InformationRule}
-use Rattle.viz_scratch.specs.Data.{DataRule}
+use Rattle.viz_node_rules.specs.Information.{InformationRule}
+use Rattle.viz_node_rules.specs.Data.{DataRule}
 use Rattle.viz_scratch.specs.Scratch.{IsBehind, IsScratchOf, IsScratch}
 use Rattle.viz_scratch.specs.Written.{Style, IsUnwritten, IsTextOf, IsTextBehind, style_of, IsFileOf}
 use Rattle.viz_scratch.specs.Laws.{ConesGiveOne, EqualStampsGiveOne, FilesAreOne}
-use Rattle.viz_scratch.proofs.OneLemmas.{IsOne, value_one}
+use Rattle.viz_node_rules.specs.Rules.{IsOne}
+use Rattle.viz_scratch.proofs.OneLemmas.{value_one}
 
 module _ (informed : IsOne InformationRule) (evaluated : IsOne DataRule) where
   behind_one : (i : Result Information Fault) (t : Option Tree) (a b : Result Dataset Fault) → IsBehind i t a → IsBehind i t b → a ≡ b

@@ -12,8 +12,10 @@ use Rattle.viz_network.specs.declared.fault.Fault.{Fault}
 use Rattle.viz_network.specs.Network.{Network, node_of}
 use Rattle.viz_network.specs.Cone.{Tree, grow, port, cone_of}
 use Rattle.viz_network.specs.Step.{nodes_of, AreFed, IsStepOf, AreSteps}
-use Rattle.viz_scratch.specs.Fold.{Inputs, NodeRule, filled, joined, IsMade, AreGiven, IsGiven}
-use Rattle.viz_scratch.specs.Steps.Table.{Table, fault_of, value_of, entry_at, value_at, first_of, first_fault, faulted, told, HasInputs, IsTable, always, is_read, IsReleased, AreSoundIn}
+use Rattle.viz_node_rules.specs.Rules.{Inputs, NodeRule}
+use Rattle.viz_scratch.specs.Fold.{filled, joined, IsMade, AreGiven, IsGiven}
+use Rattle.viz_node_rules.specs.Places.{Table, value_of, entry_at, value_at, AreSoundIn}
+use Rattle.viz_scratch.specs.Steps.Table.{fault_of, first_of, first_fault, faulted, told, HasInputs, IsTable, always, is_read, IsReleased}
 use Rattle.viz_scratch.specs.Steps.Readers.{AreReadAt, AreBefore, AreBehind}
 
 -- an item of a list with one more is one of the list, or the one more
@@ -229,22 +231,6 @@ released_one {X} last k p table within here = record {
 pub lent_there : {A : Type 0} (o : Option (Bor A)) (x : A) → option_copied o ≡ Some x → IsSome o
 lent_there None x h = let bad : ⊥ = cc in absurd bad
 lent_there (Some b) x h = refl
-
--- an entry that is there
-entry_there : {X : Type 0} (table : Table X) (p : ℕ) (v : Result X Fault) → entry_at table p ≡ Some v → slice_get table p ≡ Some (Some v)
-entry_there [] p v e = let bad : ⊥ = cc in absurd bad
-entry_there (x ∷ table) zero v e = ap Some e
-entry_there (x ∷ table) (suc p) v e = entry_there table p v e
-
--- what feeds a port is sound
-pub sound_at : {X : Type 0} (P : X → Type 0) (table : Table X) (place : Option ℕ) → AreSoundIn P table → IfSome (value_at table place) P
-sound_at P table None h = tt
-sound_at {X} P table (Some p) h = by (entry_at table p) refl
-  where
-    by : (o : Option (Result X Fault)) → entry_at table p ≡ o → IfSome (value_of o) P
-    by None e = tt
-    by (Some (Err f)) e = tt
-    by (Some (Ok x)) e = h p x (entry_there table p (Ok x) e)
 
 -- a value that is sound
 pub sound_value : {X : Type 0} (P : X → Type 0) (value : Result X Fault) → IfOk value P → (x : X) → value ≡ Ok x → P x

@@ -4,14 +4,7 @@ use Rattle.viz_network.specs.declared.node.Node.{Node}
 use Rattle.viz_network.specs.declared.fault.Cause.{Cause}
 use Rattle.viz_network.specs.declared.fault.Fault.{Fault}
 use Rattle.viz_network.specs.Cone.{Cone, Tree, none, empty, fed}
-
--- what feeds each port, port 1 first: nothing where a port is empty
-abbrev pub Inputs : Type 0 → Type 0
-Inputs X = List (Option X)
-
--- a rule for one node: what it makes of its inputs, or why it makes nothing
-abbrev pub NodeRule : Type 0 → Type 1
-NodeRule X = Node → Inputs X → Result X Cause → Type 0
+use Rattle.viz_node_rules.specs.Rules.{Inputs, NodeRule}
 
 -- a cause becomes a fault of its node
 abbrev pub at_node : {X : Type 0} → Node → Result X Cause → Result X Fault

@@ -7,9 +7,9 @@ use Rattle.viz_network.specs.declared.fault.Stop.TheVariants as stop
 use Rattle.viz_network.specs.Network.{Network}
 use Rattle.viz_network.specs.Cone.{Tree, cone_of}
 use Rattle.viz_scratch.specs.Fold.{IsGiven}
-use Rattle.viz_scratch.specs.declared.information.Information.{Information}
-use Rattle.viz_scratch.specs.Information.{InformationRule}
-use Rattle.viz_scratch.specs.Data.{DataRule}
+use Rattle.viz_node_rules.specs.declared.information.Information.{Information}
+use Rattle.viz_node_rules.specs.Information.{InformationRule}
+use Rattle.viz_node_rules.specs.Data.{DataRule}
 
 -- the first information fault; else what the data give
 abbrev pub IsBehind : Result Information Fault → Option Tree → Result Dataset Fault → Type 0

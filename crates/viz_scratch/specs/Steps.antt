@@ -1,3 +1,3 @@
 pub mod Table
 pub mod Readers
-pub mod Made
+pub mod Informed

@@ -5,19 +5,20 @@ ghost use Rattle.viz_legacy_read.specs.Reading.{IsSound};
 ghost use Rattle.viz_network.specs.Cone.{cone_of};
 ghost use Rattle.viz_network.specs.Network.{node_of};
 ghost use Rattle.viz_network.specs.Step.{AreSteps, nodes_of};
-ghost use Rattle.viz_scratch.specs.Data.{DataRule};
+ghost use Rattle.viz_node_rules.specs.Data.{DataRule};
 ghost use Rattle.viz_scratch.specs.Fold.{IsGiven};
-ghost use Rattle.viz_scratch.specs.Information.{InformationRule};
+ghost use Rattle.viz_node_rules.specs.Information.{InformationRule};
 ghost use Rattle.viz_scratch.specs.Scratch.{IsScratch, Answers};
-ghost use Rattle.viz_scratch.specs.Steps.Made.{IsInformedAs};
+ghost use Rattle.viz_scratch.specs.Steps.Informed.{IsInformedAs};
 
-use crate::datasets::{Held, data_pass};
+use crate::datasets::data_pass;
 use crate::headers::information_pass;
 use crate::readers::{last_readers, place_of};
 use std::alloc::{AllocError, Global};
 use viz_base::{NodeId, Shared};
 use viz_dataset::Dataset;
 use viz_network::{Fault, Net, Step, Stop};
+use viz_node_rules::Held;
 
 // The first information fault at or above a node, whose step stands at this place.
 fn information_fault(

@@ -3,17 +3,14 @@
 ghost use Rattle.std.specs.Prelude.{◌≡◌, IfOk, length, map};
 ghost use Rattle.viz_network.specs.Step.{AreSteps};
 ghost use Rattle.viz_scratch.specs.Fold.{IsMade};
-ghost use Rattle.viz_scratch.specs.Information.{IsHeaderOf, InformationRule};
-ghost use Rattle.viz_scratch.specs.Steps.Made.{Makes};
-ghost use Rattle.viz_scratch.specs.Steps.Table.{value_at, told, anything, always, IsTable};
+ghost use Rattle.viz_node_rules.specs.Information.{InformationRule};
+ghost use Rattle.viz_node_rules.specs.Places.{value_at};
+ghost use Rattle.viz_scratch.specs.Steps.Table.{told, anything, always, IsTable};
 
 use crate::gathered::fault_in;
-use crate::information::{Information, filtered, of_header};
-use crate::stop::OwnStop;
 use std::alloc::{AllocError, Global};
-use viz_kinds::Settings;
-use viz_legacy_read::header;
-use viz_network::{Cause, Fault, Net, Node, Step};
+use viz_network::{Fault, Net, Node, Step};
+use viz_node_rules::{Information, own_information};
 
 type Known = Option<Result<Information, Fault>>;
 
@@ -46,51 +43,18 @@ fn inputs_of(table: &[Known], places: &[Option<usize>; 8]) -> [Option<Informatio
     ]
 }
 
-fn of_file(node: &Node) -> Result<Information, Cause>
-    ensures { IsHeaderOf node.now.file result }
-{
-    let Some(file) = &node.file else {
-        return Err(Cause::NoFile);
-    };
-    match header(file.get().list()) {
-        Ok(info) => Ok(of_header(&info)),
-        Err(fault) => Err(Cause::BadFile(fault)),
-    }
-}
-
-fn own_information(node: &Node, inputs: &[Option<Information>; 8]) -> Result<Information, OwnStop>
-    ensures { Makes (InformationRule node.now inputs.now) result }
-{
-    match &node.settings {
-        Settings::File { .. } => Ok(of_file(node)?),
-        Settings::Tets
-        | Settings::Select { .. }
-        | Settings::Cut { .. }
-        | Settings::Append
-        | Settings::Boundary
-        | Settings::Merge => Err(OwnStop::Memory),
-        settings => Ok(filtered(settings, inputs)?),
-    }
-}
-
-fn known_of(
-    table: &[Known],
-    node: &Node,
-    places: &[Option<usize>; 8],
-) -> Result<Result<Information, Fault>, AllocError>
-    ensures { IfOk result (IsMade InformationRule node.now (told table.now places.now)) }
+fn known_of(table: &[Known], node: &Node, places: &[Option<usize>; 8]) -> Result<Information, Fault>
+    ensures { IsMade InformationRule node.now (told table.now places.now) result }
 {
     if let Some(fault) = fault_in(table, places) {
-        return Ok(Err(fault));
+        return Err(fault);
     }
-    let inputs = inputs_of(table, places);
-    match own_information(node, &inputs) {
-        Ok(information) => Ok(Ok(information)),
-        Err(OwnStop::Cause(cause)) => Ok(Err(Fault {
+    match own_information(node, &inputs_of(table, places)) {
+        Ok(information) => Ok(information),
+        Err(cause) => Err(Fault {
             node: node.id,
             cause,
-        })),
-        Err(OwnStop::Memory) => Err(AllocError),
+        }),
     }
 }
 
@@ -103,7 +67,7 @@ pub fn information_pass(alloc: Global, net: &Net, steps: &[Step]) -> Result<Vec<
     let mut table = Vec::with_capacity(alloc, steps.len())?;
     for step in steps {
         let node = net.node(step.node).unwrap();
-        let known = known_of(&table, node, &step.inputs)?;
+        let known = known_of(&table, node, &step.inputs);
         table.push(Some(known))?;
     }
     Ok(table)

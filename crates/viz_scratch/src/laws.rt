@@ -3,17 +3,15 @@
 
 ghost use Rattle.viz_scratch.specs.Laws.{ConesGiveOne, EqualStampsGiveOne, FilesAreOne};
 
-use viz_image_ops::parts_are_determined;
-use viz_legacy_read::files_are_definite;
 use viz_network::equal_stamps_are_equal_cones;
+use viz_node_rules::rules_are_one;
 
 /// What a node gives is one dataset or one fault, and depends on its cone alone; so is its file.
 pub fn scratch_is_one()
     ensures cones { ConesGiveOne }
     ensures files { FilesAreOne }
 {
-    files_are_definite();
-    parts_are_determined();
+    rules_are_one();
 }
 
 /// Where a node has equal stamps in the networks of a history and of a longer one, it gives the same

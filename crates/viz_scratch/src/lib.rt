@@ -3,20 +3,15 @@
 //!
 //! Contract: `scratch` gives the dataset of the definitions or its first fault, and `file_text` the
 //! text of the dataset or why there is none; equal cones give the same. Definitions:
-//! `specs/Scratch.antt`, `specs/Written.antt`; the rules are those of docs/FORMATS.md, "What a node
-//! gives".
+//! `specs/Scratch.antt`, `specs/Written.antt`, by the rules of `viz_node_rules`.
 #![tactic(auto)]
 
 mod datasets;
 mod evaluation;
-mod filters;
 mod gathered;
 mod headers;
-mod information;
 mod laws;
 mod readers;
-mod section;
-mod stop;
 mod written;
 
 pub use evaluation::scratch;

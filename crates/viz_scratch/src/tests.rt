@@ -430,3 +430,114 @@ fn numbers_that_are_too_wide(rt: HostRuntime) -> Result<(), Fail> {
     // The crop has a dataset, whose corner can't be written.
     faults(&rt, alloc, &story.net, "end", "end", Cause::TooWide)
 }
+
+// Filters of meshes, fed with what they don't take or with nothing.
+const UNFIT: [Plan; 22] = [
+    Add(Kind::File, "row"),
+    Load("row", ROW),
+    Add(Kind::File, "solid"),
+    Load("solid", SOLID),
+    Add(Kind::Tets, "t"),
+    Connect("solid", "t", 1),
+    Add(Kind::Tets, "no_t"),
+    Add(Kind::Select, "s"),
+    Connect("row", "s", 1),
+    Add(Kind::Select, "no_s"),
+    Add(Kind::Cut, "no_c"),
+    Add(Kind::Append, "a"),
+    Connect("row", "a", 7),
+    Connect("row", "a", 5),
+    Connect("solid", "a", 3),
+    Add(Kind::Append, "no_a"),
+    Add(Kind::Boundary, "b"),
+    Connect("row", "b", 1),
+    Add(Kind::Boundary, "no_b"),
+    Add(Kind::Merge, "m"),
+    Connect("row", "m", 1),
+    Add(Kind::Merge, "no_m"),
+];
+
+const UNFIT_CAUSES: [(&str, Cause); 11] = [
+    ("t", Cause::WrongInput(1)),
+    ("no_t", Cause::Unconnected(1)),
+    ("s", Cause::WrongInput(1)),
+    ("no_s", Cause::Unconnected(1)),
+    ("no_c", Cause::Unconnected(1)),
+    // An empty port is passed over, and the lowest port with an image is told.
+    ("a", Cause::WrongInput(5)),
+    ("no_a", Cause::Unconnected(1)),
+    ("b", Cause::WrongInput(1)),
+    ("no_b", Cause::Unconnected(1)),
+    ("m", Cause::WrongInput(1)),
+    ("no_m", Cause::Unconnected(1)),
+];
+
+#[test]
+fn filters_of_meshes_have_their_faults(rt: HostRuntime) -> Result<(), Fail> {
+    let alloc = rt.alloc();
+    let mut story = Story::new(alloc);
+    make(alloc, &mut story, &UNFIT)?;
+    for (node, cause) in &UNFIT_CAUSES {
+        faults(&rt, alloc, &story.net, node, node, *cause)?;
+    }
+    Ok(())
+}
+
+// A vertex at x = 1, and one at x = 2.
+const ONE: &str = "# vtk DataFile Version 3.0
+v
+ASCII
+DATASET POLYDATA
+POINTS 1 int
+1 0 0
+VERTICES 1 2
+1 0
+";
+
+const TWO: &str = "# vtk DataFile Version 3.0
+v
+ASCII
+DATASET POLYDATA
+POINTS 1 int
+2 0 0
+VERTICES 1 2
+1 0
+";
+
+// The greater port is connected first, and the ports between are left empty.
+const PORTS: [Plan; 9] = [
+    Add(Kind::File, "one"),
+    Load("one", ONE),
+    SetText("one", Param::Array, "-"),
+    Add(Kind::File, "two"),
+    Load("two", TWO),
+    SetText("two", Param::Array, "-"),
+    Add(Kind::Append, "both"),
+    Connect("two", "both", 8),
+    Connect("one", "both", 3),
+];
+
+const IN_PORT_ORDER: &str = "# vtk DataFile Version 3.0
+vizrun fixed 10^-3
+ASCII
+DATASET POLYDATA
+POINTS 2 long
+1000 0 0
+2000 0 0
+VERTICES 2 4
+1 0
+1 1
+POINT_DATA 2
+SCALARS scalars long 1
+LOOKUP_TABLE default
+0
+0
+";
+
+#[test]
+fn meshes_are_joined_by_their_ports(rt: HostRuntime) -> Result<(), Fail> {
+    let alloc = rt.alloc();
+    let mut story = Story::new(alloc);
+    make(alloc, &mut story, &PORTS)?;
+    gives(&rt, alloc, &story.net, "both", IN_PORT_ORDER)
+}

@@ -61,9 +61,10 @@ param_word param.Release = codes "release"
 abbrev pub commands : List Command
 commands = command.Add ∷ command.Remove ∷ command.Connect ∷ command.Disconnect ∷ command.Set ∷ command.Load ∷ command.Update ∷ command.Audit ∷ []
 
--- the kinds that are read; those that make or change meshes aren't yet, but for contours
+-- the kinds
 abbrev pub kinds : List Kind
-kinds = kind.File ∷ kind.Crop ∷ kind.Sample ∷ kind.Threshold ∷ kind.Smooth ∷ kind.Arith ∷ kind.Contour ∷ kind.Writer ∷ []
+kinds = kind.File ∷ kind.Crop ∷ kind.Sample ∷ kind.Threshold ∷ kind.Smooth ∷ kind.Arith ∷ kind.Tets ∷ kind.Select ∷ kind.Contour
+    ∷ kind.Cut ∷ kind.Append ∷ kind.Boundary ∷ kind.Merge ∷ kind.Writer ∷ []
 
 -- the parameters
 abbrev pub params : List Param

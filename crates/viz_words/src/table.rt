@@ -18,16 +18,21 @@ const COMMANDS: [Command; 8] = [
     Command::Audit,
 ];
 
-/// The kinds that are read. Those that make or change meshes aren't yet, but for contours: they are
-/// opened here and in `specs/Tables.antt`.
-const KINDS: [Kind; 8] = [
+/// The kinds.
+const KINDS: [Kind; 14] = [
     Kind::File,
     Kind::Crop,
     Kind::Sample,
     Kind::Threshold,
     Kind::Smooth,
     Kind::Arith,
+    Kind::Tets,
+    Kind::Select,
     Kind::Contour,
+    Kind::Cut,
+    Kind::Append,
+    Kind::Boundary,
+    Kind::Merge,
     Kind::Writer,
 ];
 

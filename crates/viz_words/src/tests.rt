@@ -57,7 +57,8 @@ fn words_are_found_in_their_tables(rt: HostRuntime) -> Result<(), Fail> {
         assert_eq!(rt; kind_named(kind_word(kind)), Some(kind));
     }
     assert_eq!(rt; kind_word(Kind::Boundary), b"boundary".as_slice());
-    assert_eq!(rt; kind_named(b"boundary"), None);
+    assert_eq!(rt; kind_named(b"boundary"), Some(Kind::Boundary));
+    assert_eq!(rt; kind_named(b"glyph"), None);
     assert_eq!(rt; param_named(b"form"), Some(Param::Style));
     assert_eq!(rt; param_word(Param::Bounds), b"box".as_slice());
     assert_eq!(rt; command_named(b"load"), Some(Command::Load));

@@ -6,32 +6,15 @@ use Rattle.viz_network.specs.declared.steps.Step.{Step}
 use Rattle.viz_network.specs.Cone.{cone_of}
 use Rattle.viz_network.specs.Network.{Network}
 use Rattle.viz_network.specs.Step.{nodes_of}
-use Rattle.viz_scratch.specs.Fold.{Inputs, NodeRule, IsGiven}
-
--- what each step gives; nothing where it isn't asked for, or was given up
-abbrev pub Table : Type 0 → Type 0
-Table X = List (Option (Result X Fault))
+use Rattle.viz_node_rules.specs.Places.{Table, entry_at, value_at, AreSoundIn}
+use Rattle.viz_node_rules.specs.Rules.{Inputs, NodeRule}
+use Rattle.viz_scratch.specs.Fold.{IsGiven}
 
 -- the fault that a place has
 abbrev pub fault_of : {X : Type 0} → Option (Result X Fault) → Option Fault
 fault_of (Some (Err fault)) = Some fault
 fault_of (Some (Ok x)) = None
 fault_of None = None
-
--- the value that a place has
-abbrev pub value_of : {X : Type 0} → Option (Result X Fault) → Option X
-value_of (Some (Ok x)) = Some x
-value_of (Some (Err fault)) = None
-value_of None = None
-
--- what a place has
-abbrev pub entry_at : {X : Type 0} → Table X → ℕ → Option (Result X Fault)
-entry_at table place = slice_index_or table place None
-
--- the value at a place that feeds a port
-abbrev pub value_at : {X : Type 0} → Table X → Option ℕ → Option X
-value_at table None = None
-value_at table (Some place) = value_of (entry_at table place)
 
 -- the first of two
 abbrev pub first_of : Option Fault → Option Fault → Option Fault
@@ -58,10 +41,6 @@ abbrev pub HasInputs : {X : Type 0} → Table X → List (Option ℕ) → Type 0
 HasInputs table [] = Unit {0}
 HasInputs table (None ∷ places) = HasInputs table places
 HasInputs {X} table (Some place ∷ places) = ((value : Result X Fault) × (slice_get table place ≡ Some (Some value))) × HasInputs table places
-
--- all values of the table are sound
-abbrev pub AreSoundIn : {X : Type 0} → (X → Type 0) → Table X → Type 0
-AreSoundIn {X} P table = (j : ℕ) (x : X) → slice_get table j ≡ Some (Some (Ok x)) → P x
 
 -- the table of the first k steps: what it has is given by the rule and sound, and it has what is needed from step k on
 pub record IsTable {X : Type 0} (rule : NodeRule X) (P : X → Type 0) (needs : ℕ → ℕ → Type 0) (net : Network) (steps : List Step) (k : ℕ) (table : Table X) : Type 0 where

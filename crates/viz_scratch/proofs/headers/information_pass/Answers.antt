@@ -5,7 +5,7 @@ use Rattle.viz_network.specs.declared.steps.Step.{Step}
 use Rattle.viz_network.specs.Step.{nodes_of}
 use Rattle.viz_network.specs.Network.{node_of}
 use Rattle.viz_scratch.specs.Fold.{IsMade}
-use Rattle.viz_scratch.specs.Information.{InformationRule}
+use Rattle.viz_node_rules.specs.Information.{InformationRule}
 use Rattle.viz_scratch.specs.Steps.Table.{IsTable, anything, always, told}
 use Rattle.viz_scratch.proofs.TableLemmas.{lent_there, has_always, more_table}
 use Rattle.viz_scratch.proofs.headers.information_pass.Goals as goal
@@ -29,8 +29,8 @@ loop-step-preserved c =
     let found = sym c.node.ensures ∙ ap option_copied is in
     let known = c.loop-step.invariant.table in
     let has = has_always InformationRule anything net steps (nodes_of steps) k table known step.node.inputs s.inputs step.fed in
-    let made = subst (λ t. IsMade InformationRule c.unwrap-node.result.now (told t s.inputs) c.in_ok-known.known) c.deref.ensures.value c.in_ok-known.ensures in
+    let made = subst (λ t. IsMade InformationRule c.unwrap-node.result.now (told t s.inputs) c.known_of-known.result) c.deref.ensures.value c.known_of-known.ensures in
     record {
       table = subst (IsTable InformationRule anything always net steps (k + 1)) (sym c.in_ok-push.ensures.items)
-          (more_table InformationRule anything always net steps c.requires (λ j q n. tt) k table known s at has c.unwrap-node.result.now found c.in_ok-known.known made (λ x e. tt));
+          (more_table InformationRule anything always net steps c.requires (λ j q n. tt) k table known s at has c.unwrap-node.result.now found c.known_of-known.result made (λ x e. tt));
     }

@@ -1,5 +1,5 @@
 use Rattle.viz_network.proofs.EightLemmas.{each_of_eight}
-use Rattle.viz_scratch.specs.Steps.Table.{value_at}
+use Rattle.viz_node_rules.specs.Places.{value_at}
 use Rattle.viz_scratch.proofs.headers.inputs_of.Goals as goal
 
 pub returns : goal.returns

@@ -1,5 +1,0 @@
-use Rattle.viz_scratch.proofs.SectionLemmas.{made_fit}
-use Rattle.viz_scratch.proofs.section.mesh_contours.Goals as goal
-
-pub returns-clause-fits : goal.returns-clause-fits
-returns-clause-fits c = made_fit c.sections.result _ c.args.sheets.now c.sections.ensures.value c.sections_fit.ensures
