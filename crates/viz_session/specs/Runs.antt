@@ -44,9 +44,10 @@ module _ {P O : Type 0} (m : port.Ghosts P) (o : out.Ghosts O) (words : List (Li
   IsRefused (Some (Scratch c)) = replay_promises.IsRefused m o c desk new_desk old new before after
   IsRefused None = once_promises.IsRefused m o (once.command_of words) old new before after
 
-  -- where a cause of a refusal holds, and the words are of one file, it is told
+  -- where a cause of a refusal holds, of a script, a journal or a file, it is told
   abbrev pub Refuses : Option Command → Status → Type 0
-  Refuses (Some c) ended = Unit {0}
+  Refuses (Some (Script script journal)) ended = script_promises.TellsRefusals m o script desk new_desk old new before after ended
+  Refuses (Some (Scratch c)) ended = replay_promises.TellsRefusals m o c desk new_desk old new before after ended
   Refuses None ended = once_promises.TellsCauses m o (once.command_of words) old new before after ended
 
   -- a run that answers Script: the script or journal is refused, or there is no port
