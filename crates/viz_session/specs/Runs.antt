@@ -7,6 +7,7 @@ use Rattle.viz_once.specs.Command as once
 use Rattle.viz_once.specs.Promises as once_promises
 use Rattle.viz_once.specs.declared.outcome.Status.{Status}
 use Rattle.viz_once.specs.declared.outcome.Status.TheVariants as status
+use Rattle.viz_once_history.specs.Account as history
 use Rattle.viz_replay.specs.Promises as replay_promises
 use Rattle.viz_replay.specs.Replay as replay
 use Rattle.viz_replay.specs.Served.{replay_of}
@@ -31,6 +32,11 @@ module _ {P O : Type 0} (m : port.Ghosts P) (o : out.Ghosts O) (words : List (Li
   IsRun (Some (Script script journal)) ended = (ran : Ran) × deeds.IsRan m script journal ran desk new_desk old new × script_told.IsTold o ran ended before after
   IsRun (Some (Scratch c)) ended = (came : Came) × replay.IsRan m c came desk new_desk old new × replay_told.IsTold o came ended before after
   IsRun None ended = once_account.IsRun m o words old new before after ended × (new_desk ≡ desk)
+
+  -- a run of a command of one file is accounted for by the fixed history of that command
+  abbrev pub IsByHistory : Option Command → Status → Type 0
+  IsByHistory (Some c) ended = Unit {0}
+  IsByHistory None ended = history.IsOnceAccount m o words old new before after ended
 
   -- a run that answers Done
   abbrev pub IsDone : Option Command → Type 0
