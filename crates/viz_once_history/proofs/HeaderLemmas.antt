@@ -8,11 +8,10 @@ use Rattle.viz_dataset.specs.declared.dataset.Dataset.{Dataset}
 use Rattle.viz_dataset.specs.declared.dataset.Dataset.TheVariants as dataset
 use Rattle.viz_extent.specs.Extent.{Bounds}
 use Rattle.viz_legacy_read.specs.File.{contents}
-use Rattle.viz_legacy_read.specs.Header.{Header, Heading, header, header_line, header_of, image_header, behind_preamble, is_image, Line, Sizes, Origin, Spacing_of, Geometry, no_line, with_line, geometry_of, whole_of, all_of, sizes, origin, spacing, behind}
+use Rattle.viz_legacy_read.specs.Header.{Header, Heading, header, header_line, header_of, image_header, is_image, Line, Sizes, Origin, Spacing_of, Geometry, no_line, with_line, geometry_of, whole_of, all_of, sizes, origin, spacing, behind}
 use Rattle.viz_legacy_read.specs.Header.Heading.{OfImage, OfMesh}
 use Rattle.viz_legacy_read.specs.ImageFile.{image_of}
 use Rattle.viz_legacy_read.specs.Reading.{front, Reads, ReadsHeader, IsMeshFile}
-use Rattle.viz_legacy_read.specs.declared.front.Preamble.{Preamble}
 use Rattle.viz_lex.specs.Decimals.{in_limit, limited, decimal_of}
 use Rattle.viz_lex.specs.Items.{decimal, decimal_from}
 use Rattle.viz_lex.specs.Reading.{Reading}
@@ -148,14 +147,16 @@ image_header_limits binary old new h is =
     let start : IsGood no_line = record { whole = tt; origin = tt } in
     subst HasLimits (sym is.3.1) (header_limits binary (geometry_of is.0) (all_good no_line is.0 start lines))
 
-behind_limits : (p : Preamble) (b : Bool) (old new : Reading) (h : Header) → (choose b (image_header p.binary >>= λ h. gives (OfImage h)) (gives (OfMesh p))).is old new (OfImage h) → HasLimits h
-behind_limits p true old new h is =
+behind_limits : (binary b : Bool) (other : Heading) (old new : Reading) (h : Header) → (OfImage h ≡ other → ⊥)
+    → (choose b (image_header binary >>= λ h. gives (OfImage h)) (gives other)).is old new (OfImage h) → HasLimits h
+behind_limits binary true other old new h apart is =
     let same : h ≡ is.0 = (let e : OfImage h ≡ OfImage is.0 = is.3.1 in cc) in
-    subst HasLimits (sym same) (image_header_limits p.binary old is.1 is.0 is.2)
-behind_limits p false old new h is = absurd (let bad : OfImage h ≡ OfMesh p = is.1 in cc)
+    subst HasLimits (sym same) (image_header_limits binary old is.1 is.0 is.2)
+behind_limits binary false other old new h apart is = absurd (apart is.1)
 
 heading_limits : (old new : Reading) (h : Header) → header.is old new (OfImage h) → HasLimits h
-heading_limits old new h is = behind_limits is.0 (is_image is.0) is.1 new h is.3
+heading_limits old new h is =
+    behind_limits is.0.binary (is_image is.0) (OfMesh is.0) is.1 new h (λ e. (let bad : OfImage h ≡ OfMesh is.0 = e in cc)) is.3
 
 -- ---- the lowest corner of a file's image
 
