@@ -126,6 +126,10 @@ asked_is_one : (journal : List ℕ) (found : Option ReadAnswer) (answer : ReadAn
 asked_is_one journal None answer e = absurd cc
 asked_is_one journal (Some other) answer e = cc
 
+-- a refusal is one
+same_refusal : {X : Type 0} (a b : ℕ × ScriptRefusal) (x : Result X (ℕ × ScriptRefusal)) → x ≡ Err a → x ≡ Err b → a ≡ b
+same_refusal {X} a b x e f = (let both : (let o : Result X (ℕ × ScriptRefusal) = Err a in o) ≡ Err b = sym e ∙ f in cc)
+
 module _ {P : Type 0} (m : port.Ghosts P) (c : Replay) (old new : List P) where
   -- a run whose journal is refused so, or that ran out of memory
   abbrev EndsRefused : ℕ → ScriptRefusal → Came → Type 0
@@ -139,10 +143,7 @@ module _ {P : Type 0} (m : port.Ghosts P) (c : Replay) (old new : List P) where
   refused_or_memory (read.TooLong taken) line why (came.Updated l) is h = absurd h
   refused_or_memory (read.TooLong taken) line why came.Memory is h = absurd h
   refused_or_memory (read.Given bytes) line why (came.Refused l r) is h =
-      let same : Err (l, r) ≡ Err (line, why) = sym h.0 ∙ is in
-      let lines : l ≡ line = cc in
-      let whys : r ≡ why = cc in
-      (h.1, inr (ap₂ came.Refused lines whys))
+      (h.1, inr (ap (λ (x : ℕ × ScriptRefusal). came.Refused x.0 x.1) (same_refusal (l, r) (line, why) (journal_of bytes) h.0 is)))
   refused_or_memory (read.Given bytes) line why came.Memory is h = (h, inl refl)
   refused_or_memory (read.Given bytes) line why (came.Updated l) is h = absurd (let bad : Ok h.0 ≡ Err (line, why) = sym h.1 ∙ is in cc)
   refused_or_memory (read.Given bytes) line why came.NoPort is h = absurd h

@@ -23,6 +23,7 @@ use Rattle.viz_once.specs.Promises.{GainsLine, PutsLine}
 use Rattle.viz_once.specs.declared.outcome.Status.{Status}
 use Rattle.viz_once.specs.declared.outcome.Status.TheVariants as status
 use Rattle.viz_script.specs.Orders.{Asked as Command}
+use Rattle.viz_script.specs.Script.{script_of}
 use Rattle.viz_words.specs.declared.refusal.ScriptRefusal.{ScriptRefusal}
 use Rattle.viz_report.specs.declared.line.Line.{Line}
 use Rattle.viz_report.specs.declared.line.Line.TheVariants as line
@@ -174,6 +175,10 @@ asked_deed script journal Nothing answer e = absurd cc
 asked_deed script journal (Asked other) answer e = cc
 asked_deed script journal (Kept bytes text other) answer e = absurd cc
 
+-- a refusal is one
+same_refusal : {X : Type 0} (a b : ℕ × ScriptRefusal) (x : Result X (ℕ × ScriptRefusal)) → x ≡ Err a → x ≡ Err b → a ≡ b
+same_refusal {X} a b x e f = (let both : (let o : Result X (ℕ × ScriptRefusal) = Err a in o) ≡ Err b = sym e ∙ f in cc)
+
 module _ {P : Type 0} (m : port.Ghosts P) (old new : List P) where
   -- a run whose script is refused so, or that ran out of memory
   abbrev EndsRefused : ℕ → ScriptRefusal → Ran → Type 0
@@ -187,10 +192,7 @@ module _ {P : Type 0} (m : port.Ghosts P) (old new : List P) where
   refused_or_memory (read.TooLong taken) line why (ran.Served lines kept) is h = absurd h
   refused_or_memory (read.TooLong taken) line why ran.Memory is h = absurd h
   refused_or_memory (read.Given bytes) line why (ran.Refused l r) is h =
-      let same : Err (l, r) ≡ Err (line, why) = sym h.0 ∙ is in
-      let lines : l ≡ line = cc in
-      let whys : r ≡ why = cc in
-      (h.1, inr (ap₂ ran.Refused lines whys))
+      (h.1, inr (ap (λ (x : ℕ × ScriptRefusal). ran.Refused x.0 x.1) (same_refusal (l, r) (line, why) (script_of (actors_over old) bytes) h.0 is)))
   refused_or_memory (read.Given bytes) line why ran.Memory is h = (unserved h, inl refl)
     where
       unserved : (new ≡ old) ⊎ IsServed m bytes old new → new ≡ old
