@@ -7,6 +7,8 @@ use Rattle.viz_base.specs.declared.call.WriteAnswer.{WriteAnswer}
 use Rattle.viz_base.specs.declared.call.WriteAnswer.TheVariants as write
 use Rattle.viz_once.specs.Promises.{FirstOnly, GainsLine, PutsLine}
 use Rattle.viz_once.specs.Report.{no_port_line, write_fault_line}
+use Rattle.viz_once.specs.declared.outcome.Status.{Status}
+use Rattle.viz_once.specs.declared.outcome.Status.TheVariants as status
 use Rattle.viz_make.specs.declared.came.Came.TheVariants as came
 use Rattle.viz_make.specs.declared.made.Made.{Made}
 use Rattle.viz_make.specs.Make.{Make, IsMade, IsAnswered}
@@ -29,6 +31,10 @@ IsDone m o c old new before after =
 -- a run that answers Script: there is no port
 abbrev pub IsScript : {P O : Type 0} → port.Ghosts P → out.Ghosts O → List P → List P → O → O → Type 0
 IsScript m o old new before after = (old ≡ []) × (new ≡ []) × PutsLine o no_port_line before after
+
+-- where there is no port, Script comes, unless memory ran out
+abbrev pub TellsRefusals : {P : Type 0} → List P → Status → Type 0
+TellsRefusals old ended = old ≡ [] → (ended ≡ status.Script) ⊎ (ended ≡ status.Memory)
 
 -- a run that answers Fault: the write of the volume failed, and that was told; or the put failed
 abbrev pub IsFault : {P O : Type 0} → port.Ghosts P → out.Ghosts O → Make → List P → List P → O → O → Type 0

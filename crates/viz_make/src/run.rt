@@ -4,7 +4,7 @@ ghost use Rattle.std.specs.Prelude.{◌≡◌, ◌≢◌, ◌⊎◌};
 ghost use Rattle.viz_base.specs.Faults.{Rose, one_more};
 ghost use Rattle.viz_make.specs.declared.came.Came.{Came as End};
 ghost use Rattle.viz_make.specs.Make.{IsRan};
-ghost use Rattle.viz_make.specs.Promises.{IsDone, IsFault, IsScript};
+ghost use Rattle.viz_make.specs.Promises.{IsDone, IsFault, IsScript, TellsRefusals};
 ghost use Rattle.viz_make.specs.Told.{IsTold};
 ghost use Rattle.viz_make.specs.Views.{make_of};
 ghost use Rattle.viz_once.specs.Promises.{FirstRose, OthersStay};
@@ -33,6 +33,7 @@ pub fn run_make<P: Port, O: Out>(
     // What follows of it for each status.
     ensures script { result ≡ Status.Script → IsScript P.Port O.Out
         ports.old.items ports.new.items out.old out.new }
+    ensures refuses { TellsRefusals ports.old.items result }
     ensures done { result ≡ Status.Done → IsDone P.Port O.Out (make_of command.now)
         ports.old.items ports.new.items out.old out.new }
     ensures fault { result ≡ Status.Fault → IsFault P.Port O.Out (make_of command.now)

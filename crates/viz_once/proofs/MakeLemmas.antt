@@ -43,6 +43,6 @@ cause_of filter bytes d TooMany is refused = (d, is.reads, is.takes, refused)
 
 -- what is made of the dataset of bytes is made of these
 pub makes_of : (filter : Filter) (bytes : List ℕ) (d : Dataset) (result : Result Made MakeStop) → IsTaken filter bytes d → MakesOf filter d result → Makes filter bytes result
-makes_of filter bytes d (Ok made) is makes = (d, is.reads, makes)
+makes_of filter bytes d (Ok made) is makes = (d, is.reads, is.sound, makes)
 makes_of filter bytes d (Err (Refused cause)) is makes = cause_of filter bytes d cause is makes
 makes_of filter bytes d (Err Memory) is makes = tt

@@ -14,6 +14,7 @@ use Rattle.viz_base.specs.declared.call.WriteAnswer.TheVariants as write
 use Rattle.viz_base.specs.declared.refusal.WriteRefusal.{WriteRefusal}
 use Rattle.viz_base.specs.declared.refusal.WriteRefusal.TheVariants as writing
 use Rattle.viz_dataset.specs.declared.dataset.Dataset.{Dataset}
+use Rattle.viz_legacy_read.specs.Reading.{IsSound}
 use Rattle.viz_once.specs.declared.outcome.Cause.{Cause}
 use Rattle.viz_once.specs.declared.outcome.Failed.TheVariants as call
 use Rattle.viz_once.specs.declared.outcome.Outcome.{Outcome}
@@ -72,10 +73,11 @@ pub record IsDoneAt {P : Type 0} (m : port.Ghosts P) (c : Command) (deed : Deed)
 
 -- ---- outcomes
 
--- the bytes are a file of this dataset, which the filter accepts
+-- the bytes are a file of this dataset, which the filter accepts and which keeps the rule of its type
 pub record IsInput (c : Command) (bytes : List ℕ) (d : Dataset) : Type 0 where
   pub reads : ReadsFile bytes d
   pub accepts : Accepts c.filter d
+  pub sound : IsSound d
 
 -- a command is refused for a cause
 abbrev pub Refuses : Command → ReadAnswer → Outcome → Type 0

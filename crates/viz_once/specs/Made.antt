@@ -70,7 +70,7 @@ pub record IsTaken (filter : Filter) (bytes : List ℕ) (d : Dataset) : Type 0 w
 
 -- what is made of the bytes' dataset, or why the bytes are refused, unless memory ran out
 abbrev pub Makes : Filter → List ℕ → Result Made MakeStop → Type 0
-Makes filter bytes (Ok made) = (d : Dataset) × ReadsFile bytes d × IsMadeOf filter d made
+Makes filter bytes (Ok made) = (d : Dataset) × ReadsFile bytes d × IsSound d × IsMadeOf filter d made
 Makes filter bytes (Err stop) = IsStopOf filter bytes stop
 
 -- a count, or the greatest number of 64 bits where that is less

@@ -1,9 +1,12 @@
 -- The promises of a run of a journal's prefix, from its account.
-use Rattle.std.proofs.Common.{◌≡◌, ◌≢◌, ℕ, ◌+◌, ◌≤◌, List, [], ◌∷◌, Option, None, Some, Result, Ok, Err, refl, sym, ap, subst, ◌∙◌, inl, inr, arith}
-use Rattle.std.specs.Prelude.{◌⊎◌}
+use Rattle.std.proofs.Common.{◌≡◌, ◌≢◌, ℕ, ◌+◌, ◌≤◌, List, [], ◌∷◌, Option, None, Some, Result, Ok, Err, refl, sym, ap, ap₂, subst, ◌∙◌, inl, inr, arith}
+use Rattle.std.specs.Prelude.{◌⊎◌, ◌++◌, IsTrue}
+use Rattle.std.proofs.lemmas.List.{append_cancel_left}
 use Rattle.viz_base.specs.Faults.{Rose}
 use Rattle.viz_base.specs.declared.port.Port as port
 use Rattle.viz_base.specs.declared.out.Out as out
+use Rattle.viz_base.specs.declared.call.Call.{Call}
+use Rattle.viz_base.specs.declared.call.Call.TheVariants.{Read}
 use Rattle.viz_base.specs.declared.call.ReadAnswer.{ReadAnswer}
 use Rattle.viz_base.specs.declared.call.ReadAnswer.TheVariants as read
 use Rattle.viz_base.specs.declared.refusal.WriteRefusal.{WriteRefusal}
@@ -11,6 +14,7 @@ use Rattle.viz_base.specs.declared.refusal.WriteRefusal.TheVariants as writing
 use Rattle.viz_journal.specs.declared.entry.JournalEntry.{JournalEntry}
 use Rattle.viz_journal.specs.Reading.{journal_of}
 use Rattle.viz_once.specs.Promises.{FirstOnly, FirstRose, OthersStay, GainsLine, PutsLine}
+use Rattle.viz_once.specs.Report.{no_port_line}
 use Rattle.viz_once.specs.declared.outcome.Status.{Status}
 use Rattle.viz_once.specs.declared.outcome.Status.TheVariants as status
 use Rattle.viz_words.specs.declared.refusal.ScriptRefusal.{ScriptRefusal}
@@ -18,13 +22,14 @@ use Rattle.viz_report.specs.declared.line.Line.{Line}
 use Rattle.viz_report.specs.declared.line.Line.TheVariants as line
 use Rattle.viz_report.specs.declared.line.Reason.{Reason}
 use Rattle.viz_account.specs.Account.{faults_told, RoseBy}
-use Rattle.viz_script_run.specs.Told.{IsPut}
+use Rattle.viz_script_run.specs.Promises.{EndsInScript}
+use Rattle.viz_script_run.specs.Told.{refused_script, IsPut}
 use Rattle.viz_script_run.proofs.RunLemmas.{gains, puts, rose_by}
 use Rattle.viz_replay.specs.declared.came.Came.{Came}
 use Rattle.viz_replay.specs.declared.came.Came.TheVariants as came
-use Rattle.viz_replay.specs.Replay.{Replay, IsAsked, IsRefusal, IsUpdated, EndsIn, IsRan}
+use Rattle.viz_replay.specs.Replay.{Replay, asked, IsAsked, IsRefusal, IsUpdated, EndsIn, IsRan}
 use Rattle.viz_replay.specs.Told.{line_of, update_status, status_of, fault_over, status_after, Settles, IsTold}
-use Rattle.viz_replay.specs.Promises.{IsUpdatedFrom, IsDone, IsRefused, IsScript, IsFault}
+use Rattle.viz_replay.specs.Promises.{IsUpdatedFrom, IsDone, IsRefused, IsScript, TellsRefusals, IsFault}
 
 abbrev pub Answer : Type 0
 Answer = Result (Unit {0}) WriteRefusal
@@ -116,6 +121,55 @@ module _ {P : Type 0} (m : port.Ghosts P) (c : Replay) (old new : List P) where
 as_line : {O : Type 0} (m : out.Ghosts O) (told c : Came) (a : Answer) (old new : O) → told ≡ c → IsPut m (line_of told) a old new → IsPut m (line_of c) a old new
 as_line m told c a old new is put = subst (λ (x : Came). IsPut m (line_of x) a old new) is put
 
+-- ---- where a journal is refused
+
+-- a read of this answer is the only call
+asked_is_one : (journal : List ℕ) (found : Option ReadAnswer) (answer : ReadAnswer) → asked journal found ≡ Read journal answer ∷ [] → found ≡ Some answer
+asked_is_one journal None answer e = absurd cc
+asked_is_one journal (Some other) answer e = cc
+
+-- a refusal is one
+same_refusal : {X : Type 0} (a b : ℕ × ScriptRefusal) (x : Result X (ℕ × ScriptRefusal)) → x ≡ Err a → x ≡ Err b → a ≡ b
+same_refusal {X} a b x e f = (let both : (let o : Result X (ℕ × ScriptRefusal) = Err a in o) ≡ Err b = sym e ∙ f in cc)
+
+module _ {P : Type 0} (m : port.Ghosts P) (c : Replay) (old new : List P) where
+  -- a run whose journal is refused so, or that ran out of memory
+  abbrev EndsRefused : ℕ → ScriptRefusal → Came → Type 0
+  EndsRefused line why found = (new ≡ old) × ((found ≡ came.Memory) ⊎ (found ≡ came.Refused line why))
+
+  refused_or_memory : (answer : ReadAnswer) (line : ℕ) (why : ScriptRefusal) (found : Came) → IsRefusal answer line why → EndsIn m c (Some answer) found old new → EndsRefused line why found
+  refused_or_memory read.Failed line why found is h = absurd is
+  refused_or_memory (read.TooLong taken) line why (came.Refused l r) is h = (h.1, inr (ap₂ came.Refused (h.0.0 ∙ sym is.0) (h.0.1 ∙ sym is.1)))
+  refused_or_memory (read.TooLong taken) line why came.NoPort is h = absurd h
+  refused_or_memory (read.TooLong taken) line why came.Unread is h = absurd h
+  refused_or_memory (read.TooLong taken) line why (came.Updated l) is h = absurd h
+  refused_or_memory (read.TooLong taken) line why came.Memory is h = absurd h
+  refused_or_memory (read.Given bytes) line why (came.Refused l r) is h =
+      (h.1, inr (ap (λ (x : ℕ × ScriptRefusal). came.Refused x.0 x.1) (same_refusal (l, r) (line, why) (journal_of bytes) h.0 is)))
+  refused_or_memory (read.Given bytes) line why came.Memory is h = (h, inl refl)
+  refused_or_memory (read.Given bytes) line why (came.Updated l) is h = absurd (let bad : Ok h.0 ≡ Err (line, why) = sym h.1 ∙ is in cc)
+  refused_or_memory (read.Given bytes) line why came.NoPort is h = absurd h
+  refused_or_memory (read.Given bytes) line why came.Unread is h = absurd h
+
+module _ {O : Type 0} (o : out.Ghosts O) (old new : O) where
+  -- the status of a put that tells this, or that memory ran out
+  script_by : (c : Came) (a : Answer) (ended : Status) → status_of c ≡ status.Script → ended ≡ status_after c a → IsPut o (line_of c) a old new → EndsInScript o (line_of c) old new ended
+  script_by c (Ok done) ended is e put = inl (e ∙ is, puts o (line_of c) old new (Ok done) put)
+  script_by c (Err writing.Failed) ended is e put = inl (e ∙ ap fault_over is, puts o (line_of c) old new (Err writing.Failed) put)
+  script_by c (Err writing.Memory) ended is e put = inr e
+
+  memory_by : (text : List ℕ) (a : Answer) (ended : Status) → ended ≡ status_after came.Memory a → EndsInScript o text old new ended
+  memory_by text (Ok done) ended e = inr e
+  memory_by text (Err writing.Failed) ended e = inr e
+  memory_by text (Err writing.Memory) ended e = inr e
+
+  script_ends : (c : Came) (found told : Came) (a : Answer) (ended : Status) → status_of c ≡ status.Script → (found ≡ came.Memory) ⊎ (found ≡ c) → Settles found told
+      → ended ≡ status_after told a → IsPut o (line_of told) a old new → EndsInScript o (line_of c) old new ended
+  script_ends c found told a ended is (inl memory) (inl same) e put = memory_by (line_of c) a ended (subst (λ (r : Came). ended ≡ status_after r a) (same ∙ memory) e)
+  script_ends c found told a ended is (inr refused) (inl same) e put =
+      script_by c a ended is (subst (λ (r : Came). ended ≡ status_after r a) (same ∙ refused) e) (as_line o told c a old new (same ∙ refused) put)
+  script_ends c found told a ended is which (inr memory) e put = memory_by (line_of c) a ended (subst (λ (r : Came). ended ≡ status_after r a) memory e)
+
 -- ---- the promises
 
 module _ {P O : Type 0} (m : port.Ghosts P) (o : out.Ghosts O) (c : Replay) (desk new_desk : P) (old new : List P) (before after : O) (ended : Status)
@@ -160,6 +214,16 @@ module _ {P O : Type 0} (m : port.Ghosts P) (o : out.Ghosts O) (c : Replay) (des
         let d = refused_journal m c old new ran.0 t.0 t.1 (ends_in (came.Refused t.0 t.1) f) in
         inr (d.0, t.0, t.1, d.2, d.3, asked_is (Some d.0) d.1, puts o (line_of (came.Refused t.0 t.1)) before after telling.1 (line_put (came.Refused t.0 t.1) t.2))
   ]
+
+  pub tells_refusals : (old ≡ [] → found ≡ came.NoPort) → TellsRefusals m o c desk new_desk old new before after ended
+  tells_refusals none = record {
+    no_port = λ e. script_ends o before after came.NoPort found telling.0 telling.1 ended refl (inr (none e)) telling.2 telling.3 telling.4;
+    journal = λ answer line why is tells one.
+        let same = append_cancel_left (m.calls desk) (asked c.journal ran.0) (Read c.journal answer ∷ []) (sym (ran.2.calls tells) ∙ one) in
+        let read_is = asked_is_one c.journal ran.0 answer same in
+        let f = refused_or_memory m c old new answer line why found is (subst (λ (a : Option ReadAnswer). EndsIn m c a found old new) read_is ran.1) in
+        (f.0, script_ends o before after (came.Refused line why) found telling.0 telling.1 ended refl f.1 telling.2 telling.3 telling.4);
+  }
 
   pub fault : ended ≡ status.Fault → IsFault m o c desk new_desk old new before after
   fault is = elim (told_at telling.0 telling.1 ended status.Fault telling.3 is) [

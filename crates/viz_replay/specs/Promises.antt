@@ -1,5 +1,5 @@
 -- What a run of a journal's prefix promises of its status, its line, its calls and the files (docs/FORMATS.md, "Report").
-use Rattle.std.specs.Prelude.{◌≡◌, ℕ, List, [], ◌⊎◌, Option, None, Some, Ok}
+use Rattle.std.specs.Prelude.{◌≡◌, ℕ, List, [], ◌⊎◌, Option, None, Some, Ok, IsTrue}
 use Rattle.viz_base.specs.Faults.{Rose}
 use Rattle.viz_base.specs.declared.port.Port as port
 use Rattle.viz_base.specs.declared.out.Out as out
@@ -9,10 +9,12 @@ use Rattle.viz_journal.specs.declared.entry.JournalEntry.{JournalEntry}
 use Rattle.viz_journal.specs.Reading.{journal_of}
 use Rattle.viz_once.specs.Promises.{GainsLine, PutsLine}
 use Rattle.viz_once.specs.Report.{no_port_line, read_fault_line, write_fault_line}
+use Rattle.viz_once.specs.declared.outcome.Status.{Status}
 use Rattle.viz_report.specs.declared.line.Line.{Line}
 use Rattle.viz_report.specs.declared.line.Line.TheVariants as line
 use Rattle.viz_report.specs.declared.line.Reason.{Reason}
 use Rattle.viz_words.specs.declared.refusal.ScriptRefusal.{ScriptRefusal}
+use Rattle.viz_script_run.specs.Promises.{DeskAnswered, EndsInScript}
 use Rattle.viz_script_run.specs.Told.{refused_script}
 use Rattle.viz_replay.specs.Replay.{Replay, IsAsked, IsRefusal, IsUpdated, entries_at}
 use Rattle.viz_replay.specs.Told.{file_line, refused_line}
@@ -40,6 +42,13 @@ IsScript m o c desk new_desk old new before after =
     ((old ≡ []) × (new ≡ []) × IsAsked m c.journal None desk new_desk × PutsLine o no_port_line before after)
     ⊎ ((answer : ReadAnswer) × (n : ℕ) × (r : ScriptRefusal) × IsRefusal answer n r × (new ≡ old)
     × IsAsked m c.journal (Some answer) desk new_desk × PutsLine o (refused_script n r) before after)
+
+-- where there is no port that is told; and where the journal's read was answered so, and the desk was asked for nothing else, a refusal of it is; no port was called
+pub record TellsRefusals {P O : Type 0} (m : port.Ghosts P) (o : out.Ghosts O) (c : Replay) (desk new_desk : P) (old new : List P)
+    (before after : O) (ended : Status) : Type 0 where
+  pub no_port : old ≡ [] → EndsInScript o no_port_line before after ended
+  pub journal : (answer : ReadAnswer) (line : ℕ) (r : ScriptRefusal) → IsRefusal answer line r → IsTrue m.tells_calls
+      → DeskAnswered m c.journal answer desk new_desk → (new ≡ old) × EndsInScript o (refused_script line r) before after ended
 
 -- a run that answers Fault: the read of the journal failed, or the write of the file, and that was told; or the put failed
 abbrev pub IsFault : {P O : Type 0} → port.Ghosts P → out.Ghosts O → Replay → P → P → List P → List P → O → O → Type 0

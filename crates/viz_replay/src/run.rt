@@ -4,7 +4,7 @@ ghost use Rattle.std.specs.Prelude.{◌≡◌, ◌≢◌, ◌⊎◌};
 ghost use Rattle.viz_base.specs.Faults.{Rose, one_more};
 ghost use Rattle.viz_once.specs.Promises.{FirstRose, OthersStay};
 ghost use Rattle.viz_replay.specs.declared.came.Came.{Came as End};
-ghost use Rattle.viz_replay.specs.Promises.{IsDone, IsRefused, IsFault, IsScript};
+ghost use Rattle.viz_replay.specs.Promises.{IsDone, IsRefused, IsFault, IsScript, TellsRefusals};
 ghost use Rattle.viz_replay.specs.Replay.{IsRan};
 ghost use Rattle.viz_replay.specs.Served.{replay_of};
 ghost use Rattle.viz_replay.specs.Told.{IsTold};
@@ -33,6 +33,8 @@ pub fn run_scratch<P: Port, O: Out>(
     // What follows of it for each status.
     ensures script { result ≡ Status.Script → IsScript P.Port O.Out (replay_of command.now)
         desk.old desk.new ports.old.items ports.new.items out.old out.new }
+    ensures refuses { TellsRefusals P.Port O.Out (replay_of command.now) desk.old desk.new
+        ports.old.items ports.new.items out.old out.new result }
     ensures done { result ≡ Status.Done → IsDone P.Port O.Out (replay_of command.now)
         desk.old desk.new ports.old.items ports.new.items out.old out.new }
     ensures refused { result ≡ Status.Refused → IsRefused P.Port O.Out (replay_of command.now)

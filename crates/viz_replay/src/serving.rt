@@ -1,6 +1,6 @@
 //! A journal read, and its sink updated.
 
-ghost use Rattle.std.specs.Prelude.{◌≡◌, min, length, Ok};
+ghost use Rattle.std.specs.Prelude.{◌≡◌, min, length, [], Ok};
 ghost use Rattle.viz_journal.specs.Reading.{journal_of};
 ghost use Rattle.viz_replay.specs.Replay.{EndsIn, IsRan, IsUpdated, entries_at};
 ghost use Rattle.viz_replay.specs.Served.{replay_of, IsServed};
@@ -59,9 +59,6 @@ fn serve_entries<P: Port>(
 fn serve_over<P: Port>(alloc: Global, command: &Replay<'_>, desk: &mut P, ports: &mut [P]) -> Came
     ensures { IsRan P.Port (replay_of command.now) result desk.old desk.new ports.old ports.new }
 {
-    if ports.is_empty() {
-        return Came::NoPort;
-    }
     let bytes = match desk.read(alloc, command.journal) {
         Ok(bytes) => bytes,
         Err(ReadRefusal::Failed) => return Came::Unread,
@@ -83,10 +80,14 @@ fn serve_over<P: Port>(alloc: Global, command: &Replay<'_>, desk: &mut P, ports:
     }
 }
 
-/// The same over the list of ports.
+/// The same over the list of ports. Where there is no port the desk isn't used.
 pub fn serve<P: Port>(alloc: Global, command: &Replay<'_>, desk: &mut P, ports: &mut Vec<P>) -> Came
-    ensures { IsRan P.Port (replay_of command.now) result desk.old desk.new
+    ensures ran { IsRan P.Port (replay_of command.now) result desk.old desk.new
         ports.old.items ports.new.items }
+    ensures no_port { ports.old.items ≡ [] → result ≡ Came.NoPort }
 {
+    if ports.is_empty() {
+        return Came::NoPort;
+    }
     serve_over(alloc, command, desk, ports.as_mut_slice())
 }

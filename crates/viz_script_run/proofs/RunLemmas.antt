@@ -1,13 +1,16 @@
 -- The promises of a run of a script, from its account.
-use Rattle.std.proofs.Common.{◌≡◌, ◌≢◌, ℕ, ◌+◌, ◌≤◌, Bool, true, false, not, cond, ◌||◌, List, [], ◌∷◌, ◌++◌, Result, Ok, Err, refl, sym, ap, subst, ◌∙◌, inl, inr, true≢false, ⊎_elim, arith}
+use Rattle.std.proofs.Common.{◌≡◌, ◌≢◌, ℕ, ◌+◌, ◌≤◌, Bool, true, false, not, cond, ◌||◌, List, [], ◌∷◌, ◌++◌, Result, Ok, Err, refl, sym, ap, ap₂, subst, ◌∙◌, inl, inr, true≢false, ⊎_elim, arith}
 use Rattle.std.specs.Prelude.{◌⊎◌, IsTrue, flat_map}
 use Rattle.std.specs.List.{list_any}
 use Rattle.std.proofs.lemmas.Bool.{or_cases}
+use Rattle.std.proofs.lemmas.List.{append_cancel_left}
 use Rattle.std.proofs.lemmas.List.Folds.{list_any-append}
 use Rattle.viz_base.specs.Faults.{Rose}
 use Rattle.viz_base.specs.Texts.{AppendsPrefix}
 use Rattle.viz_base.specs.declared.port.Port as port
 use Rattle.viz_base.specs.declared.out.Out as out
+use Rattle.viz_base.specs.declared.call.Call.{Call}
+use Rattle.viz_base.specs.declared.call.Call.TheVariants.{Read}
 use Rattle.viz_base.specs.declared.call.ReadAnswer.{ReadAnswer}
 use Rattle.viz_base.specs.declared.call.ReadAnswer.TheVariants as read
 use Rattle.viz_base.specs.declared.call.WriteAnswer.{WriteAnswer}
@@ -20,6 +23,7 @@ use Rattle.viz_once.specs.Promises.{GainsLine, PutsLine}
 use Rattle.viz_once.specs.declared.outcome.Status.{Status}
 use Rattle.viz_once.specs.declared.outcome.Status.TheVariants as status
 use Rattle.viz_script.specs.Orders.{Asked as Command}
+use Rattle.viz_script.specs.Script.{script_of}
 use Rattle.viz_words.specs.declared.refusal.ScriptRefusal.{ScriptRefusal}
 use Rattle.viz_report.specs.declared.line.Line.{Line}
 use Rattle.viz_report.specs.declared.line.Line.TheVariants as line
@@ -27,9 +31,9 @@ use Rattle.viz_report.specs.Report.{lines_text}
 use Rattle.viz_account.specs.Account.{faults_told, RoseBy, IsActor, AreActors}
 use Rattle.viz_script_run.specs.declared.ran.Ran.{Ran}
 use Rattle.viz_script_run.specs.declared.ran.Ran.TheVariants as ran
-use Rattle.viz_script_run.specs.Deeds.{Deed, Nothing, Asked, Kept, IsDoneAt, HasFailed, IsAccounted, IsServed, EndsIn, IsRan, actors_over, is_written}
+use Rattle.viz_script_run.specs.Deeds.{Deed, Nothing, Asked, Kept, IsDoneAt, HasFailed, IsAccounted, IsServed, EndsIn, IsRan, calls_of, actors_over, is_written}
 use Rattle.viz_script_run.specs.Told.{text_of, refused_script, is_memory, is_fault, is_refused, served_status, status_of, status_at_fault, status_after, HasMadeText, Settles, IsPut, IsTold}
-use Rattle.viz_script_run.specs.Promises.{IsRefusal, IsScriptRefused, IsServedBy, IsReported, IsServedWithFault, IsUnread, IsCutOff, SomeRose}
+use Rattle.viz_script_run.specs.Promises.{IsRefusal, IsScriptRefused, DeskAnswered, EndsInScript, TellsRefusals, IsServedBy, IsReported, IsServedWithFault, IsUnread, IsCutOff, SomeRose}
 
 abbrev pub Answer : Type 0
 Answer = Result (Unit {0}) WriteRefusal
@@ -163,6 +167,60 @@ module _ {O : Type 0} (m : out.Ghosts O) (text : List ℕ) (old new : O) where
 as_text : {O : Type 0} (m : out.Ghosts O) (told o : Ran) (a : Answer) (old new : O) → told ≡ o → IsPut m (text_of told) a old new → IsPut m (text_of o) a old new
 as_text m told o a old new is put = subst (λ (x : Ran). IsPut m (text_of x) a old new) is put
 
+-- ---- where a script is refused
+
+-- a deed of one read is that read
+asked_deed : (script journal : List ℕ) (deed : Deed) (answer : ReadAnswer) → calls_of script journal deed ≡ Read script answer ∷ [] → deed ≡ Asked answer
+asked_deed script journal Nothing answer e = absurd cc
+asked_deed script journal (Asked other) answer e = cc
+asked_deed script journal (Kept bytes text other) answer e = absurd cc
+
+-- a refusal is one
+same_refusal : {X : Type 0} (a b : ℕ × ScriptRefusal) (x : Result X (ℕ × ScriptRefusal)) → x ≡ Err a → x ≡ Err b → a ≡ b
+same_refusal {X} a b x e f = (let both : (let o : Result X (ℕ × ScriptRefusal) = Err a in o) ≡ Err b = sym e ∙ f in cc)
+
+module _ {P : Type 0} (m : port.Ghosts P) (old new : List P) where
+  -- a run whose script is refused so, or that ran out of memory
+  abbrev EndsRefused : ℕ → ScriptRefusal → Ran → Type 0
+  EndsRefused line why found = (new ≡ old) × ((found ≡ ran.Memory) ⊎ (found ≡ ran.Refused line why))
+
+  refused_or_memory : (answer : ReadAnswer) (line : ℕ) (why : ScriptRefusal) (found : Ran) → IsRefusal (actors_over old) answer line why → EndsIn m (Asked answer) found old new
+      → EndsRefused line why found
+  refused_or_memory read.Failed line why found is h = absurd is
+  refused_or_memory (read.TooLong taken) line why (ran.Refused l r) is h = (h.2, inr (ap₂ ran.Refused (h.0 ∙ sym is.0) (h.1 ∙ sym is.1)))
+  refused_or_memory (read.TooLong taken) line why ran.Unread is h = absurd h
+  refused_or_memory (read.TooLong taken) line why (ran.Served lines kept) is h = absurd h
+  refused_or_memory (read.TooLong taken) line why ran.Memory is h = absurd h
+  refused_or_memory (read.Given bytes) line why (ran.Refused l r) is h =
+      (h.1, inr (ap (λ (x : ℕ × ScriptRefusal). ran.Refused x.0 x.1) (same_refusal (l, r) (line, why) (script_of (actors_over old) bytes) h.0 is)))
+  refused_or_memory (read.Given bytes) line why ran.Memory is h = (unserved h, inl refl)
+    where
+      unserved : (new ≡ old) ⊎ IsServed m bytes old new → new ≡ old
+      unserved (inl same) = same
+      unserved (inr s) = absurd (let bad : Ok s.2.steps ≡ Err (line, why) = sym s.2.reads ∙ is in cc)
+  refused_or_memory (read.Given bytes) line why ran.Unread is h = absurd h
+  refused_or_memory (read.Given bytes) line why (ran.Served lines kept) is h = absurd h
+
+-- the status of a put that tells that there is nothing to serve, or that memory ran out
+module _ {O : Type 0} (o : out.Ghosts O) (old new : O) where
+  script_by : (line : ℕ) (why : ScriptRefusal) (a : Answer) (ended : Status) → ended ≡ status_after (ran.Refused line why) a → IsPut o (refused_script line why) a old new
+      → EndsInScript o (refused_script line why) old new ended
+  script_by line why (Ok done) ended e put = inl (e, puts o (refused_script line why) old new (Ok done) put)
+  script_by line why (Err writing.Failed) ended e put = inl (e, puts o (refused_script line why) old new (Err writing.Failed) put)
+  script_by line why (Err writing.Memory) ended e put = inr e
+
+  memory_by : (text : List ℕ) (a : Answer) (ended : Status) → ended ≡ status_after ran.Memory a → EndsInScript o text old new ended
+  memory_by text (Ok done) ended e = inr e
+  memory_by text (Err writing.Failed) ended e = inr e
+  memory_by text (Err writing.Memory) ended e = inr e
+
+  script_ends : (line : ℕ) (why : ScriptRefusal) (found told : Ran) (a : Answer) (ended : Status) → (found ≡ ran.Memory) ⊎ (found ≡ ran.Refused line why) → Settles found told
+      → ended ≡ status_after told a → IsPut o (text_of told) a old new → EndsInScript o (refused_script line why) old new ended
+  script_ends line why found told a ended (inl memory) (inl same) e put = memory_by (refused_script line why) a ended (subst (λ (r : Ran). ended ≡ status_after r a) (same ∙ memory) e)
+  script_ends line why found told a ended (inr refused) (inl same) e put =
+      script_by line why a ended (subst (λ (r : Ran). ended ≡ status_after r a) (same ∙ refused) e) (as_text o told (ran.Refused line why) a old new (same ∙ refused) put)
+  script_ends line why found told a ended is (inr memory) e put = memory_by (refused_script line why) a ended (subst (λ (r : Ran). ended ≡ status_after r a) memory.1 e)
+
 -- ---- counts of faults
 
 one_fault : (ls : List Line) → list_any is_fault ls ≡ true → (n : ℕ) × (faults_told ls ≡ n + 1)
@@ -245,6 +303,13 @@ module _ {P O : Type 0} (m : port.Ghosts P) (o : out.Ghosts O) (script journal :
       let f = found_is found telling.0 (ran.Refused t.0 t.1) telling.2 t.2 (λ e. let bad : ran.Memory ≡ ran.Refused t.0 t.1 = e in cc) in
       let d = refused_deed m old new came.0 t.0 t.1 (ends_in (ran.Refused t.0 t.1) f) in
       (d.0, t.0, t.1, d.2, deed_is (Asked d.0) d.1, d.3, puts o (refused_script t.0 t.1) before after telling.1 (text_put (ran.Refused t.0 t.1) t.2))
+
+  pub tells_refusals : TellsRefusals m o script desk new_desk old new before after ended
+  tells_refusals = λ answer line why is tells asked.
+      let same = append_cancel_left (m.calls desk) (calls_of script journal came.0) (Read script answer ∷ []) (sym (came.2.calls tells) ∙ asked) in
+      let deed = asked_deed script journal came.0 answer same in
+      let f = refused_or_memory m old new answer line why found is (subst (λ (d : Deed). EndsIn m d found old new) deed came.1) in
+      (f.0, script_ends o before after line why found telling.0 telling.1 ended f.1 telling.2 telling.3 telling.4)
 
   unread : telling.0 ≡ ran.Unread → IsUnread m o script journal desk new_desk old new before after
   unread is =

@@ -1,9 +1,10 @@
 -- What a run of a script promises of its status, its text, its calls and the files (docs/FORMATS.md, "Report").
-use Rattle.std.specs.Prelude.{◌≡◌, ℕ, true, false, List, [], ◌∷◌, ◌⊎◌, Err}
+use Rattle.std.specs.Prelude.{◌≡◌, ℕ, true, false, List, [], ◌∷◌, ◌++◌, ◌⊎◌, Err, IsTrue}
 use Rattle.std.specs.List.{list_any}
 use Rattle.viz_base.specs.Faults.{Rose}
 use Rattle.viz_base.specs.declared.port.Port as port
 use Rattle.viz_base.specs.declared.out.Out as out
+use Rattle.viz_base.specs.declared.call.Call.TheVariants.{Read}
 use Rattle.viz_base.specs.declared.call.ReadAnswer.{ReadAnswer}
 use Rattle.viz_base.specs.declared.call.ReadAnswer.TheVariants as read
 use Rattle.viz_base.specs.declared.call.WriteAnswer.{WriteAnswer}
@@ -33,6 +34,20 @@ abbrev pub IsScriptRefused : {P O : Type 0} → port.Ghosts P → out.Ghosts O �
 IsScriptRefused m o script journal desk new_desk old new before after =
     (answer : ReadAnswer) × (line : ℕ) × (r : ScriptRefusal) × IsRefusal (actors_over old) answer line r
     × IsDoneAt m script journal (Asked answer) desk new_desk × (new ≡ old) × PutsLine o (refused_script line r) before after
+
+-- the desk was asked for this file alone, and answered so
+abbrev pub DeskAnswered : {P : Type 0} → port.Ghosts P → List ℕ → ReadAnswer → P → P → Type 0
+DeskAnswered m name answer desk new_desk = m.calls new_desk ≡ m.calls desk ++ Read name answer ∷ []
+
+-- the status where there is nothing to serve: Script, with this line, or Memory
+abbrev pub EndsInScript : {O : Type 0} → out.Ghosts O → List ℕ → O → O → Status → Type 0
+EndsInScript o line before after ended = ((ended ≡ status.Script) × PutsLine o line before after) ⊎ (ended ≡ status.Memory)
+
+-- where the script's read was answered so, and the desk was asked for nothing else, a refusal of it is told; no port was called
+abbrev pub TellsRefusals : {P O : Type 0} → port.Ghosts P → out.Ghosts O → List ℕ → P → P → List P → List P → O → O → Status → Type 0
+TellsRefusals m o script desk new_desk old new before after ended =
+    (answer : ReadAnswer) (line : ℕ) (r : ScriptRefusal) → IsRefusal (actors_over old) answer line r → IsTrue m.tells_calls
+    → DeskAnswered m script answer desk new_desk → (new ≡ old) × EndsInScript o (refused_script line r) before after ended
 
 -- ---- scripts that are served
 

@@ -4,7 +4,7 @@ ghost use Rattle.std.specs.Prelude.{◌≡◌, ◌≢◌, ◌⊎◌};
 ghost use Rattle.viz_base.specs.Faults.{Rose, one_more};
 ghost use Rattle.viz_script_run.specs.declared.ran.Ran.{Ran as Came};
 ghost use Rattle.viz_script_run.specs.Deeds.{IsRan};
-ghost use Rattle.viz_script_run.specs.Promises.{IsScriptRefused, IsReported, IsServedWithFault, IsUnread, IsCutOff, SomeRose};
+ghost use Rattle.viz_script_run.specs.Promises.{IsScriptRefused, TellsRefusals, IsReported, IsServedWithFault, IsUnread, IsCutOff, SomeRose};
 ghost use Rattle.viz_script_run.specs.Told.{IsTold};
 
 use crate::report::report;
@@ -33,6 +33,8 @@ pub fn run_script<P: Port, O: Out>(
     // What follows of it for each status.
     ensures script { result ≡ Status.Script → IsScriptRefused P.Port O.Out script.now journal.now
         desk.old desk.new ports.old.items ports.new.items out.old out.new }
+    ensures refuses { TellsRefusals P.Port O.Out script.now desk.old desk.new
+        ports.old.items ports.new.items out.old out.new result }
     ensures done { result ≡ Status.Done → IsReported P.Port O.Out script.now journal.now Status.Done
         desk.old desk.new ports.old.items ports.new.items out.old out.new }
     ensures refused { result ≡ Status.Refused → IsReported P.Port O.Out script.now journal.now

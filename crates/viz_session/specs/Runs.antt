@@ -12,6 +12,7 @@ use Rattle.viz_make.specs.Make as make
 use Rattle.viz_make.specs.Promises as make_promises
 use Rattle.viz_make.specs.Told as make_told
 use Rattle.viz_make.specs.Views.{make_of}
+use Rattle.viz_once_history.specs.Account as history
 use Rattle.viz_replay.specs.Promises as replay_promises
 use Rattle.viz_replay.specs.Replay as replay
 use Rattle.viz_replay.specs.Served.{replay_of}
@@ -40,6 +41,11 @@ module _ {P O : Type 0} (m : port.Ghosts P) (o : out.Ghosts O) (words : List (Li
       (came : MakeCame) × make.IsRan m c came old new × make_told.IsTold o came ended before after × (new_desk ≡ desk)
   IsRun None ended = once_account.IsRun m o words old new before after ended × (new_desk ≡ desk)
 
+  -- a run of a command of one file is accounted for by the fixed history of that command
+  abbrev pub IsByHistory : Option Command → Status → Type 0
+  IsByHistory (Some c) ended = Unit {0}
+  IsByHistory None ended = history.IsOnceAccount m o words old new before after ended
+
   -- a run that answers Done
   abbrev pub IsDone : Option Command → Type 0
   IsDone (Some (Script script journal)) = script_promises.IsReported m o script journal status.Done desk new_desk old new before after
@@ -54,9 +60,11 @@ module _ {P O : Type 0} (m : port.Ghosts P) (o : out.Ghosts O) (words : List (Li
   IsRefused (Some (Make c)) = ⊥
   IsRefused None = once_promises.IsRefused m o (once.command_of words) old new before after
 
-  -- where a cause of a refusal holds, and the words are of one file, it is told
+  -- where a cause of a refusal holds, of a script, a journal or a file, it is told
   abbrev pub Refuses : Option Command → Status → Type 0
-  Refuses (Some c) ended = Unit {0}
+  Refuses (Some (Script script journal)) ended = script_promises.TellsRefusals m o script desk new_desk old new before after ended
+  Refuses (Some (Scratch c)) ended = replay_promises.TellsRefusals m o c desk new_desk old new before after ended
+  Refuses (Some (Make c)) ended = make_promises.TellsRefusals old ended
   Refuses None ended = once_promises.TellsCauses m o (once.command_of words) old new before after ended
 
   -- a run that answers Script: the script or journal is refused, or there is no port

@@ -6,7 +6,7 @@ ghost use Rattle.viz_once.specs.Promises.{PutsLine};
 ghost use Rattle.viz_once.specs.Report.{usage_line};
 ghost use Rattle.viz_script_run.specs.Promises.{SomeRose};
 ghost use Rattle.viz_session.specs.Command.{command_of, AreNone};
-ghost use Rattle.viz_session.specs.Runs.{IsRun, IsDone, IsRefused, IsScript, IsFault, IsCutOff, OthersStay, Refuses};
+ghost use Rattle.viz_session.specs.Runs.{IsRun, IsByHistory, IsDone, IsRefused, IsScript, IsFault, IsCutOff, OthersStay, Refuses};
 
 use crate::command::{Command, read_command};
 use std::alloc::Global;
@@ -15,6 +15,7 @@ use std::thread::Threads;
 use viz_base::{Bytes, Gate, Out, Port};
 use viz_make::run_make;
 use viz_once::{Status, run_once};
+use viz_once_history::runs_are_accounted;
 use viz_replay::run_scratch;
 use viz_script_run::run_script;
 
@@ -34,6 +35,8 @@ pub fn run<R: Threads + Wait + Sync, P: Port + Send + Drop, O: Out, G: Gate + Sy
     // What the run was: the account of its command, and the text put of it.
     ensures account { IsRun P.Port O.Out words.now desk.old desk.new ports.old.items ports.new.items
         out.old out.new (command_of words.now) result }
+    ensures history { IsByHistory P.Port O.Out words.now desk.old desk.new ports.old.items
+        ports.new.items out.old out.new (command_of words.now) result }
 
     // What follows of it for each status.
     ensures usage { (result ≡ Status.Usage) ↔ AreNone words.now }
@@ -59,6 +62,7 @@ pub fn run<R: Threads + Wait + Sync, P: Port + Send + Drop, O: Out, G: Gate + Sy
         ports.new.items out.old out.new (command_of words.now) }
     ensures one_put { O.puts out.new ≡ one_more (O.puts out.old) }
 {
+    runs_are_accounted::<P, O>();
     match read_command(words) {
         Some(Command::Script { script, journal }) => {
             run_script(alloc, script, journal, desk, ports, out)

@@ -31,8 +31,8 @@ returns-in-Ok-write g c =
     let r = c.in-Ok.ensures in
     let w = c.in-Ok-write.ensures in (
       Answered c.in-Ok.bytes m.0 write.Written,
-      (record { reads = m.1; accepts = m.2.accepts }, ap₂ Written m.2.cells m.2.points),
-      written g.P.Port (command_view c.args.command.now) c.args.port.now c.read.new.self c.write.new.self c.in-Ok.bytes r.told r.bytes r.kept r.later r.same_limit w.later w.same_limit m.0 write.Written c.list.result.now (c.list.ensures ∙ m.2.text) w.told w.written w.kept (λ f. absurd f),
+      (record { reads = m.1; accepts = m.3.accepts; sound = m.2 }, ap₂ Written m.3.cells m.3.points),
+      written g.P.Port (command_view c.args.command.now) c.args.port.now c.read.new.self c.write.new.self c.in-Ok.bytes r.told r.bytes r.kept r.later r.same_limit w.later w.same_limit m.0 write.Written c.list.result.now (c.list.ensures ∙ m.3.text) w.told w.written w.kept (λ f. absurd f),
     )
 
 -- src/once.rt:90:1
@@ -42,8 +42,8 @@ returns-in-Err-Failed-write g c =
     let r = c.in-Ok.ensures in
     let w = rw c.in-Err-Failed-write.field-0-is at c.in-Err-Failed-write.ensures in (
       Answered c.in-Ok.bytes m.0 write.Failed,
-      (record { reads = m.1; accepts = m.2.accepts }, refl),
-      written g.P.Port (command_view c.args.command.now) c.args.port.now c.read.new.self c.write.new.self c.in-Ok.bytes r.told r.bytes r.kept r.later r.same_limit w.later w.same_limit m.0 write.Failed c.list.result.now (c.list.ensures ∙ m.2.text) w.told (λ t. w.prefix t refl) w.kept (λ f. w.failed refl),
+      (record { reads = m.1; accepts = m.3.accepts; sound = m.2 }, refl),
+      written g.P.Port (command_view c.args.command.now) c.args.port.now c.read.new.self c.write.new.self c.in-Ok.bytes r.told r.bytes r.kept r.later r.same_limit w.later w.same_limit m.0 write.Failed c.list.result.now (c.list.ensures ∙ m.3.text) w.told (λ t. w.prefix t refl) w.kept (λ f. w.failed refl),
     )
 
 -- src/once.rt:88:1

@@ -1,8 +1,11 @@
-use Rattle.viz_script_run.proofs.RunLemmas.{done, refused, script_refused, fault, cause, cut_off, no_usage}
+use Rattle.viz_script_run.proofs.RunLemmas.{done, refused, script_refused, tells_refusals, fault, cause, cut_off, no_usage}
 use Rattle.viz_script_run.proofs.run.run_script.Goals as goal
 
 pub returns-clause-script : goal.returns-clause-script
 returns-clause-script g c = script_refused g.P.Port g.O.Out _ _ _ _ _ _ _ _ _ _ c.serve_script-ran.ensures c.report.ensures
+
+pub returns-clause-refuses : goal.returns-clause-refuses
+returns-clause-refuses g c = tells_refusals g.P.Port g.O.Out _ _ _ _ _ _ _ _ _ _ c.serve_script-ran.ensures c.report.ensures
 
 pub returns-clause-done : goal.returns-clause-done
 returns-clause-done g c = done g.P.Port g.O.Out _ _ _ _ _ _ _ _ _ _ c.serve_script-ran.ensures c.report.ensures

@@ -1,0 +1,6 @@
+pub mod AccountLemmas
+pub mod NetworkLemmas
+pub mod CommandLemmas
+pub mod HeaderLemmas
+pub mod GivenLemmas
+pub mod FileLemmas

@@ -1,0 +1,90 @@
+-- The fixed history of a command of one file: a source with the file's bytes, and the filter behind it (docs/DEFINITIONS.md, "The fixed history of one file").
+use Rattle.std.specs.Prelude.{◌≡◌, ℕ, pos, true, List, [], ◌∷◌, replicate, codes, Option, None, Some, Result}
+use Rattle.viz_core.specs.declared.entry.Entry.{Entry}
+use Rattle.viz_core.specs.History.{entry, network_of}
+use Rattle.viz_kinds.specs.declared.kind.Kind.{Kind}
+use Rattle.viz_kinds.specs.declared.kind.Kind.TheVariants as kind
+use Rattle.viz_kinds.specs.declared.param.Param.{Param}
+use Rattle.viz_kinds.specs.declared.param.Param.TheVariants as param
+use Rattle.viz_kinds.specs.declared.param.Value.{Value}
+use Rattle.viz_kinds.specs.declared.param.Value.TheVariants.{Numbers}
+use Rattle.viz_network.specs.declared.edit.Edit.{Edit}
+use Rattle.viz_network.specs.declared.edit.Edit.TheVariants.{Add, Load, Connect, Set}
+use Rattle.viz_network.specs.declared.fault.Cause as faults
+use Rattle.viz_network.specs.declared.fault.Cause.TheVariants as fault
+use Rattle.viz_network.specs.declared.fault.Fault.{Fault}
+use Rattle.viz_network.specs.Network.{Network}
+use Rattle.viz_once.specs.declared.command.Filter.{Filter}
+use Rattle.viz_once.specs.declared.command.Filter.TheVariants.{Threshold, Contour}
+use Rattle.viz_once.specs.declared.outcome.Cause.{Cause}
+use Rattle.viz_once.specs.declared.outcome.Cause.TheVariants.{TooLong, BadFile, WrongInput, TooWide, TooMany}
+use Rattle.viz_once.specs.Command.{fits_i64}
+use Rattle.viz_scratch.specs.Written.{IsFileOf}
+
+-- ---- the history
+
+-- the name of the source
+abbrev pub source : List ℕ
+source = codes "src"
+
+-- the name of the filter's node
+abbrev pub op : List ℕ
+op = codes "op"
+
+-- the kind of the filter's node
+abbrev pub kind_of : Filter → Kind
+kind_of (Threshold lo hi) = kind.Threshold
+kind_of (Contour level) = kind.Contour
+
+-- the parameter that has the filter's numbers
+abbrev pub param_of : Filter → Param
+param_of (Threshold lo hi) = param.Range
+param_of (Contour level) = param.Levels
+
+-- the filter's numbers as the value of that parameter
+abbrev pub value_of : Filter → Value
+value_of (Threshold lo hi) = Numbers 2 (lo ∷ hi ∷ replicate 6 (pos 0))
+value_of (Contour level) = Numbers 1 (level ∷ replicate 7 (pos 0))
+
+-- the filter's numbers are of 64 bits, as those of words are
+abbrev pub HasNumbers : Filter → Type 0
+HasNumbers (Threshold lo hi) = (fits_i64 lo ≡ true) × (fits_i64 hi ≡ true)
+HasNumbers (Contour level) = fits_i64 level ≡ true
+
+-- the source and its file, the filter's node behind it, and the filter's numbers, by the first pass
+abbrev pub history_of : Filter → List ℕ → List Entry
+history_of filter bytes =
+    entry 0 1 (Add kind.File source) ∷ entry 0 2 (Load source bytes) ∷ entry 0 3 (Add (kind_of filter) op)
+    ∷ entry 0 4 (Connect source op 1) ∷ entry 0 5 (Set op (param_of filter) (value_of filter)) ∷ []
+
+-- the network of the fixed history
+abbrev pub network_for : Filter → List ℕ → Network
+network_for filter bytes = network_of (history_of filter bytes)
+
+-- the positions of the two Adds, which number the nodes
+abbrev pub source_id : ℕ
+source_id = 1
+
+abbrev pub op_id : ℕ
+op_id = 3
+
+-- this is the file of the filter's node in the network of the fixed history, or why it has none
+abbrev pub IsFileFor : Filter → List ℕ → Result (List ℕ) Fault → Type 0
+IsFileFor filter bytes r = IsFileOf (network_for filter bytes) op_id r
+
+-- ---- the faults
+
+-- a fault of the source, and one of the filter's node
+abbrev pub at_source : faults.Cause → Fault
+at_source cause = record { node = record { 0 = source_id }; cause = cause }
+
+abbrev pub at_op : faults.Cause → Fault
+at_op cause = record { node = record { 0 = op_id }; cause = cause }
+
+-- the fault that a cause of a refusal is; a file that is too long isn't loaded
+abbrev pub fault_of : Cause → Option Fault
+fault_of TooLong = None
+fault_of (BadFile f) = Some (at_source (fault.BadFile f))
+fault_of WrongInput = Some (at_op (fault.WrongInput 1))
+fault_of TooWide = Some (at_op fault.TooWide)
+fault_of TooMany = Some (at_op fault.TooMany)

@@ -1,0 +1,39 @@
+-- What is said of a command of one file is what evaluation of its fixed history from scratch gives (docs/DEFINITIONS.md, "The fixed history of one file").
+use Rattle.std.specs.Prelude.{◌≡◌, ℕ, List, Option, Some, Result, Ok, Err}
+use Rattle.viz_core.specs.History.{IsLegal}
+use Rattle.viz_dataset.specs.declared.dataset.Dataset.{Dataset}
+use Rattle.viz_network.specs.declared.fault.Fault.{Fault}
+use Rattle.viz_once.specs.declared.command.Filter.{Filter}
+use Rattle.viz_once.specs.declared.outcome.Cause.{Cause}
+use Rattle.viz_once.specs.Account.{IsInput}
+use Rattle.viz_once.specs.Causes.{ReadsFile, IsCauseOf}
+use Rattle.viz_once.specs.Command.{Command, command_of}
+use Rattle.viz_once.specs.Outputs.{output_text, cells_written, points_written, cells_made, points_made, Accepts}
+use Rattle.viz_scratch.specs.Scratch.{IsScratch}
+use Rattle.viz_once_history.specs.FixedHistory.{HasNumbers, history_of, network_for, op_id, IsFileFor, fault_of}
+
+-- the filter's node gives a dataset of so many cells and points, and this text is its file
+pub record IsMadeFor (filter : Filter) (bytes text : List ℕ) (cells points : ℕ) : Type 0 where
+  pub dataset : Dataset
+  pub given : IsScratch (network_for filter bytes) op_id (Ok dataset)
+  pub file : IsFileFor filter bytes (Ok text)
+  pub cells_are : cells ≡ cells_written dataset
+  pub points_are : points ≡ points_written dataset
+
+-- the numbers of the filter that words tell are of 64 bits
+abbrev pub WordsHaveNumbers : Type 0
+WordsHaveNumbers = (words : List (List ℕ)) (c : Command) → command_of words ≡ Some c → HasNumbers c.filter
+
+-- each edit of the fixed history is accepted
+abbrev pub HistoriesAreLegal : Type 0
+HistoriesAreLegal = (filter : Filter) (bytes : List ℕ) → HasNumbers filter → IsLegal (history_of filter bytes)
+
+-- where bytes are a file of a dataset that the filter accepts, the text that is written is the file of the filter's node, with its numbers
+abbrev pub InputsAreMade : Type 0
+InputsAreMade = (c : Command) (bytes : List ℕ) (d : Dataset) → HasNumbers c.filter → IsInput c bytes d
+    → IsMadeFor c.filter bytes (output_text c.filter d) (cells_made c.filter d) (points_made c.filter d)
+
+-- where a cause of a refusal holds, the filter's node has no file, for the fault that the cause is
+abbrev pub CausesAreFaults : Type 0
+CausesAreFaults = (filter : Filter) (bytes : List ℕ) (cause : Cause) (fault : Fault) → HasNumbers filter → IsCauseOf filter bytes cause → fault_of cause ≡ Some fault
+    → IsFileFor filter bytes (Err fault)

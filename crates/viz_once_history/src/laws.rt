@@ -1,0 +1,30 @@
+//! Laws on commands of one file. A law is a function that does nothing: its contract holds of the
+//! definitions alone.
+
+ghost use Rattle.viz_once_history.specs.Account.{RunsAreAccounted};
+ghost use Rattle.viz_once_history.specs.Laws.{CausesAreFaults, HistoriesAreLegal, InputsAreMade, WordsHaveNumbers};
+
+use viz_base::{Out, Port};
+
+/// Each edit of the fixed history is accepted, where the filter's numbers are of 64 bits; those of
+/// words are.
+pub fn histories_are_legal()
+    ensures words { WordsHaveNumbers }
+    ensures legal { HistoriesAreLegal }
+{}
+
+/// Where bytes are a file of a dataset that the filter accepts, the text that is written of it is
+/// the file of the filter's node in the network of the fixed history.
+pub fn inputs_are_made()
+    ensures { InputsAreMade }
+{}
+
+/// Where bytes are refused for a cause, the filter's node has no file there, for that fault.
+pub fn causes_are_faults()
+    ensures { CausesAreFaults }
+{}
+
+/// Each run of a command of one file is accounted for by its fixed history.
+pub fn runs_are_accounted<P: Port, O: Out>()
+    ensures { RunsAreAccounted P.Port O.Out }
+{}
