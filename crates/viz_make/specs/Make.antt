@@ -1,5 +1,5 @@
 -- What a run that makes a volume did at its port (docs/DEFINITIONS.md, "The account of a run").
-use Rattle.std.specs.Prelude.{◌≡◌, ℕ, ◌≤◌, List, [], ◌∷◌, ◌++◌, length, false, Option, None, Some, IsTrue}
+use Rattle.std.specs.Prelude.{◌≡◌, ℕ, ◌+◌, ◌≤◌, List, [], ◌∷◌, ◌++◌, length, false, Option, None, Some, IsTrue}
 use Rattle.viz_base.specs.Faults.{Rose}
 use Rattle.viz_base.specs.Files.{Files, SameFiles, SameOthers}
 use Rattle.viz_base.specs.declared.port.Port as port
@@ -48,6 +48,11 @@ pub record IsMade (c : Make) (made : Made) : Type 0 where
   pub lone : made.lone ≡ count_lone (contour_of c)
   pub border : made.border ≡ count_border c.extent (contour_of c)
 
+-- each side lies in two triangles or is a border side, and every lone one is a border side
+pub record IsClosed (made : Made) : Type 0 where
+  pub sides : made.sides ≡ made.two + made.border
+  pub lone : made.lone ≡ made.border
+
 -- ---- the port
 
 -- the calls of a write that was answered so, or of none
@@ -70,7 +75,7 @@ pub record IsAnswered {P : Type 0} (m : port.Ghosts P) (c : Make) (answer : Opti
 
 -- how a run ended whose write was answered so
 abbrev pub EndsIn : Make → Option WriteAnswer → Came → Type 0
-EndsIn c (Some write.Written) (came.Written made) = IsMade c made
+EndsIn c (Some write.Written) (came.Written made) = IsMade c made × IsClosed made
 EndsIn c (Some write.Failed) came.Unwritten = Unit {0}
 EndsIn c None came.Memory = Unit {0}
 EndsIn c answer ended = ⊥

@@ -1,5 +1,5 @@
 -- What a run that makes a volume promises of its status, its text, its calls and the files (docs/FORMATS.md, "Report").
-use Rattle.std.specs.Prelude.{◌≡◌, ◌+◌, List, [], ◌⊎◌, Some}
+use Rattle.std.specs.Prelude.{◌≡◌, List, [], ◌⊎◌, Some}
 use Rattle.viz_base.specs.Faults.{Rose}
 use Rattle.viz_base.specs.declared.port.Port as port
 use Rattle.viz_base.specs.declared.out.Out as out
@@ -11,17 +11,12 @@ use Rattle.viz_once.specs.declared.outcome.Status.{Status}
 use Rattle.viz_once.specs.declared.outcome.Status.TheVariants as status
 use Rattle.viz_make.specs.declared.came.Came.TheVariants as came
 use Rattle.viz_make.specs.declared.made.Made.{Made}
-use Rattle.viz_make.specs.Make.{Make, IsMade, IsAnswered}
+use Rattle.viz_make.specs.Make.{Make, IsMade, IsClosed, IsAnswered}
 use Rattle.viz_make.specs.Told.{text_of}
 
 -- the write of the volume was answered so, and nothing else was called
 abbrev pub FirstWrote : {P : Type 0} → port.Ghosts P → Make → WriteAnswer → List P → List P → Type 0
 FirstWrote m c answer old new = FirstOnly (IsAnswered m c (Some answer)) old new
-
--- each side lies in two triangles or is a border side, and every lone one is a border side
-pub record IsClosed (made : Made) : Type 0 where
-  pub sides : made.sides ≡ made.two + made.border
-  pub lone : made.lone ≡ made.border
 
 -- a run that answers Done wrote the volume, and told its numbers and those of its audit, by which its contour is closed up to the boundary
 abbrev pub IsDone : {P O : Type 0} → port.Ghosts P → out.Ghosts O → Make → List P → List P → O → O → Type 0

@@ -1,31 +1,33 @@
 -- The lines that a run puts that makes a volume, and its status (docs/FORMATS.md, "Report").
 use Rattle.std.specs.Prelude.{◌≡◌, ℕ, List, ◌++◌, ◌⊎◌, codes, Result, Ok, Err}
-use Rattle.std.specs.Fmt.{decimal}
 use Rattle.viz_base.specs.declared.out.Out as out
 use Rattle.viz_base.specs.declared.refusal.WriteRefusal.{WriteRefusal}
 use Rattle.viz_base.specs.declared.refusal.WriteRefusal.TheVariants as writing
 use Rattle.viz_once.specs.Report.{no_port_line, write_fault_line, memory_line}
 use Rattle.viz_once.specs.declared.outcome.Status.{Status}
 use Rattle.viz_once.specs.declared.outcome.Status.TheVariants as status
+use Rattle.viz_report.specs.Report.{and_number, counts_text}
 use Rattle.viz_script_run.specs.Told.{IsPut}
 use Rattle.viz_make.specs.declared.came.Came.{Came}
 use Rattle.viz_make.specs.declared.came.Came.TheVariants as came
 use Rattle.viz_make.specs.declared.made.Made.{Made}
 
 -- what was made
-unfoldable pub made_line : ℕ → ℕ → List ℕ
-made_line points sum = codes "made points " ++ decimal points ++ codes " sum " ++ decimal sum ++ codes "\n"
+abbrev pub made_text : Made → List ℕ
+made_text made = and_number (codes "made points ") made.points ++ and_number (codes " sum ") made.sum
 
--- the audit of its contour: all sides, those in two triangles, those in one, and those of them on the boundary
-unfoldable pub audit_line : Made → List ℕ
-audit_line made =
-    codes "audit cells " ++ decimal made.cells ++ codes " sides " ++ decimal made.sides ++ codes " two " ++ decimal made.two ++ codes " open "
-    ++ decimal made.lone ++ codes " border " ++ decimal made.border ++ codes "\n"
+-- the audit of its contour: its triangles, all their sides, those in two triangles, those in one, and those of them on the boundary
+abbrev pub audit_text : Made → List ℕ
+audit_text made = and_number (codes "audit cells ") made.cells ++ counts_text made.sides made.two made.lone made.border
+
+-- both, each on a line
+abbrev pub made_lines : Made → List ℕ
+made_lines made = (made_text made ++ codes "\n") ++ audit_text made ++ codes "\n"
 
 -- the text of a run
 abbrev pub text_of : Came → List ℕ
 text_of came.NoPort = no_port_line
-text_of (came.Written made) = made_line made.points made.sum ++ audit_line made
+text_of (came.Written made) = made_lines made
 text_of came.Unwritten = write_fault_line
 text_of came.Memory = memory_line
 

@@ -1,9 +1,13 @@
 //! A made volume, and its numbers.
 
-ghost use Rattle.std.specs.Prelude.{◌≡◌, IfOk, length};
+ghost use Rattle.std.specs.Prelude.{◌≡◌, ◌+◌, IfOk, length};
+ghost use Rattle.viz_fraction.specs.Forms.{contour_form};
+ghost use Rattle.viz_meaning.specs.Narrow.{IsNarrowSection};
+ghost use Rattle.viz_meaning.specs.Tetrahedra.{tetrahedra_sheet};
 ghost use Rattle.viz_surface_law.specs.Audit.{count_sides, count_two, count_lone, count_border};
-ghost use Rattle.viz_make.specs.Make.{IsMade, contour_of, image_of, text_of};
-ghost use Rattle.viz_make.specs.Promises.{IsClosed};
+ghost use Rattle.viz_surface_law.specs.Contours.{triangles_of};
+ghost use Rattle.viz_volume.specs.Narrow.{middle};
+ghost use Rattle.viz_make.specs.Make.{IsClosed, IsMade, image_of, text_of};
 ghost use Rattle.viz_make.specs.Views.{make_of};
 
 use crate::serving::Make;
@@ -38,17 +42,18 @@ pub struct Made {
     pub border: u64,
 }
 
-/// The audit of the contour at the middle, and how many triangles it has.
-fn audited(alloc: Global, command: &Make<'_>, image: &Image) -> Result<(Counts, u64), AllocError>
-    requires { image.now ≡ image_of (make_of command.now) }
-    ensures cells { IfOk result (λ r. r.1 ≡ length (contour_of (make_of command.now))) }
-    ensures sides { IfOk result (λ r. r.0.sides ≡ count_sides (contour_of (make_of command.now))) }
-    ensures two { IfOk result (λ r. r.0.two ≡ count_two (contour_of (make_of command.now))) }
-    ensures lone { IfOk result (λ r. r.0.lone ≡ count_lone (contour_of (make_of command.now))) }
+/// The audit of the contour of an image at the middle, and how many triangles it has.
+fn audited(alloc: Global, image: &Image) -> Result<(Counts, u64), AllocError>
+    requires { IsNarrowSection (contour_form middle) (tetrahedra_sheet image.now) }
+    ensures cells { IfOk result (λ r. r.1 ≡ length (triangles_of middle image.now)) }
+    ensures sides { IfOk result (λ r. r.0.sides ≡ count_sides (triangles_of middle image.now)) }
+    ensures two { IfOk result (λ r. r.0.two ≡ count_two (triangles_of middle image.now)) }
+    ensures lone { IfOk result (λ r. r.0.lone ≡ count_lone (triangles_of middle image.now)) }
     ensures border { IfOk result (λ r.
-        r.0.border ≡ count_border command.now.extent (contour_of (make_of command.now))) }
+        r.0.border ≡ count_border image.now.extent (triangles_of middle image.now)) }
+    ensures closed { IfOk result (λ r. (r.0.sides ≡ r.0.two + r.0.border)
+        × (r.0.lone ≡ r.0.border)) }
 {
-    volumes_are_narrow();
     contours_are_closed();
     let extent = image.extent();
     let sheet = match contour(alloc, &MIDDLE, image) {
@@ -78,12 +83,16 @@ fn volume_text(alloc: Global, command: &Make<'_>, image: &Image) -> Result<Bytes
 pub fn made_of(alloc: Global, command: &Make<'_>) -> Result<(Bytes, Made), AllocError>
     ensures text { IfOk result (λ r. r.0 ≡ text_of (make_of command.now)) }
     ensures made { IfOk result (λ r. IsMade (make_of command.now) r.1) }
+    ensures closed { IfOk result (λ r. IsClosed r.1) }
 {
+    volumes_are_narrow();
+    let _bounds = command.extent.bounds();
+    let points = command.extent.count();
     let Generated { image, sum } = generate(alloc, command.number, &command.extent)?;
-    let (counts, cells) = audited(alloc, command, &image)?;
+    let (counts, cells) = audited(alloc, &image)?;
     let text = volume_text(alloc, command, &image)?;
     let made = Made {
-        points: command.extent.count(),
+        points,
         sum,
         cells,
         sides: counts.sides,
@@ -92,13 +101,4 @@ pub fn made_of(alloc: Global, command: &Make<'_>) -> Result<(Bytes, Made), Alloc
         border: counts.border,
     };
     Ok((text, made))
-}
-
-/// By the numbers of a made volume its contour is closed up to the boundary; it does nothing.
-pub fn made_is_closed(command: &Make<'_>, made: &Made)
-    requires { IsMade (make_of command.now) made.now }
-    ensures { IsClosed made.now }
-{
-    contours_are_closed();
-    let _bounds = command.extent.bounds();
 }

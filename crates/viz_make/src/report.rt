@@ -2,8 +2,9 @@
 
 ghost use Rattle.std.specs.Prelude.{◌≡◌, ◌++◌, IfOk, OnOk, Result};
 ghost use Rattle.viz_base.specs.declared.refusal.WriteRefusal.{WriteRefusal as Refusal};
-ghost use Rattle.viz_make.specs.Told.{audit_line, made_line, text_of, status_of, status_at_fault, status_after, IsTold};
+ghost use Rattle.viz_make.specs.Told.{audit_text, made_lines, made_text, text_of, status_of, status_at_fault, status_after, IsTold};
 ghost use Rattle.viz_once.specs.Report.{no_port_line, write_fault_line, memory_line};
+ghost use Rattle.viz_report.specs.Report.{and_number, counts_text};
 ghost use Rattle.viz_script_run.specs.Told.{IsPut};
 
 use crate::came::Came;
@@ -13,45 +14,54 @@ use viz_base::{Out, WriteRefusal};
 use viz_lex::put_whole;
 use viz_once::Status;
 
-/// Adds the line of a made volume.
-#[tactic(auto, unfolding(crate::specs::Told::made_line))]
-fn put_made(text: &mut Vec<u8>, points: u64, sum: u64) -> Result<(), AllocError>
-    ensures { OnOk result (text.new.items ≡ text.old.items ++ made_line points sum) }
+/// Adds a word and a number behind it.
+fn put_number(text: &mut Vec<u8>, word: &[u8], n: u64) -> Result<(), AllocError>
+    ensures { OnOk result (text.new.items ≡ text.old.items ++ and_number word.now n) }
 {
-    text.extend_from_slice(b"made points ")?;
-    put_whole(text, i128::from(points))?;
-    text.extend_from_slice(b" sum ")?;
-    put_whole(text, i128::from(sum))?;
-    text.push(b'\n')?;
+    text.extend_from_slice(word)?;
+    put_whole(text, i128::from(n))?;
     Ok(())
 }
 
-/// Adds the line of its audit.
-#[tactic(auto, unfolding(crate::specs::Told::audit_line))]
+/// Adds the numbers of a made volume.
+fn put_made(text: &mut Vec<u8>, made: &Made) -> Result<(), AllocError>
+    ensures { OnOk result (text.new.items ≡ text.old.items ++ made_text made.now) }
+{
+    put_number(text, b"made points ", made.points)?;
+    put_number(text, b" sum ", made.sum)?;
+    Ok(())
+}
+
+/// Adds the counts of its sides.
+fn put_counts(text: &mut Vec<u8>, made: &Made) -> Result<(), AllocError>
+    ensures { OnOk result (text.new.items
+        ≡ text.old.items ++ counts_text made.now.sides made.now.two made.now.lone made.now.border) }
+{
+    put_number(text, b" sides ", made.sides)?;
+    put_number(text, b" two ", made.two)?;
+    put_number(text, b" open ", made.lone)?;
+    put_number(text, b" border ", made.border)?;
+    Ok(())
+}
+
+/// Adds the numbers of its audit.
 fn put_audit(text: &mut Vec<u8>, made: &Made) -> Result<(), AllocError>
-    ensures { OnOk result (text.new.items ≡ text.old.items ++ audit_line made.now) }
+    ensures { OnOk result (text.new.items ≡ text.old.items ++ audit_text made.now) }
 {
-    text.extend_from_slice(b"audit cells ")?;
-    put_whole(text, i128::from(made.cells))?;
-    text.extend_from_slice(b" sides ")?;
-    put_whole(text, i128::from(made.sides))?;
-    text.extend_from_slice(b" two ")?;
-    put_whole(text, i128::from(made.two))?;
-    text.extend_from_slice(b" open ")?;
-    put_whole(text, i128::from(made.lone))?;
-    text.extend_from_slice(b" border ")?;
-    put_whole(text, i128::from(made.border))?;
-    text.push(b'\n')?;
+    put_number(text, b"audit cells ", made.cells)?;
+    put_counts(text, made)?;
     Ok(())
 }
 
-/// The text of a made volume.
-fn made_text(alloc: Global, made: &Made) -> Result<Vec<u8>, AllocError>
-    ensures { IfOk result (λ text. text.items ≡ text_of (Came.Written made.now)) }
+/// The lines of a made volume.
+fn made_lines(alloc: Global, made: &Made) -> Result<Vec<u8>, AllocError>
+    ensures { IfOk result (λ text. text.items ≡ made_lines made.now) }
 {
     let mut text = Vec::new(alloc);
-    put_made(&mut text, made.points, made.sum)?;
+    put_made(&mut text, made)?;
+    text.push(b'\n')?;
     put_audit(&mut text, made)?;
+    text.push(b'\n')?;
     Ok(text)
 }
 
@@ -125,7 +135,7 @@ pub fn report<O: Out>(alloc: Global, out: &mut O, came: &Came) -> Status
 {
     match came {
         Came::NoPort => put(alloc, out, came, no_port()),
-        Came::Written(made) => match made_text(alloc, made) {
+        Came::Written(made) => match made_lines(alloc, made) {
             Ok(text) => put(alloc, out, came, &text),
             Err(_) => put(alloc, out, &Came::Memory, memory()),
         },

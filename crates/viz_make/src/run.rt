@@ -14,7 +14,6 @@ use crate::serving::{Make, serve};
 use std::alloc::Global;
 use viz_base::{Out, Port};
 use viz_once::Status;
-use viz_surface_law::contours_are_closed;
 
 /// Makes the volume of a number, writes it by the first port, and puts its numbers and the audit of
 /// its contour at 128.
@@ -47,8 +46,6 @@ pub fn run_make<P: Port, O: Out>(
     ensures others { OthersStay ports.old.items ports.new.items }
     ensures one_put { O.puts out.new ≡ one_more (O.puts out.old) }
 {
-    contours_are_closed();
-    let _bounds = command.extent.bounds();
     let came = serve(alloc, command, ports);
     report(alloc, out, &came)
 }
