@@ -17,7 +17,8 @@ mod updating;
 pub use actor::Actor;
 pub use auditing::audit;
 pub use laws::{
-    accounts_hold_later, audit_lines_are_closed, entries_are_told_once, lines_count_edits, one_actor_is_accounted_for,
+    accounts_hold_later, audit_lines_are_closed, entries_are_told_once, lines_count_edits,
+    one_actor_is_accounted_for,
 };
 pub use serving::{serve, serve_all};
 pub use updating::update;

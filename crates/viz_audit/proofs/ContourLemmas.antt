@@ -98,5 +98,5 @@ sides_sum law (level ∷ levels) image valid =
     let one : count_sides cells ≡ count_two cells + count_border image.extent cells = law level image valid in
     let others = sides_sum law levels image valid in
     let whole : count_sides cells + summed count_sides rest
-        ≡ (count_two cells + summed count_two rest) + (count_border image.extent cells + summed (count_border image.extent) rest) = omega (arith, one, others) in
+    ≡ (count_two cells + summed count_two rest) + (count_border image.extent cells + summed (count_border image.extent) rest) = omega (arith, one, others) in
     whole
