@@ -20,6 +20,7 @@ use Rattle.viz_lex.specs.Rules.{Rule, choose, gives, refuses, ◌>>=◌}
 use Rattle.viz_lex.specs.Steps.{same_word, has}
 use Rattle.viz_lex.specs.Reading.{fault_at}
 use Rattle.viz_lex.specs.Steps.{keyword_kind}
+use Rattle.viz_sheet.specs.Sheet.{SheetData}
 use Rattle.viz_scratch.specs.declared.information.Information.{Information}
 use Rattle.viz_scratch.specs.declared.information.Information.TheVariants as information
 use Rattle.viz_scratch.specs.Information.{grid_of, IsHeaderOf}
@@ -47,6 +48,14 @@ image_behind_it bytes i (OfMesh p) mid next is c = absurd (let bad : dataset.Ima
 
 pub image_heading : (bytes : List ℕ) (i : ImageData) → Reads bytes First 0 (dataset.Image i) → (g : Header) × ReadsHeader bytes (OfImage g)
 image_heading bytes i reads = image_behind_it bytes i reads.1.0 reads.1.1 reads.0 reads.1.2 reads.1.3
+
+-- a mesh stands behind the header of a mesh
+mesh_behind_it : (bytes : List ℕ) (m : List SheetData) (h : Heading) (mid next : Reading) → header.is (front bytes) mid h → (contents First 0 h).is mid next (dataset.Mesh m) → IsMeshFile bytes
+mesh_behind_it bytes m (OfImage g) mid next is c = absurd (let bad : dataset.Mesh m ≡ dataset.Image c.0 = c.3.1 in cc)
+mesh_behind_it bytes m (OfMesh p) mid next is c = (p, (mid, is))
+
+pub mesh_heading : (bytes : List ℕ) (m : List SheetData) → Reads bytes First 0 (dataset.Mesh m) → IsMeshFile bytes
+mesh_heading bytes m reads = mesh_behind_it bytes m reads.1.0 reads.1.1 reads.0 reads.1.2 reads.1.3
 
 -- ---- the lines of an image's header
 

@@ -1,4 +1,5 @@
 pub mod AccountLemmas
+pub mod BackLemmas
 pub mod NetworkLemmas
 pub mod CommandLemmas
 pub mod HeaderLemmas

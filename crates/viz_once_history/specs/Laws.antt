@@ -2,6 +2,7 @@
 use Rattle.std.specs.Prelude.{◌≡◌, ℕ, List, Option, Some, Result, Ok, Err}
 use Rattle.viz_core.specs.History.{IsLegal}
 use Rattle.viz_dataset.specs.declared.dataset.Dataset.{Dataset}
+use Rattle.viz_legacy_read.specs.Reading.{IsSound}
 use Rattle.viz_network.specs.declared.fault.Fault.{Fault}
 use Rattle.viz_once.specs.declared.command.Filter.{Filter}
 use Rattle.viz_once.specs.declared.outcome.Cause.{Cause}
@@ -33,7 +34,18 @@ abbrev pub InputsAreMade : Type 0
 InputsAreMade = (c : Command) (bytes : List ℕ) (d : Dataset) → HasNumbers c.filter → IsInput c bytes d
     → IsMadeFor c.filter bytes (output_text c.filter d) (cells_made c.filter d) (points_made c.filter d)
 
+-- the other way round: where the filter's node has a file, the bytes are a file of a dataset that the filter accepts, and its text is what is
+-- written of it, where the dataset keeps the rule of its type
+abbrev pub FilesAreOfInputs : Type 0
+FilesAreOfInputs = (filter : Filter) (bytes text : List ℕ) → HasNumbers filter → IsFileFor filter bytes (Ok text)
+    → (d : Dataset) × ReadsFile bytes d × Accepts filter d × (IsSound d → text ≡ output_text filter d)
+
 -- where a cause of a refusal holds, the filter's node has no file, for the fault that the cause is
 abbrev pub CausesAreFaults : Type 0
 CausesAreFaults = (filter : Filter) (bytes : List ℕ) (cause : Cause) (fault : Fault) → HasNumbers filter → IsCauseOf filter bytes cause → fault_of cause ≡ Some fault
     → IsFileFor filter bytes (Err fault)
+
+-- the other way round: where the filter's node has no file, a cause holds that is its fault
+abbrev pub FaultsAreCauses : Type 0
+FaultsAreCauses = (filter : Filter) (bytes : List ℕ) (fault : Fault) → HasNumbers filter → IsFileFor filter bytes (Err fault)
+    → (cause : Cause) × IsCauseOf filter bytes cause × (fault_of cause ≡ Some fault)

@@ -7,4 +7,7 @@
 
 mod laws;
 
-pub use laws::{causes_are_faults, histories_are_legal, inputs_are_made, runs_are_accounted};
+pub use laws::{
+    causes_are_faults, faults_are_causes, files_are_of_inputs, histories_are_legal, inputs_are_made,
+    runs_are_accounted,
+};
