@@ -20,6 +20,7 @@ use Rattle.viz_once_history.specs.Account.{EndsByHistory, IsServedByHistory, Ser
 use Rattle.viz_once_history.proofs.CommandLemmas.{words_have_numbers}
 use Rattle.viz_once_history.proofs.FileLemmas.{inputs_are_made, causes_are_faults}
 use Rattle.viz_once_history.proofs.NetworkLemmas.{histories_are_legal}
+use Rattle.viz_once_history.proofs.WordLemmas.{words_are_of_faults}
 
 -- a cause of bytes that were read is a fault
 pub fault_at : (filter : Filter) (bytes : List ℕ) (cause : Cause) → IsCauseOf filter bytes cause → (f : Fault) × (fault_of cause ≡ Some f)
@@ -37,7 +38,8 @@ module _ (c : Command) (numbers : HasNumbers c.filter) where
   ends_by (Asked (read.Given bytes)) o (inl memory) = (histories_are_legal c.filter bytes numbers, inl memory)
   ends_by (Asked (read.Given bytes)) o (inr r) =
       let f = fault_at c.filter bytes r.0 r.1 in
-      (histories_are_legal c.filter bytes numbers, inr (r.0, f.0, f.1, causes_are_faults c.filter bytes r.0 f.0 numbers r.1 f.1, r.2))
+      let w = words_are_of_faults c.filter bytes r.0 f.0 numbers f.1 in
+      (histories_are_legal c.filter bytes numbers, inr (r.0, f.0, w.0, f.1, causes_are_faults c.filter bytes r.0 f.0 numbers r.1 f.1, w.1, w.2, r.2))
   ends_by (Answered bytes d write.Written) o h =
       (histories_are_legal c.filter bytes numbers, (cells_made c.filter d, points_made c.filter d, inputs_are_made c bytes d numbers h.0, h.1))
   ends_by (Answered bytes d write.Failed) o h =

@@ -4,12 +4,15 @@ use Rattle.viz_core.specs.History.{IsLegal}
 use Rattle.viz_dataset.specs.declared.dataset.Dataset.{Dataset}
 use Rattle.viz_legacy_read.specs.Reading.{IsSound}
 use Rattle.viz_network.specs.declared.fault.Fault.{Fault}
+use Rattle.viz_network.specs.Network.{name_of}
 use Rattle.viz_once.specs.declared.command.Filter.{Filter}
 use Rattle.viz_once.specs.declared.outcome.Cause.{Cause}
 use Rattle.viz_once.specs.Account.{IsInput}
-use Rattle.viz_once.specs.Causes.{ReadsFile, IsCauseOf}
+use Rattle.viz_once.specs.Causes.{cause_text, ReadsFile, IsCauseOf}
 use Rattle.viz_once.specs.Command.{Command, command_of}
 use Rattle.viz_once.specs.Outputs.{output_text, cells_written, points_written, cells_made, points_made, Accepts}
+use Rattle.viz_report.specs.declared.line.Reason.TheVariants.{Fault as Named}
+use Rattle.viz_report.specs.Words.{reason_text}
 use Rattle.viz_scratch.specs.Scratch.{IsScratch}
 use Rattle.viz_once_history.specs.FixedHistory.{HasNumbers, history_of, network_for, op_id, IsFileFor, fault_of}
 
@@ -49,3 +52,8 @@ CausesAreFaults = (filter : Filter) (bytes : List ℕ) (cause : Cause) (fault : 
 abbrev pub FaultsAreCauses : Type 0
 FaultsAreCauses = (filter : Filter) (bytes : List ℕ) (fault : Fault) → HasNumbers filter → IsFileFor filter bytes (Err fault)
     → (cause : Cause) × IsCauseOf filter bytes cause × (fault_of cause ≡ Some fault)
+
+-- the words of a cause are those of its fault, with the name of the fault's node
+abbrev pub WordsAreOfFaults : Type 0
+WordsAreOfFaults = (filter : Filter) (bytes : List ℕ) (cause : Cause) (fault : Fault) → HasNumbers filter → fault_of cause ≡ Some fault
+    → (name : List ℕ) × (name_of (network_for filter bytes) fault.node.0 ≡ Some name) × (cause_text cause ≡ reason_text (Named fault name))

@@ -2,7 +2,7 @@
 //! definitions alone.
 
 ghost use Rattle.viz_once_history.specs.Account.{RunsAreAccounted};
-ghost use Rattle.viz_once_history.specs.Laws.{CausesAreFaults, FaultsAreCauses, FilesAreOfInputs, HistoriesAreLegal, InputsAreMade, WordsHaveNumbers};
+ghost use Rattle.viz_once_history.specs.Laws.{CausesAreFaults, FaultsAreCauses, FilesAreOfInputs, HistoriesAreLegal, InputsAreMade, WordsAreOfFaults, WordsHaveNumbers};
 
 use viz_base::{Out, Port};
 use viz_legacy_read::files_are_definite;
@@ -27,9 +27,11 @@ pub fn files_are_of_inputs()
     files_are_definite();
 }
 
-/// Where bytes are refused for a cause, the filter's node has no file there, for that fault.
+/// Where bytes are refused for a cause, the filter's node has no file there, for that fault; and a
+/// report has the same words for both.
 pub fn causes_are_faults()
-    ensures { CausesAreFaults }
+    ensures faults { CausesAreFaults }
+    ensures words { WordsAreOfFaults }
 {}
 
 /// Where the filter's node has no file, the bytes are refused for a cause that is its fault.
