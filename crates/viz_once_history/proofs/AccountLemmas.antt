@@ -1,5 +1,5 @@
 -- The account of a run by the fixed history of its command, from the account that viz_once gives.
-use Rattle.std.proofs.Common.{◌≡◌, ℕ, List, [], ◌∷◌, Option, None, Some, Ok, Err, refl, sym, ap, subst, ◌∙◌, inl, inr}
+use Rattle.std.proofs.Common.{◌≡◌, ℕ, List, [], ◌∷◌, Option, None, Some, refl, ap, ◌∙◌, inl, inr}
 use Rattle.viz_base.specs.declared.port.Port as port
 use Rattle.viz_base.specs.declared.out.Out as out
 use Rattle.viz_base.specs.declared.call.ReadAnswer.TheVariants as read
@@ -11,12 +11,12 @@ use Rattle.viz_once.specs.declared.outcome.Cause.{Cause}
 use Rattle.viz_once.specs.declared.outcome.Cause.TheVariants.{TooLong, BadFile, WrongInput, TooWide, TooMany}
 use Rattle.viz_once.specs.declared.outcome.Outcome.{Outcome}
 use Rattle.viz_once.specs.declared.outcome.Outcome.TheVariants as outcome
-use Rattle.viz_once.specs.Account.{Deed, Nothing, Asked, Answered, EndsIn, IsServed, Serves, IsRun}
+use Rattle.viz_once.specs.Account.{Deed, Nothing, Asked, Answered, EndsIn, IsServed, Serves}
 use Rattle.viz_once.specs.Causes.{IsCauseOf}
 use Rattle.viz_once.specs.Command.{Command, command_of}
-use Rattle.viz_once.specs.Outputs.{output_text, cells_made, points_made}
+use Rattle.viz_once.specs.Outputs.{cells_made, points_made}
 use Rattle.viz_once_history.specs.FixedHistory.{HasNumbers, at_source, at_op, fault_of}
-use Rattle.viz_once_history.specs.Account.{EndsByHistory, IsServedByHistory, ServesByHistory, IsOnceAccount, RunsAreAccounted}
+use Rattle.viz_once_history.specs.Account.{EndsByHistory, IsServedByHistory, ServesByHistory, RunsAreAccounted}
 use Rattle.viz_once_history.proofs.CommandLemmas.{words_have_numbers}
 use Rattle.viz_once_history.proofs.FileLemmas.{inputs_are_made, causes_are_faults}
 use Rattle.viz_once_history.proofs.NetworkLemmas.{histories_are_legal}

@@ -1,12 +1,12 @@
 -- What a file, or a fault, of the filter's node says of the bytes.
-use Rattle.std.proofs.Common.{◌≡◌, ◌⊎◌, ℕ, ℤ, false, List, [], ◌∷◌, Option, None, Some, Result, Ok, Err, refl, sym, ap, subst, ◌∙◌, inl, inr}
+use Rattle.std.proofs.Common.{◌≡◌, ◌⊎◌, ℕ, ℤ, false, List, [], ◌∷◌, Option, Some, Result, Ok, Err, refl, sym, ap, subst, ◌∙◌, inl, inr}
 use Rattle.viz_base.specs.declared.node.Pick.TheVariants.{First}
 use Rattle.viz_dataset.specs.Images.{Vector, ImageData, IsOrigin, position, corner}
 use Rattle.viz_extent.specs.Extent.{Bounds}
 use Rattle.viz_dataset.specs.declared.dataset.Dataset.{Dataset}
 use Rattle.viz_dataset.specs.declared.dataset.Dataset.TheVariants.{Image, Mesh}
 use Rattle.viz_image_ops.proofs.PartLemmas.{on_itself, thresholded-on, part_is_determined}
-use Rattle.viz_legacy_read.specs.Header.{Header, Heading, header}
+use Rattle.viz_legacy_read.specs.Header.{Header, header}
 use Rattle.viz_legacy_read.specs.Header.Heading.{OfImage, OfMesh}
 use Rattle.viz_legacy_read.specs.Reading.{front, Reads, ReadsHeader, StopsInHeader, IsMeshFile, IsSound}
 use Rattle.viz_lex.specs.Rules.{IsDefinite}
@@ -22,9 +22,9 @@ use Rattle.viz_network.specs.Network.{Network}
 use Rattle.viz_once.specs.declared.command.Filter.{Filter}
 use Rattle.viz_once.specs.declared.command.Filter.TheVariants.{Threshold, Contour}
 use Rattle.viz_once.specs.declared.outcome.Cause.{Cause}
-use Rattle.viz_once.specs.declared.outcome.Cause.TheVariants.{TooLong, BadFile, WrongInput, TooWide, TooMany}
+use Rattle.viz_once.specs.declared.outcome.Cause.TheVariants.{BadFile, WrongInput, TooWide, TooMany}
 use Rattle.viz_once.specs.Causes.{ReadsFile, HasWrongInput, IsCauseOf}
-use Rattle.viz_once.specs.Outputs.{text_of, output_text, contoured, IsNarrowContour, IsTooMany, HasWideText, Accepts}
+use Rattle.viz_once.specs.Outputs.{output_text, contoured, IsNarrowContour, IsTooMany, HasWideText, Accepts}
 use Rattle.viz_scratch.specs.declared.information.Information.{Information}
 use Rattle.viz_scratch.specs.declared.information.Information.TheVariants as information
 use Rattle.viz_scratch.specs.Fold.{at_node, IsGiven}
@@ -32,7 +32,7 @@ use Rattle.viz_scratch.specs.Information.{InformationRule, IsHeaderOf}
 use Rattle.viz_scratch.specs.Data.{contour_forms, IsSection, DataRule}
 use Rattle.viz_scratch.specs.Scratch.{IsScratch, IsBehind}
 use Rattle.viz_scratch.specs.Written.{Style, style_of, text_with, HasFewCounts, HasFitNumbers, IsUnwritten, IsTextBehind, IsFileOf}
-use Rattle.viz_once_history.specs.FixedHistory.{HasNumbers, op_id, at_source, at_op, fault_of}
+use Rattle.viz_once_history.specs.FixedHistory.{op_id, at_source, at_op, fault_of}
 use Rattle.viz_once_history.specs.Laws.{FilesAreOfInputs, FaultsAreCauses}
 use Rattle.viz_once_history.proofs.FileLemmas.{thresholded_valid}
 use Rattle.viz_once_history.proofs.GivenLemmas.{fed_by, Stopped, Passed, undone}

@@ -1,5 +1,5 @@
 -- What a node gives that one source feeds.
-use Rattle.std.proofs.Common.{◌≡◌, ◌⊎◌, ℕ, zero, suc, List, [], ◌∷◌, replicate, Option, None, Some, Result, Ok, Err, refl, ap, subst, ◌∙◌, inl, inr}
+use Rattle.std.proofs.Common.{◌≡◌, ◌⊎◌, ℕ, zero, suc, ◌∷◌, replicate, None, Some, Result, Ok, Err, refl, ap, subst, ◌∙◌, inl, inr}
 use Rattle.viz_network.specs.declared.node.Node.{Node}
 use Rattle.viz_network.specs.declared.fault.Cause.{Cause}
 use Rattle.viz_network.specs.declared.fault.Fault.{Fault}

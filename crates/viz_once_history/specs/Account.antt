@@ -29,11 +29,13 @@ use Rattle.viz_once_history.specs.Laws.{IsMadeFor}
 abbrev pub IsFaultTold : Command → List ℕ → Outcome → Type 0
 IsFaultTold c bytes o =
     (cause : Cause) × (fault : Fault) × (name : List ℕ) × (fault_of cause ≡ Some fault) × IsFileFor c.filter bytes (Err fault)
-    × (name_of (network_for c.filter bytes) fault.node.0 ≡ Some name) × (cause_text cause ≡ reason_text (Named fault name)) × (o ≡ outcome.Refused cause)
+    × (name_of (network_for c.filter bytes) fault.node.0 ≡ Some name) × (cause_text cause ≡ reason_text (Named fault name))
+    × (o ≡ outcome.Refused cause)
 
 -- this text is the file of the filter's node; where its write was done its numbers are told
 abbrev pub IsFileTold : Command → List ℕ → List ℕ → WriteAnswer → Outcome → Type 0
-IsFileTold c bytes text write.Written o = (cells points : ℕ) × IsMadeFor c.filter bytes text cells points × (o ≡ outcome.Written cells points)
+IsFileTold c bytes text write.Written o =
+    (cells points : ℕ) × IsMadeFor c.filter bytes text cells points × (o ≡ outcome.Written cells points)
 IsFileTold c bytes text write.Failed o = IsFileFor c.filter bytes (Ok text) × (o ≡ outcome.Fault call.Write)
 
 -- the outcome of a command that did this: memory ran out; or the read failed; or the load is refused, since the file is too long;
