@@ -1,5 +1,5 @@
 -- The account of a run by the fixed history of its command, from the account that viz_once gives.
-use Rattle.std.proofs.Common.{◌≡◌, ℕ, List, [], ◌∷◌, Option, None, Some, Ok, Err, refl, sym, ap, subst, ◌∙◌, inl, inr}
+use Rattle.std.proofs.Common.{◌≡◌, ℕ, List, [], ◌∷◌, Option, None, Some, refl, ap, ◌∙◌, inl, inr}
 use Rattle.viz_base.specs.declared.port.Port as port
 use Rattle.viz_base.specs.declared.out.Out as out
 use Rattle.viz_base.specs.declared.call.ReadAnswer.TheVariants as read
@@ -11,15 +11,16 @@ use Rattle.viz_once.specs.declared.outcome.Cause.{Cause}
 use Rattle.viz_once.specs.declared.outcome.Cause.TheVariants.{TooLong, BadFile, WrongInput, TooWide, TooMany}
 use Rattle.viz_once.specs.declared.outcome.Outcome.{Outcome}
 use Rattle.viz_once.specs.declared.outcome.Outcome.TheVariants as outcome
-use Rattle.viz_once.specs.Account.{Deed, Nothing, Asked, Answered, EndsIn, IsServed, Serves, IsRun}
+use Rattle.viz_once.specs.Account.{Deed, Nothing, Asked, Answered, EndsIn, IsServed, Serves}
 use Rattle.viz_once.specs.Causes.{IsCauseOf}
 use Rattle.viz_once.specs.Command.{Command, command_of}
-use Rattle.viz_once.specs.Outputs.{output_text, cells_made, points_made}
+use Rattle.viz_once.specs.Outputs.{cells_made, points_made}
 use Rattle.viz_once_history.specs.FixedHistory.{HasNumbers, at_source, at_op, fault_of}
-use Rattle.viz_once_history.specs.Account.{EndsByHistory, IsServedByHistory, ServesByHistory, IsOnceAccount, RunsAreAccounted}
+use Rattle.viz_once_history.specs.Account.{EndsByHistory, IsServedByHistory, ServesByHistory, RunsAreAccounted}
 use Rattle.viz_once_history.proofs.CommandLemmas.{words_have_numbers}
 use Rattle.viz_once_history.proofs.FileLemmas.{inputs_are_made, causes_are_faults}
 use Rattle.viz_once_history.proofs.NetworkLemmas.{histories_are_legal}
+use Rattle.viz_once_history.proofs.WordLemmas.{words_are_of_faults}
 
 -- a cause of bytes that were read is a fault
 pub fault_at : (filter : Filter) (bytes : List ℕ) (cause : Cause) → IsCauseOf filter bytes cause → (f : Fault) × (fault_of cause ≡ Some f)
@@ -37,7 +38,8 @@ module _ (c : Command) (numbers : HasNumbers c.filter) where
   ends_by (Asked (read.Given bytes)) o (inl memory) = (histories_are_legal c.filter bytes numbers, inl memory)
   ends_by (Asked (read.Given bytes)) o (inr r) =
       let f = fault_at c.filter bytes r.0 r.1 in
-      (histories_are_legal c.filter bytes numbers, inr (r.0, f.0, f.1, causes_are_faults c.filter bytes r.0 f.0 numbers r.1 f.1, r.2))
+      let w = words_are_of_faults c.filter bytes r.0 f.0 numbers f.1 in
+      (histories_are_legal c.filter bytes numbers, inr (r.0, f.0, w.0, f.1, causes_are_faults c.filter bytes r.0 f.0 numbers r.1 f.1, w.1, w.2, r.2))
   ends_by (Answered bytes d write.Written) o h =
       (histories_are_legal c.filter bytes numbers, (cells_made c.filter d, points_made c.filter d, inputs_are_made c bytes d numbers h.0, h.1))
   ends_by (Answered bytes d write.Failed) o h =

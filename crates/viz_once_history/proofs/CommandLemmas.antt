@@ -1,12 +1,12 @@
 -- The numbers of a filter that words tell are of 64 bits.
-use Rattle.std.proofs.Common.{◌≡◌, ℕ, ℤ, Bool, true, false, cond, List, [], ◌∷◌, Option, None, Some, refl, sym, ap, subst, ◌∙◌}
+use Rattle.std.proofs.Common.{◌≡◌, ℕ, ℤ, Bool, true, false, cond, List, [], ◌∷◌, Option, None, Some, refl, subst}
 use Rattle.std.specs.Prelude.{codes, option_map, option_and_then}
 use Rattle.std.specs.List.{list_all}
 use Rattle.std.specs.Str.{bytes_eq}
 use Rattle.viz_lex.specs.Numbers.{whole_of}
 use Rattle.viz_once.specs.declared.command.Filter.{Filter}
 use Rattle.viz_once.specs.declared.command.Filter.TheVariants.{Threshold, Contour}
-use Rattle.viz_once.specs.Command.{Command, fits_i64, is_number_byte, number_of, file_name_of, contour_of, filter_of, command_of}
+use Rattle.viz_once.specs.Command.{Command, fits_i64, is_number_byte, number_of, file_name_of, filter_of, command_of}
 use Rattle.viz_once_history.specs.FixedHistory.{HasNumbers}
 use Rattle.viz_once_history.specs.Laws.{WordsHaveNumbers}
 

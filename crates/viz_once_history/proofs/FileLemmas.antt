@@ -1,10 +1,9 @@
 -- The file of the filter's node in the network of the fixed history.
-use Rattle.std.proofs.Common.{◌≡◌, ℕ, ℤ, pos, Bool, true, false, if◌then◌else◌, ◌&&◌, List, [], ◌∷◌, length, map, Option, None, Some, Result, Ok, Err, refl, sym, ap, subst, ◌∙◌, inl, inr}
+use Rattle.std.proofs.Common.{◌≡◌, ℕ, ℤ, pos, Bool, true, false, if◌then◌else◌, ◌&&◌, List, [], ◌∷◌, map, Option, Some, Ok, Err, refl, sym, ap, subst, ◌∙◌, inl, inr}
 use Rattle.std.specs.List.{list_all}
 use Rattle.std.proofs.lemmas.List.{length-map}
 use Rattle.viz_base.specs.declared.node.Pick.TheVariants.{First}
 use Rattle.viz_column.specs.Kinds.{fits as fits_kind}
-use Rattle.viz_column.specs.Numbers.{AreInRange}
 use Rattle.viz_column.specs.declared.kind.Kind8.{Kind8}
 use Rattle.viz_column.specs.declared.kind.Kind8.TheVariants as eight
 use Rattle.viz_dataset.specs.Images.{ImageData, IsImage}
@@ -13,11 +12,10 @@ use Rattle.viz_dataset.specs.declared.dataset.Dataset.TheVariants.{Image, Mesh}
 use Rattle.viz_image_ops.proofs.PartLemmas.{on_itself, thresholded-on}
 use Rattle.viz_legacy_read.specs.Header.{Heading}
 use Rattle.viz_legacy_read.specs.Header.Heading.{OfImage, OfMesh}
-use Rattle.viz_legacy_read.specs.Reading.{Reads, Stops, ReadsHeader, StopsInHeader, IsMeshFile, IsSound}
+use Rattle.viz_legacy_read.specs.Reading.{Reads, Stops, ReadsHeader, StopsInHeader, IsSound}
 use Rattle.viz_lex.specs.declared.fault.FileFault.{FileFault}
 use Rattle.viz_meaning.specs.Threshold.{is_within, kept_value, thresholded}
 use Rattle.viz_meaning.specs.WholeImages.{whole_of}
-use Rattle.viz_network.specs.declared.fault.Cause as faults
 use Rattle.viz_network.specs.declared.fault.Cause.TheVariants as fault
 use Rattle.viz_network.specs.declared.fault.Fault.{Fault}
 use Rattle.viz_network.specs.Network.{Network}
@@ -25,19 +23,17 @@ use Rattle.viz_once.specs.declared.command.Filter.{Filter}
 use Rattle.viz_once.specs.declared.command.Filter.TheVariants.{Threshold, Contour}
 use Rattle.viz_once.specs.declared.outcome.Cause.{Cause}
 use Rattle.viz_once.specs.declared.outcome.Cause.TheVariants.{TooLong, BadFile, WrongInput, TooWide, TooMany}
-use Rattle.viz_once.specs.Account.{IsInput}
 use Rattle.viz_once.specs.Causes.{HasWrongInput, IsBadFile, IsCauseOf}
-use Rattle.viz_once.specs.Command.{Command}
-use Rattle.viz_once.specs.Outputs.{output_text, contoured, IsNarrowContour, Takes, IsNarrowResult, result_of, HasFewCounts, HasFitNumbers, IsTooMany, IsTooWide, HasWideText}
+use Rattle.viz_once.specs.Outputs.{output_text, contoured, IsNarrowContour, Takes, IsNarrowResult, result_of, HasFewCounts, HasFitNumbers, IsTooMany, IsTooWide}
 use Rattle.viz_scratch.specs.declared.information.Information.{Information}
 use Rattle.viz_scratch.specs.declared.information.Information.TheVariants as information
-use Rattle.viz_scratch.specs.Information.{grid_of, InformationRule}
+use Rattle.viz_scratch.specs.Information.{InformationRule}
 use Rattle.viz_scratch.specs.Data.{DataRule}
 use Rattle.viz_scratch.specs.Scratch.{IsScratch}
 use Rattle.viz_scratch.specs.Written.{IsFileOf}
-use Rattle.viz_once_history.specs.FixedHistory.{HasNumbers, network_for, op_id, IsFileFor, at_source, at_op, fault_of}
-use Rattle.viz_once_history.specs.Laws.{IsMadeFor, InputsAreMade, CausesAreFaults}
-use Rattle.viz_once_history.proofs.GivenLemmas.{fed_by, through, stopped}
+use Rattle.viz_once_history.specs.FixedHistory.{op_id, at_source, at_op, fault_of}
+use Rattle.viz_once_history.specs.Laws.{InputsAreMade, CausesAreFaults}
+use Rattle.viz_once_history.proofs.GivenLemmas.{through, stopped}
 use Rattle.viz_once_history.proofs.HeaderLemmas.{said_by, says, heading_of, image_heading, file_corner}
 use Rattle.viz_once_history.proofs.NetworkLemmas.{source_node, op_node, made_network, network_is}
 
@@ -71,7 +67,7 @@ all_kept kind lo hi (n ∷ ns) h =
     let one : fits_kind kind (kept_value lo hi n) ≡ true = kept_fits kind n (is_within lo hi n) (first_of (fits_kind kind n) (list_all (fits_kind kind) ns) h) in
     ap (λ (b : Bool). b && list_all (fits_kind kind) (map (kept_value lo hi) ns)) one ∙ all_kept kind lo hi ns (rest_of (fits_kind kind n) (list_all (fits_kind kind) ns) h)
 
-thresholded_valid : (lo hi : ℤ) (i : ImageData) → IsImage i → IsImage (thresholded lo hi i)
+pub thresholded_valid : (lo hi : ℤ) (i : ImageData) → IsImage i → IsImage (thresholded lo hi i)
 thresholded_valid lo hi i valid = record {
   extent = valid.extent;
   range = all_kept i.values.kind lo hi i.values.items valid.range;

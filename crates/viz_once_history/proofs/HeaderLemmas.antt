@@ -1,5 +1,5 @@
 -- The header of a file, and what it says of an image.
-use Rattle.std.proofs.Common.{◌≡◌, ℕ, zero, suc, ◌≤◌, ◌+◌, ◌^◌, ℤ, pos, negsuc, ◌+ℤ◌, ◌*ℤ◌, Bool, true, false, cond, List, [], ◌∷◌, ◌++◌, Option, None, Some, Ok, refl, sym, ap, subst, ◌∙◌, arith}
+use Rattle.std.proofs.Common.{◌≡◌, ℕ, zero, suc, ℤ, pos, Bool, true, false, cond, List, [], ◌∷◌, ◌++◌, Option, None, Some, Ok, refl, sym, ap, subst, ◌∙◌, arith}
 use Rattle.std.specs.Prelude.{IfSome, codes, unwrap_or, fold, not, ◌&&◌, ◌||◌}
 use Rattle.std.proofs.lemmas.Bool.Decides.{nat_tests}
 use Rattle.viz_base.specs.declared.node.Pick.TheVariants.{First}
@@ -8,7 +8,7 @@ use Rattle.viz_dataset.specs.declared.dataset.Dataset.{Dataset}
 use Rattle.viz_dataset.specs.declared.dataset.Dataset.TheVariants as dataset
 use Rattle.viz_extent.specs.Extent.{Bounds}
 use Rattle.viz_legacy_read.specs.File.{contents}
-use Rattle.viz_legacy_read.specs.Header.{Header, Heading, header, header_line, header_of, image_header, is_image, Line, Sizes, Origin, Spacing_of, Geometry, no_line, with_line, geometry_of, whole_of, all_of, sizes, origin, spacing, behind}
+use Rattle.viz_legacy_read.specs.Header.{Header, Heading, header, header_line, header_of, image_header, is_image, Line, Sizes, Origin, Spacing_of, Geometry, no_line, with_line, geometry_of, whole_of, all_of, sizes, origin, behind}
 use Rattle.viz_legacy_read.specs.Header.Heading.{OfImage, OfMesh}
 use Rattle.viz_legacy_read.specs.ImageFile.{image_of}
 use Rattle.viz_legacy_read.specs.Reading.{front, Reads, ReadsHeader, IsMeshFile}
@@ -16,10 +16,9 @@ use Rattle.viz_lex.specs.Decimals.{in_limit, limited, decimal_of}
 use Rattle.viz_lex.specs.Items.{decimal, decimal_from}
 use Rattle.viz_lex.specs.Reading.{Reading}
 use Rattle.viz_lex.specs.Repeats.{AreKnown}
-use Rattle.viz_lex.specs.Rules.{Rule, choose, gives, refuses, ◌>>=◌}
+use Rattle.viz_lex.specs.Rules.{Rule, choose, gives, ◌>>=◌}
 use Rattle.viz_lex.specs.Steps.{same_word, has}
-use Rattle.viz_lex.specs.Reading.{fault_at}
-use Rattle.viz_lex.specs.Steps.{keyword_kind}
+use Rattle.viz_sheet.specs.Sheet.{SheetData}
 use Rattle.viz_scratch.specs.declared.information.Information.{Information}
 use Rattle.viz_scratch.specs.declared.information.Information.TheVariants as information
 use Rattle.viz_scratch.specs.Information.{grid_of, IsHeaderOf}
@@ -47,6 +46,14 @@ image_behind_it bytes i (OfMesh p) mid next is c = absurd (let bad : dataset.Ima
 
 pub image_heading : (bytes : List ℕ) (i : ImageData) → Reads bytes First 0 (dataset.Image i) → (g : Header) × ReadsHeader bytes (OfImage g)
 image_heading bytes i reads = image_behind_it bytes i reads.1.0 reads.1.1 reads.0 reads.1.2 reads.1.3
+
+-- a mesh stands behind the header of a mesh
+mesh_behind_it : (bytes : List ℕ) (m : List SheetData) (h : Heading) (mid next : Reading) → header.is (front bytes) mid h → (contents First 0 h).is mid next (dataset.Mesh m) → IsMeshFile bytes
+mesh_behind_it bytes m (OfImage g) mid next is c = absurd (let bad : dataset.Mesh m ≡ dataset.Image c.0 = c.3.1 in cc)
+mesh_behind_it bytes m (OfMesh p) mid next is c = (p, (mid, is))
+
+pub mesh_heading : (bytes : List ℕ) (m : List SheetData) → Reads bytes First 0 (dataset.Mesh m) → IsMeshFile bytes
+mesh_heading bytes m reads = mesh_behind_it bytes m reads.1.0 reads.1.1 reads.0 reads.1.2 reads.1.3
 
 -- ---- the lines of an image's header
 

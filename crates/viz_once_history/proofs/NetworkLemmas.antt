@@ -1,10 +1,7 @@
 -- The network of the fixed history, and what lies upstream of its filter.
-use Rattle.std.proofs.Common.{◌≡◌, ℕ, zero, suc, ◌≤◌, ◌<◌, ◌^◌, Bool, true, false, not, ◌&&◌, nat_lt, int_le, ℤ, pos, negsuc, List, [], ◌∷◌, replicate, Option, None, Some, Result, Ok, Err, refl, sym, ap, subst, ◌∙◌, arith}
+use Rattle.std.proofs.Common.{◌≡◌, ℕ, zero, suc, ◌<◌, ◌^◌, Bool, true, false, not, ◌&&◌, int_le, ℤ, pos, negsuc, List, [], ◌∷◌, replicate, None, Some, Ok, refl, arith}
 use Rattle.std.proofs.lemmas.Bool.Decides.{nat_tests}
-use Rattle.viz_base.specs.declared.node.NodeId.{NodeId}
 use Rattle.viz_base.specs.declared.node.Pick.TheVariants.{First}
-use Rattle.viz_core.specs.declared.entry.Entry.{Entry}
-use Rattle.viz_core.specs.History.{network_of, IsLegal}
 use Rattle.viz_kinds.specs.declared.settings.Settings.{Settings}
 use Rattle.viz_kinds.specs.declared.settings.Settings.TheVariants as settings
 use Rattle.viz_kinds.specs.Values.{is_value, first_number, last_number}
@@ -13,13 +10,12 @@ use Rattle.viz_network.specs.declared.refusal.Refusal.TheVariants.{BadValue}
 use Rattle.viz_network.specs.Applies.{IsAccepted}
 use Rattle.viz_network.specs.Cone.{Cone, none, empty, fed, Tree, cone_of}
 use Rattle.viz_network.specs.Edits.{unless}
-use Rattle.viz_network.specs.History.{pick}
 use Rattle.viz_network.specs.Network.{Network}
 use Rattle.viz_once.specs.declared.command.Filter.{Filter}
 use Rattle.viz_once.specs.declared.command.Filter.TheVariants.{Threshold, Contour}
 use Rattle.viz_once.specs.Command.{fits_i64}
 use Rattle.viz_once_history.specs.Laws.{HistoriesAreLegal}
-use Rattle.viz_once_history.specs.FixedHistory.{source, op, param_of, value_of, HasNumbers, history_of, network_for, source_id, op_id}
+use Rattle.viz_once_history.specs.FixedHistory.{source, op, param_of, value_of, HasNumbers, network_for, op_id}
 
 -- ---- the numbers
 
@@ -71,17 +67,29 @@ taken net false e = absurd (let bad : false ≡ true = e in cc)
 pub histories_are_legal : HistoriesAreLegal
 histories_are_legal (Threshold lo hi) bytes h = (
   record { accepted = tt; counted = refl },
-  (record { accepted = tt; counted = refl },
-  (record { accepted = tt; counted = refl },
-  (record { accepted = tt; counted = refl },
-  (record { accepted = taken (made_network (Threshold lo hi) bytes) (is_value (param_of (Threshold lo hi)) (value_of (Threshold lo hi))) (fits (Threshold lo hi) h); counted = refl }, tt)))),
+  (
+    record { accepted = tt; counted = refl },
+    (
+      record { accepted = tt; counted = refl },
+      (
+        record { accepted = tt; counted = refl },
+        (record { accepted = taken (made_network (Threshold lo hi) bytes) (is_value (param_of (Threshold lo hi)) (value_of (Threshold lo hi))) (fits (Threshold lo hi) h); counted = refl }, tt),
+      ),
+    ),
+  ),
 )
 histories_are_legal (Contour level) bytes h = (
   record { accepted = tt; counted = refl },
-  (record { accepted = tt; counted = refl },
-  (record { accepted = tt; counted = refl },
-  (record { accepted = tt; counted = refl },
-  (record { accepted = taken (made_network (Contour level) bytes) (is_value (param_of (Contour level)) (value_of (Contour level))) (fits (Contour level) h); counted = refl }, tt)))),
+  (
+    record { accepted = tt; counted = refl },
+    (
+      record { accepted = tt; counted = refl },
+      (
+        record { accepted = tt; counted = refl },
+        (record { accepted = taken (made_network (Contour level) bytes) (is_value (param_of (Contour level)) (value_of (Contour level))) (fits (Contour level) h); counted = refl }, tt),
+      ),
+    ),
+  ),
 )
 
 -- ---- the cone

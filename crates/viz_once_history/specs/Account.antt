@@ -7,6 +7,7 @@ use Rattle.viz_base.specs.declared.call.WriteAnswer.{WriteAnswer}
 use Rattle.viz_base.specs.declared.call.WriteAnswer.TheVariants as write
 use Rattle.viz_core.specs.History.{IsLegal}
 use Rattle.viz_network.specs.declared.fault.Fault.{Fault}
+use Rattle.viz_network.specs.Network.{name_of}
 use Rattle.viz_once.specs.declared.outcome.Cause.{Cause}
 use Rattle.viz_once.specs.declared.outcome.Cause.TheVariants.{TooLong}
 use Rattle.viz_once.specs.declared.outcome.Failed.TheVariants as call
@@ -14,21 +15,27 @@ use Rattle.viz_once.specs.declared.outcome.Outcome.{Outcome}
 use Rattle.viz_once.specs.declared.outcome.Outcome.TheVariants as outcome
 use Rattle.viz_once.specs.declared.outcome.Status.{Status}
 use Rattle.viz_once.specs.Account.{Deed, Nothing, Asked, Answered, IsDoneAt, IsTold, IsRun}
+use Rattle.viz_once.specs.Causes.{cause_text}
 use Rattle.viz_once.specs.Command.{Command, command_of}
 use Rattle.viz_once.specs.Outputs.{output_text}
-use Rattle.viz_once_history.specs.FixedHistory.{history_of, IsFileFor, fault_of}
+use Rattle.viz_report.specs.declared.line.Reason.TheVariants.{Fault as Named}
+use Rattle.viz_report.specs.Words.{reason_text}
+use Rattle.viz_once_history.specs.FixedHistory.{history_of, network_for, IsFileFor, fault_of}
 use Rattle.viz_once_history.specs.Laws.{IsMadeFor}
 
 -- ---- one command
 
--- the filter's node has no file, and its fault is told
+-- the filter's node has no file; its fault is told, in the words that a report has for it
 abbrev pub IsFaultTold : Command → List ℕ → Outcome → Type 0
 IsFaultTold c bytes o =
-    (cause : Cause) × (fault : Fault) × (fault_of cause ≡ Some fault) × IsFileFor c.filter bytes (Err fault) × (o ≡ outcome.Refused cause)
+    (cause : Cause) × (fault : Fault) × (name : List ℕ) × (fault_of cause ≡ Some fault) × IsFileFor c.filter bytes (Err fault)
+    × (name_of (network_for c.filter bytes) fault.node.0 ≡ Some name) × (cause_text cause ≡ reason_text (Named fault name))
+    × (o ≡ outcome.Refused cause)
 
 -- this text is the file of the filter's node; where its write was done its numbers are told
 abbrev pub IsFileTold : Command → List ℕ → List ℕ → WriteAnswer → Outcome → Type 0
-IsFileTold c bytes text write.Written o = (cells points : ℕ) × IsMadeFor c.filter bytes text cells points × (o ≡ outcome.Written cells points)
+IsFileTold c bytes text write.Written o =
+    (cells points : ℕ) × IsMadeFor c.filter bytes text cells points × (o ≡ outcome.Written cells points)
 IsFileTold c bytes text write.Failed o = IsFileFor c.filter bytes (Ok text) × (o ≡ outcome.Fault call.Write)
 
 -- the outcome of a command that did this: memory ran out; or the read failed; or the load is refused, since the file is too long;

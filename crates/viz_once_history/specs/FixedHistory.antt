@@ -1,4 +1,4 @@
--- The fixed history of a command of one file: a source with the file's bytes, and the filter behind it (docs/DEFINITIONS.md, "The fixed history of one file").
+-- The fixed history of a command of one file: a source, and the filter behind it (docs/DEFINITIONS.md, "The fixed history of one file").
 use Rattle.std.specs.Prelude.{◌≡◌, ℕ, pos, true, List, [], ◌∷◌, replicate, codes, Option, None, Some, Result}
 use Rattle.viz_core.specs.declared.entry.Entry.{Entry}
 use Rattle.viz_core.specs.History.{entry, network_of}
@@ -8,7 +8,6 @@ use Rattle.viz_kinds.specs.declared.param.Param.{Param}
 use Rattle.viz_kinds.specs.declared.param.Param.TheVariants as param
 use Rattle.viz_kinds.specs.declared.param.Value.{Value}
 use Rattle.viz_kinds.specs.declared.param.Value.TheVariants.{Numbers}
-use Rattle.viz_network.specs.declared.edit.Edit.{Edit}
 use Rattle.viz_network.specs.declared.edit.Edit.TheVariants.{Add, Load, Connect, Set}
 use Rattle.viz_network.specs.declared.fault.Cause as faults
 use Rattle.viz_network.specs.declared.fault.Cause.TheVariants as fault

@@ -43,7 +43,8 @@ IsScript m o c desk new_desk old new before after =
     ⊎ ((answer : ReadAnswer) × (n : ℕ) × (r : ScriptRefusal) × IsRefusal answer n r × (new ≡ old)
     × IsAsked m c.journal (Some answer) desk new_desk × PutsLine o (refused_script n r) before after)
 
--- where there is no port that is told; and where the journal's read was answered so, and the desk was asked for nothing else, a refusal of it is; no port was called
+-- where there is no port, that is told; and where the journal's read was answered so, and the desk was asked for nothing else, a refusal
+-- of it is told, and no port was called
 pub record TellsRefusals {P O : Type 0} (m : port.Ghosts P) (o : out.Ghosts O) (c : Replay) (desk new_desk : P) (old new : List P)
     (before after : O) (ended : Status) : Type 0 where
   pub no_port : old ≡ [] → EndsInScript o no_port_line before after ended
