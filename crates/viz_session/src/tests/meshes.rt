@@ -210,7 +210,13 @@ fn ends_so<R: Threads + Wait + Sync + Abort>(
     text: Option<&str>,
 ) -> Result<(), Fail> {
     let alloc = rt.alloc();
-    let first = port(alloc, "a.vtk", image.as_bytes(), FILE_LIMIT, Vec::new(alloc))?;
+    let first = port(
+        alloc,
+        "a.vtk",
+        image.as_bytes(),
+        FILE_LIMIT,
+        Vec::new(alloc),
+    )?;
     let left = run_over(rt, alloc, "run s j", script.as_bytes(), first)?;
     assert!(rt; left.text.ends_with(end), "{}", left.text);
     assert!(rt; file(&left.ports, "o.vtk") == text.map(|t| t.as_bytes()));
@@ -253,7 +259,13 @@ fn crossings_that_are_too_wide(rt: HostRuntime) -> Result<(), Fail> {
 fn meshes_joined_and_merged(rt: HostRuntime) -> Result<(), Fail> {
     // append-then-merge
     let alloc = rt.alloc();
-    let first = port(alloc, "a.vtk", CORNER.as_bytes(), FILE_LIMIT, Vec::new(alloc))?;
+    let first = port(
+        alloc,
+        "a.vtk",
+        CORNER.as_bytes(),
+        FILE_LIMIT,
+        Vec::new(alloc),
+    )?;
     let left = run_over(&rt, alloc, "run s j", JOINED.as_bytes(), first)?;
     assert!(rt; left.status == Status::Done);
     assert!(rt; left.text.ends_with(JOINED_END), "{}", left.text);
