@@ -15,8 +15,8 @@ use Rattle.viz_network.specs.Cone.{Cone, Tree, none, empty, fed}
 use Rattle.viz_surface_law.specs.Audit.{count_sides, count_two, count_lone, count_border}
 use Rattle.viz_surface_law.specs.Surfaces.{by_edges, IsSurface}
 use Rattle.viz_surface_law.specs.Contours.{contour_of, triangles_of, ContoursAreSurfaces, ContourSidesAddUp, LoneSidesAreBorders}
-use Rattle.viz_scratch.specs.Fold.{Inputs}
-use Rattle.viz_scratch.specs.Data.{IsEvaluated, DataRule}
+use Rattle.viz_node_rules.specs.Rules.{Inputs}
+use Rattle.viz_node_rules.specs.Data.{IsEvaluated, DataRule}
 use Rattle.viz_scratch.specs.Scratch.{IsScratchOf}
 use Rattle.viz_scratch.specs.Laws.{ConesGiveOne}
 use Rattle.viz_audit.specs.Audited.{is_contour, IsFedFirst, StandsOn, summed}
