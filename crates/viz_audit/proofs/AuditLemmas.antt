@@ -1,9 +1,9 @@
 -- Audits are closed, and are one.
-use Rattle.std.proofs.Common.{◌≡◌, ℕ, ◌+◌, ◌⊎◌, inl, inr, ℤ, List, [], ◌∷◌, Option, None, Some, Result, Ok, Err, refl, sym, ap, subst, ◌∙◌, arith}
+use Rattle.std.proofs.Common.{◌≡◌, ℕ, ◌+◌, inl, inr, ℤ, List, Some, Result, Ok, Err, sym, ap, subst, ◌∙◌, arith}
 use Rattle.std.specs.List.{All}
 use Rattle.viz_base.specs.declared.node.NodeId.{NodeId}
 use Rattle.viz_extent.specs.Extent.{Bounds}
-use Rattle.viz_dataset.specs.Images.{ImageData, IsImage}
+use Rattle.viz_dataset.specs.Images.{ImageData}
 use Rattle.viz_dataset.specs.declared.dataset.Dataset.{Dataset}
 use Rattle.viz_dataset.specs.declared.dataset.Dataset.TheVariants.{Image, Mesh}
 use Rattle.viz_sheet.specs.Sheet.{SheetData}
@@ -18,7 +18,7 @@ use Rattle.viz_surface_law.specs.Contours.{ContoursAreSurfaces, ContourSidesAddU
 use Rattle.viz_scratch.specs.Scratch.{IsScratch}
 use Rattle.viz_scratch.specs.Laws.{ConesGiveOne}
 use Rattle.viz_audit.specs.Audited.{StandsOn, summed, AreSums, IsAudited, HasNoSurface, IsAuditOf}
-use Rattle.viz_audit.specs.Laws.{IsClosed, AuditsAreClosed, AuditsAreOne}
+use Rattle.viz_audit.specs.Laws.{AuditsAreClosed, AuditsAreOne}
 use Rattle.viz_audit.specs.Steps.Ground.{IsGround}
 use Rattle.viz_audit.proofs.ContourLemmas.{contours_of, contours_given, stands_one, are_surfaces, lone_sum, sides_sum}
 

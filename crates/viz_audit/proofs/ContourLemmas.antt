@@ -1,5 +1,5 @@
 -- The sheets of a contour that stands on an image, and the sums of their counts.
-use Rattle.std.proofs.Common.{◌≡◌, ℕ, ◌+◌, ◌-◌, ℤ, Bool, true, List, [], ◌∷◌, map, take, min, Option, None, Some, Result, Ok, Err, refl, sym, ap, subst, ◌∙◌, arith}
+use Rattle.std.proofs.Common.{◌≡◌, ℕ, ◌+◌, ℤ, true, List, [], ◌∷◌, map, take, min, Option, None, Some, Ok, refl, ap, ◌∙◌, arith}
 use Rattle.std.specs.List.{All}
 use Rattle.std.proofs.lemmas.List.Elements.{All-nil, All-cons}
 use Rattle.viz_dataset.specs.Images.{ImageData, IsImage}
@@ -13,10 +13,10 @@ use Rattle.viz_kinds.specs.declared.settings.Settings.{Settings}
 use Rattle.viz_kinds.specs.declared.settings.Settings.TheVariants as settings
 use Rattle.viz_network.specs.Cone.{Cone, Tree, none, empty, fed}
 use Rattle.viz_surface_law.specs.Audit.{count_sides, count_two, count_lone, count_border}
-use Rattle.viz_surface_law.specs.Surfaces.{by_edges, IsSurface}
+use Rattle.viz_surface_law.specs.Surfaces.{IsSurface}
 use Rattle.viz_surface_law.specs.Contours.{contour_of, triangles_of, ContoursAreSurfaces, ContourSidesAddUp, LoneSidesAreBorders}
 use Rattle.viz_node_rules.specs.Rules.{Inputs}
-use Rattle.viz_node_rules.specs.Data.{IsEvaluated, DataRule}
+use Rattle.viz_node_rules.specs.Data.{IsEvaluated}
 use Rattle.viz_scratch.specs.Scratch.{IsScratchOf}
 use Rattle.viz_scratch.specs.Laws.{ConesGiveOne}
 use Rattle.viz_audit.specs.Audited.{is_contour, IsFedFirst, StandsOn, summed}

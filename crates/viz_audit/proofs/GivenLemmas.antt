@@ -1,15 +1,15 @@
 -- What feeds the first port of a node that gives something.
-use Rattle.std.proofs.Common.{◌≡◌, ℕ, List, [], ◌∷◌, Option, None, Some, Result, Ok, Err, refl, sym, ap, subst, ◌∙◌}
+use Rattle.std.proofs.Common.{◌≡◌, ◌∷◌, Some, Result, Ok, Err, subst}
 use Rattle.viz_dataset.specs.declared.dataset.Dataset.{Dataset}
 use Rattle.viz_network.specs.declared.node.Node.{Node}
 use Rattle.viz_network.specs.declared.fault.Cause.{Cause}
 use Rattle.viz_network.specs.declared.fault.Fault.{Fault}
-use Rattle.viz_network.specs.Cone.{Cone, Tree, none, empty, fed}
+use Rattle.viz_network.specs.Cone.{Cone, fed}
 use Rattle.viz_node_rules.specs.declared.information.Information.{Information}
 use Rattle.viz_node_rules.specs.Information.{InformationRule}
 use Rattle.viz_node_rules.specs.Data.{DataRule}
 use Rattle.viz_node_rules.specs.Rules.{Inputs, NodeRule}
-use Rattle.viz_scratch.specs.Fold.{at_node, filled, joined, IsMade, AreGiven, IsGiven}
+use Rattle.viz_scratch.specs.Fold.{at_node, filled, joined, IsMade, IsGiven}
 use Rattle.viz_scratch.specs.Scratch.{IsBehind, IsScratchOf}
 
 -- a node gives what its rule makes of what its first port is fed with

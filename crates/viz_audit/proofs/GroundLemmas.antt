@@ -1,8 +1,7 @@
 -- What feeds the first port of a node, by its inputs.
-use Rattle.std.proofs.Common.{◌≡◌, ℕ, true, List, slice_index_or, [], ◌∷◌, Option, None, Some, Result, Ok, Err, refl, sym, ap, subst, ◌∙◌}
+use Rattle.std.proofs.Common.{◌≡◌, ℕ, true, List, slice_index_or, [], ◌∷◌, Option, None, Some, Ok, Err, refl, sym, ap, subst, ◌∙◌}
 use Rattle.viz_base.specs.declared.node.NodeId.{NodeId}
 use Rattle.viz_extent.specs.Extent.{Bounds}
-use Rattle.viz_dataset.specs.Images.{ImageData, IsImage}
 use Rattle.viz_dataset.specs.declared.dataset.Dataset.{Dataset}
 use Rattle.viz_dataset.specs.declared.dataset.Dataset.TheVariants.{Image, Mesh}
 use Rattle.viz_sheet.specs.Sheet.{SheetData}
@@ -10,7 +9,7 @@ use Rattle.viz_network.specs.declared.node.Node.{Node}
 use Rattle.viz_network.specs.declared.fault.Fault.{Fault}
 use Rattle.viz_network.specs.declared.steps.Step.{Step}
 use Rattle.viz_network.specs.Network.{Network, node_of, input_of}
-use Rattle.viz_network.specs.Cone.{Cone, Tree, none, empty, fed, port, grow, above, cone_of}
+use Rattle.viz_network.specs.Cone.{Cone, Tree, port, grow, cone_of}
 use Rattle.viz_network.specs.Step.{nodes_of, IsStepOf, AreSteps}
 use Rattle.viz_scratch.specs.Scratch.{IsScratchOf, IsScratch}
 use Rattle.viz_scratch.specs.Laws.{ConesGiveOne}
