@@ -5,14 +5,12 @@ use Rattle.viz_dataset.specs.Images.{Vector, ImageData, IsOrigin, position, corn
 use Rattle.viz_extent.specs.Extent.{Bounds}
 use Rattle.viz_dataset.specs.declared.dataset.Dataset.{Dataset}
 use Rattle.viz_dataset.specs.declared.dataset.Dataset.TheVariants.{Image, Mesh}
-use Rattle.viz_image_ops.proofs.PartLemmas.{on_itself, thresholded-on, part_is_determined}
 use Rattle.viz_legacy_read.specs.Header.{Header, header}
 use Rattle.viz_legacy_read.specs.Header.Heading.{OfImage, OfMesh}
-use Rattle.viz_legacy_read.specs.Reading.{front, Reads, ReadsHeader, StopsInHeader, IsMeshFile, IsSound}
+use Rattle.viz_legacy_read.specs.Reading.{front, Reads, ReadsHeader, StopsInHeader, IsMeshFile}
 use Rattle.viz_lex.specs.Rules.{IsDefinite}
 use Rattle.viz_lex.specs.declared.fault.FileFault.{FileFault}
 use Rattle.viz_meaning.specs.ImageFilters.{threshold_of}
-use Rattle.viz_meaning.specs.Threshold.{thresholded}
 use Rattle.viz_meaning.specs.WholeImages.{whole_of, IsOn}
 use Rattle.viz_network.specs.declared.fault.Cause as faults
 use Rattle.viz_network.specs.declared.fault.Cause.TheVariants as fault
@@ -34,10 +32,10 @@ use Rattle.viz_scratch.specs.Scratch.{IsScratch, IsBehind}
 use Rattle.viz_scratch.specs.Written.{Style, style_of, text_with, HasFewCounts, HasFitNumbers, IsUnwritten, IsTextBehind, IsFileOf}
 use Rattle.viz_once_history.specs.FixedHistory.{op_id, at_source, at_op, fault_of}
 use Rattle.viz_once_history.specs.Laws.{FilesAreOfInputs, FaultsAreCauses}
-use Rattle.viz_once_history.proofs.FileLemmas.{thresholded_valid}
 use Rattle.viz_once_history.proofs.GivenLemmas.{fed_by, Stopped, Passed, undone}
-use Rattle.viz_once_history.proofs.HeaderLemmas.{mesh_heading, file_corner}
+use Rattle.viz_once_history.proofs.HeaderLemmas.{mesh_heading, file_corner, file_count}
 use Rattle.viz_once_history.proofs.NetworkLemmas.{source_node, op_node, tree_of, made_network, network_is}
+use Rattle.viz_once_history.proofs.ThresholdLemmas.{kept_is}
 
 -- what is good isn't faulty
 never : {X E Y : Type 0} (x : X) (e : E) → (let r : Result X E = Ok x in r) ≡ Err e → Y
@@ -177,7 +175,7 @@ module _ (definite : IsDefinite header) where
   as_plain (Contour level) bytes s r h = h
 
   abbrev HasInputOf : Filter → List ℕ → List ℕ → Type 0
-  HasInputOf filter bytes text = (d : Dataset) × ReadsFile bytes d × Accepts filter d × (IsSound d → text ≡ output_text filter d)
+  HasInputOf filter bytes text = (d : Dataset) × ReadsFile bytes d × Accepts filter d × (text ≡ output_text filter d)
 
   file_input : (filter : Filter) (bytes text : List ℕ) (made d : Dataset) → Reads bytes First 0 d → IsOutOf filter d made → HasFewCounts made → HasFitNumbers plain made → text ≡ text_with plain made
       → HasInputOf filter bytes text
@@ -187,15 +185,12 @@ module _ (definite : IsDefinite header) where
         Image i,
         reads,
         accepts,
-        λ valid.
-            let whole = thresholded-on lo hi (whole_of i) i.extent i (on_itself i valid) (thresholded_valid lo hi i valid) in
-            let same : out.0 ≡ thresholded lo hi i = part_is_determined (threshold_of lo hi (whole_of i)) i.extent out.0 (thresholded lo hi i) out.1 whole in
-            is ∙ ap (text_with plain) (out.2 ∙ ap Image same),
+        is ∙ ap (text_with plain) (out.2 ∙ ap Image (kept_is lo hi i out.0 (file_count bytes i reads) out.1)),
       )
   file_input (Threshold lo hi) bytes text made (Mesh sheets) reads out counts fit is = absurd out
   file_input (Contour level) bytes text made d reads out counts fit is =
       let accepts : Accepts (Contour level) d = record { takes = tt; narrow = out.0; counts = subst HasFewCounts out.1 counts; numbers = subst (HasFitNumbers plain) out.1 fit } in
-      (d, reads, accepts, λ valid. is ∙ ap (text_with plain) out.1)
+      (d, reads, accepts, is ∙ ap (text_with plain) out.1)
 
   pub files_are_of_inputs : FilesAreOfInputs
   files_are_of_inputs filter bytes text numbers file = by f.0 f.1 (as_plain filter bytes f.0 (Ok text) f.2)

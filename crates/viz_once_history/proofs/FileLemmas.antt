@@ -67,7 +67,7 @@ all_kept kind lo hi (n ∷ ns) h =
     let one : fits_kind kind (kept_value lo hi n) ≡ true = kept_fits kind n (is_within lo hi n) (first_of (fits_kind kind n) (list_all (fits_kind kind) ns) h) in
     ap (λ (b : Bool). b && list_all (fits_kind kind) (map (kept_value lo hi) ns)) one ∙ all_kept kind lo hi ns (rest_of (fits_kind kind n) (list_all (fits_kind kind) ns) h)
 
-pub thresholded_valid : (lo hi : ℤ) (i : ImageData) → IsImage i → IsImage (thresholded lo hi i)
+thresholded_valid : (lo hi : ℤ) (i : ImageData) → IsImage i → IsImage (thresholded lo hi i)
 thresholded_valid lo hi i valid = record {
   extent = valid.extent;
   range = all_kept i.values.kind lo hi i.values.items valid.range;

@@ -1,16 +1,19 @@
 -- The header of a file, and what it says of an image.
-use Rattle.std.proofs.Common.{◌≡◌, ℕ, zero, suc, ℤ, pos, Bool, true, false, cond, List, [], ◌∷◌, ◌++◌, Option, None, Some, Ok, refl, sym, ap, subst, ◌∙◌, arith}
+use Rattle.std.proofs.Common.{◌≡◌, ℕ, zero, suc, ℤ, pos, Bool, true, false, cond, List, [], ◌∷◌, ◌++◌, Option, None, Some, Ok, length, refl, sym, ap, subst, ◌∙◌, arith}
 use Rattle.std.specs.Prelude.{IfSome, codes, unwrap_or, fold, not, ◌&&◌, ◌||◌}
 use Rattle.std.proofs.lemmas.Bool.Decides.{nat_tests}
+use Rattle.std.proofs.lemmas.List.{length-replicate}
+use Rattle.viz_attr.proofs.FirstLaws.{attributes_are_picked}
 use Rattle.viz_base.specs.declared.node.Pick.TheVariants.{First}
+use Rattle.viz_column.specs.Numbers.{Numbers}
 use Rattle.viz_dataset.specs.Images.{Vector, ImageData, IsPosition, IsOrigin, position, corner}
 use Rattle.viz_dataset.specs.declared.dataset.Dataset.{Dataset}
 use Rattle.viz_dataset.specs.declared.dataset.Dataset.TheVariants as dataset
-use Rattle.viz_extent.specs.Extent.{Bounds}
+use Rattle.viz_extent.specs.Extent.{Bounds, count_of}
 use Rattle.viz_legacy_read.specs.File.{contents}
 use Rattle.viz_legacy_read.specs.Header.{Header, Heading, header, header_line, header_of, image_header, is_image, Line, Sizes, Origin, Spacing_of, Geometry, no_line, with_line, geometry_of, whole_of, all_of, sizes, origin, behind}
 use Rattle.viz_legacy_read.specs.Header.Heading.{OfImage, OfMesh}
-use Rattle.viz_legacy_read.specs.ImageFile.{image_of}
+use Rattle.viz_legacy_read.specs.ImageFile.{asked, numbers_or_zeros, image_of}
 use Rattle.viz_legacy_read.specs.Reading.{front, Reads, ReadsHeader, IsMeshFile}
 use Rattle.viz_lex.specs.Decimals.{in_limit, limited, decimal_of}
 use Rattle.viz_lex.specs.Items.{decimal, decimal_from}
@@ -193,3 +196,21 @@ corner_behind bytes i (OfMesh p) mid next is c = absurd (let bad : dataset.Image
 -- it lies within the limits of an origin
 pub file_corner : (bytes : List ℕ) (i : ImageData) → Reads bytes First 0 (dataset.Image i) → IsOrigin (corner i)
 file_corner bytes i reads = corner_behind bytes i reads.1.0 reads.1.1 reads.0 reads.1.2 reads.1.3
+
+-- ---- the numbers of a file's image
+
+column_count : (n : ℕ) (column : Option Numbers) → IfSome column (λ c. length c.items ≡ n) → length (numbers_or_zeros n column).items ≡ n
+column_count n None sized = length-replicate n (pos 0)
+column_count n (Some c) sized = sized
+
+count_behind : (i : ImageData) (h : Heading) (mid next : Reading) → (contents First 0 h).is mid next (dataset.Image i) → length i.values.items ≡ count_of i.extent
+count_behind i (OfImage g) mid next c =
+    let same : i ≡ c.0 = (let e : dataset.Image i ≡ dataset.Image c.0 = c.3.1 in cc) in
+    let made : i ≡ image_of g c.2.0 = same ∙ c.2.3.1 in
+    let picked = attributes_are_picked (asked g First) mid c.2.1 c.2.0 c.2.2 in
+    subst (λ (j : ImageData). length j.values.items ≡ count_of j.extent) (sym made) (column_count (count_of g.whole) c.2.0 picked.sized)
+count_behind i (OfMesh p) mid next c = absurd (let bad : dataset.Image i ≡ dataset.Mesh c.0 = c.3.1 in cc)
+
+-- there is one for each point
+pub file_count : (bytes : List ℕ) (i : ImageData) → Reads bytes First 0 (dataset.Image i) → length i.values.items ≡ count_of i.extent
+file_count bytes i reads = count_behind i reads.1.0 reads.1.1 reads.0 reads.1.3

@@ -3,6 +3,7 @@ pub mod CommandLemmas
 pub mod HeaderLemmas
 pub mod GivenLemmas
 pub mod FileLemmas
+pub mod ThresholdLemmas
 pub mod BackLemmas
 pub mod WordLemmas
 pub mod AccountLemmas

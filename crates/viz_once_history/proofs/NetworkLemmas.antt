@@ -23,11 +23,6 @@ within_64 : (n : ℤ) → fits_i64 n ≡ true → (int_le first_number n && int_
 within_64 (pos n) h = (let below : n < 2 ^ 63 = grind (arith, nat_tests) in grind (arith, nat_tests))
 within_64 (negsuc n) h = (let below : n < 2 ^ 63 = grind (arith, nat_tests) in grind (arith, nat_tests))
 
-both : (a b c : Bool) → (a && b) ≡ true → c ≡ true → (a && b && c) ≡ true
-both true true c h k = k
-both true false c h k = h
-both false b c h k = h
-
 pub fits : (filter : Filter) → HasNumbers filter → is_value (param_of filter) (value_of filter) ≡ true
 fits (Threshold lo hi) h = rw (within_64 lo h.0, within_64 hi h.1) refl
 fits (Contour level) h = rw (within_64 level h) refl
@@ -103,5 +98,6 @@ empties (suc n) = empty (empties n)
 abbrev pub tree_of : Node → Node → Tree
 tree_of src node = (node, fed src (empties 8) (empties 7))
 
+-- what lies upstream of the filter's node
 pub cone_is : (filter : Filter) (bytes : List ℕ) → cone_of (made_network filter bytes) op_id ≡ Some (tree_of (source_node bytes) (op_node filter))
 cone_is filter bytes = refl

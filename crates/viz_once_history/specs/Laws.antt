@@ -2,7 +2,6 @@
 use Rattle.std.specs.Prelude.{◌≡◌, ℕ, List, Some, Ok, Err}
 use Rattle.viz_core.specs.History.{IsLegal}
 use Rattle.viz_dataset.specs.declared.dataset.Dataset.{Dataset}
-use Rattle.viz_legacy_read.specs.Reading.{IsSound}
 use Rattle.viz_network.specs.declared.fault.Fault.{Fault}
 use Rattle.viz_network.specs.Network.{name_of}
 use Rattle.viz_once.specs.declared.command.Filter.{Filter}
@@ -38,10 +37,10 @@ InputsAreMade = (c : Command) (bytes : List ℕ) (d : Dataset) → HasNumbers c.
     → IsMadeFor c.filter bytes (output_text c.filter d) (cells_made c.filter d) (points_made c.filter d)
 
 -- the other way round: where the filter's node has a file, the bytes are a file of a dataset that the filter accepts, and the text is what
--- is written of it, where the dataset keeps the rule of its type
+-- is written of it
 abbrev pub FilesAreOfInputs : Type 0
 FilesAreOfInputs = (filter : Filter) (bytes text : List ℕ) → HasNumbers filter → IsFileFor filter bytes (Ok text)
-    → (d : Dataset) × ReadsFile bytes d × Accepts filter d × (IsSound d → text ≡ output_text filter d)
+    → (d : Dataset) × ReadsFile bytes d × Accepts filter d × (text ≡ output_text filter d)
 
 -- where a cause of a refusal holds, the filter's node has no file, for the fault that the cause is
 abbrev pub CausesAreFaults : Type 0
