@@ -5,11 +5,9 @@ mod options;
 
 use options::{folder, shown};
 use std::alloc::{AllocError, Global};
-use std::io::{ErrorKind, Print};
+use std::io::ErrorKind;
 use std::process::ExitCode;
 use std::rt::{Env, Files};
-use std::sync::Wait;
-use std::thread::Threads;
 use std::{env, io};
 use viz_base::{ACTORS, Bytes, DirPort, FILE_LIMIT, OpenGate, Out, StdOut, WriteRefusal};
 use viz_session::{Status, run};
@@ -93,55 +91,73 @@ fn put_usage<O: Out>(alloc: Global, out: &mut O) -> Status {
     Status::Usage
 }
 
-/// Runs the words over a folder.
-fn run_in<R: Threads + Wait + Files + Print + Sync>(
-    rt: &R,
-    alloc: Global,
-    folder: &str,
-    words: &[Bytes],
-    out: &mut StdOut<'_, R>,
-) -> Status {
-    let Ok(mut desk) = DirPort::new(rt, alloc, folder, FILE_LIMIT) else {
-        return Status::Memory;
-    };
-    let Ok(mut ports) = ports(rt, alloc, folder) else {
-        return Status::Memory;
-    };
-    run(rt, alloc, words, &mut desk, &mut ports, out, &OpenGate)
+/// What the command line asks for.
+#[derive(Drop)]
+enum Asked {
+    /// A run of these words over a folder.
+    Run { folder: String, words: Vec<Bytes> },
+    /// Nothing more: this is the status.
+    Ended(Status),
 }
 
-/// Answers the words: by help or the version, or by a run over the folder that they name.
-fn answer<R: Threads + Wait + Files + Print + Sync>(
-    rt: &R,
-    alloc: Global,
-    words: &[String],
-    out: &mut StdOut<'_, R>,
-) -> Status {
-    let is_shown = asks_to_be_shown(words);
-    let front = if is_shown { 1 } else { option_words(words) };
-    let Ok(line) = line(alloc, words, front) else {
-        return Status::Memory;
-    };
-    if is_shown {
-        return match shown(alloc, &line) {
-            Some(text) => put_shown(alloc, out, text.as_bytes()),
-            None => Status::Memory,
-        };
+/// The folder that the words name, and the words behind it.
+fn asked_of(alloc: Global, words: &[String]) -> Result<Asked, AllocError> {
+    let front = option_words(words);
+    let line = line(alloc, words, front)?;
+    match folder(alloc, &line) {
+        Ok(folder) => Ok(Asked::Run {
+            folder: String::from_str(alloc, folder)?,
+            words: bytes(alloc, words, front)?,
+        }),
+        Err(status) => Ok(Asked::Ended(status)),
     }
-    match (folder(alloc, &line), bytes(alloc, words, front)) {
-        (Ok(folder), Ok(rest)) => run_in(rt, alloc, folder, &rest, out),
-        (Err(Status::Usage), _) => put_usage(alloc, out),
-        _ => Status::Memory,
+}
+
+/// Puts the text of help or of the version.
+fn show<O: Out>(alloc: Global, words: &[String], out: &mut O) -> Result<Status, AllocError> {
+    let line = line(alloc, words, 1)?;
+    match shown(alloc, &line) {
+        Some(text) => Ok(put_shown(alloc, out, text.as_bytes())),
+        None => Err(AllocError),
     }
+}
+
+/// What the words ask for, where it isn't answered at once.
+fn asked<O: Out>(alloc: Global, words: &[String], out: &mut O) -> Asked {
+    if asks_to_be_shown(words) {
+        return Asked::Ended(show(alloc, words, out).unwrap_or(Status::Memory));
+    }
+    match asked_of(alloc, words) {
+        Ok(Asked::Ended(Status::Usage)) => Asked::Ended(put_usage(alloc, out)),
+        Ok(asked) => asked,
+        Err(_) => Asked::Ended(Status::Memory),
+    }
+}
+
+/// The code of a status.
+fn code(status: Status) -> ExitCode {
+    ExitCode::from(status as u8)
 }
 
 fn main(rt: HostRuntime) -> ExitCode {
     let alloc = rt.alloc();
     let mut out = StdOut::new(&rt);
-    let status = match words(&rt) {
-        Ok(words) => answer(&rt, alloc, &words, &mut out),
-        Err(e) if e.kind() == ErrorKind::OutOfMemory => Status::Memory,
-        Err(_) => put_usage(alloc, &mut out),
+    let words = match words(&rt) {
+        Ok(words) => words,
+        Err(e) if e.kind() == ErrorKind::OutOfMemory => return code(Status::Memory),
+        Err(_) => return code(put_usage(alloc, &mut out)),
     };
-    ExitCode::from(status as u8)
+    let (folder, words) = match asked(alloc, &words, &mut out) {
+        Asked::Run { folder, words } => (folder, words),
+        Asked::Ended(status) => return code(status),
+    };
+    let Ok(mut desk) = DirPort::new(&rt, alloc, folder.as_str(), FILE_LIMIT) else {
+        return code(Status::Memory);
+    };
+    let Ok(mut ports) = ports(&rt, alloc, folder.as_str()) else {
+        return code(Status::Memory);
+    };
+    code(run(
+        &rt, alloc, &words, &mut desk, &mut ports, &mut out, &OpenGate,
+    ))
 }
