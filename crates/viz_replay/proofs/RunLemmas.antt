@@ -1,11 +1,10 @@
 -- The promises of a run of a journal's prefix, from its account.
-use Rattle.std.proofs.Common.{◌≡◌, ◌≢◌, ℕ, ◌+◌, ◌≤◌, List, [], ◌∷◌, Option, None, Some, Result, Ok, Err, refl, sym, ap, ap₂, subst, ◌∙◌, inl, inr, arith}
-use Rattle.std.specs.Prelude.{◌⊎◌, ◌++◌, IsTrue}
+use Rattle.std.proofs.Common.{◌≡◌, ◌≢◌, ℕ, List, [], ◌∷◌, Option, None, Some, Result, Ok, Err, refl, sym, ap, ap₂, subst, ◌∙◌, inl, inr}
+use Rattle.std.specs.Prelude.{◌⊎◌}
 use Rattle.std.proofs.lemmas.List.{append_cancel_left}
 use Rattle.viz_base.specs.Faults.{Rose}
 use Rattle.viz_base.specs.declared.port.Port as port
 use Rattle.viz_base.specs.declared.out.Out as out
-use Rattle.viz_base.specs.declared.call.Call.{Call}
 use Rattle.viz_base.specs.declared.call.Call.TheVariants.{Read}
 use Rattle.viz_base.specs.declared.call.ReadAnswer.{ReadAnswer}
 use Rattle.viz_base.specs.declared.call.ReadAnswer.TheVariants as read
@@ -13,17 +12,15 @@ use Rattle.viz_base.specs.declared.refusal.WriteRefusal.{WriteRefusal}
 use Rattle.viz_base.specs.declared.refusal.WriteRefusal.TheVariants as writing
 use Rattle.viz_journal.specs.declared.entry.JournalEntry.{JournalEntry}
 use Rattle.viz_journal.specs.Reading.{journal_of}
-use Rattle.viz_once.specs.Promises.{FirstOnly, FirstRose, OthersStay, GainsLine, PutsLine}
-use Rattle.viz_once.specs.Report.{no_port_line}
+use Rattle.viz_once.specs.Promises.{FirstRose, OthersStay}
 use Rattle.viz_once.specs.declared.outcome.Status.{Status}
 use Rattle.viz_once.specs.declared.outcome.Status.TheVariants as status
 use Rattle.viz_words.specs.declared.refusal.ScriptRefusal.{ScriptRefusal}
 use Rattle.viz_report.specs.declared.line.Line.{Line}
 use Rattle.viz_report.specs.declared.line.Line.TheVariants as line
 use Rattle.viz_report.specs.declared.line.Reason.{Reason}
-use Rattle.viz_account.specs.Account.{faults_told, RoseBy}
 use Rattle.viz_script_run.specs.Promises.{EndsInScript}
-use Rattle.viz_script_run.specs.Told.{refused_script, IsPut}
+use Rattle.viz_script_run.specs.Told.{IsPut}
 use Rattle.viz_script_run.proofs.RunLemmas.{gains, puts, rose_by}
 use Rattle.viz_replay.specs.declared.came.Came.{Came}
 use Rattle.viz_replay.specs.declared.came.Came.TheVariants as came

@@ -1,5 +1,5 @@
 -- What a run of a journal's prefix promises of its status, its line, its calls and the files (docs/FORMATS.md, "Report").
-use Rattle.std.specs.Prelude.{◌≡◌, ℕ, List, [], ◌⊎◌, Option, None, Some, Ok, IsTrue}
+use Rattle.std.specs.Prelude.{◌≡◌, ℕ, List, [], ◌⊎◌, None, Some, Ok, IsTrue}
 use Rattle.viz_base.specs.Faults.{Rose}
 use Rattle.viz_base.specs.declared.port.Port as port
 use Rattle.viz_base.specs.declared.out.Out as out
@@ -16,7 +16,7 @@ use Rattle.viz_report.specs.declared.line.Reason.{Reason}
 use Rattle.viz_words.specs.declared.refusal.ScriptRefusal.{ScriptRefusal}
 use Rattle.viz_script_run.specs.Promises.{DeskAnswered, EndsInScript}
 use Rattle.viz_script_run.specs.Told.{refused_script}
-use Rattle.viz_replay.specs.Replay.{Replay, IsAsked, IsRefusal, IsUpdated, entries_at}
+use Rattle.viz_replay.specs.Replay.{Replay, IsAsked, IsRefusal, IsUpdated}
 use Rattle.viz_replay.specs.Told.{file_line, refused_line}
 
 -- the journal was read, the sink was updated on the network of its first entries, with this line, and nothing else was done

@@ -1,15 +1,13 @@
 -- The promises of a run of a script, from its account.
-use Rattle.std.proofs.Common.{◌≡◌, ◌≢◌, ℕ, ◌+◌, ◌≤◌, Bool, true, false, not, cond, ◌||◌, List, [], ◌∷◌, ◌++◌, Result, Ok, Err, refl, sym, ap, ap₂, subst, ◌∙◌, inl, inr, true≢false, ⊎_elim, arith}
-use Rattle.std.specs.Prelude.{◌⊎◌, IsTrue, flat_map}
+use Rattle.std.proofs.Common.{◌≡◌, ◌≢◌, ℕ, ◌+◌, Bool, true, false, not, cond, ◌||◌, List, [], ◌∷◌, ◌++◌, Result, Ok, Err, refl, sym, ap, ap₂, subst, ◌∙◌, inl, inr, true≢false, ⊎_elim, arith}
+use Rattle.std.specs.Prelude.{◌⊎◌, flat_map}
 use Rattle.std.specs.List.{list_any}
 use Rattle.std.proofs.lemmas.Bool.{or_cases}
 use Rattle.std.proofs.lemmas.List.{append_cancel_left}
 use Rattle.std.proofs.lemmas.List.Folds.{list_any-append}
 use Rattle.viz_base.specs.Faults.{Rose}
-use Rattle.viz_base.specs.Texts.{AppendsPrefix}
 use Rattle.viz_base.specs.declared.port.Port as port
 use Rattle.viz_base.specs.declared.out.Out as out
-use Rattle.viz_base.specs.declared.call.Call.{Call}
 use Rattle.viz_base.specs.declared.call.Call.TheVariants.{Read}
 use Rattle.viz_base.specs.declared.call.ReadAnswer.{ReadAnswer}
 use Rattle.viz_base.specs.declared.call.ReadAnswer.TheVariants as read
@@ -18,7 +16,6 @@ use Rattle.viz_base.specs.declared.call.WriteAnswer.TheVariants as write
 use Rattle.viz_base.specs.declared.refusal.WriteRefusal.{WriteRefusal}
 use Rattle.viz_base.specs.declared.refusal.WriteRefusal.TheVariants as writing
 use Rattle.viz_core.specs.declared.entry.Entry.{Entry}
-use Rattle.viz_once.specs.Account.{TextAfter}
 use Rattle.viz_once.specs.Promises.{GainsLine, PutsLine}
 use Rattle.viz_once.specs.declared.outcome.Status.{Status}
 use Rattle.viz_once.specs.declared.outcome.Status.TheVariants as status
@@ -28,12 +25,12 @@ use Rattle.viz_words.specs.declared.refusal.ScriptRefusal.{ScriptRefusal}
 use Rattle.viz_report.specs.declared.line.Line.{Line}
 use Rattle.viz_report.specs.declared.line.Line.TheVariants as line
 use Rattle.viz_report.specs.Report.{lines_text}
-use Rattle.viz_account.specs.Account.{faults_told, RoseBy, IsActor, AreActors}
+use Rattle.viz_account.specs.Account.{faults_told, RoseBy, AreActors}
 use Rattle.viz_script_run.specs.declared.ran.Ran.{Ran}
 use Rattle.viz_script_run.specs.declared.ran.Ran.TheVariants as ran
-use Rattle.viz_script_run.specs.Deeds.{Deed, Nothing, Asked, Kept, IsDoneAt, HasFailed, IsAccounted, IsServed, EndsIn, IsRan, calls_of, actors_over, is_written}
-use Rattle.viz_script_run.specs.Told.{text_of, refused_script, is_memory, is_fault, is_refused, served_status, status_of, status_at_fault, status_after, HasMadeText, Settles, IsPut, IsTold}
-use Rattle.viz_script_run.specs.Promises.{IsRefusal, IsScriptRefused, DeskAnswered, EndsInScript, TellsRefusals, IsServedBy, IsReported, IsServedWithFault, IsUnread, IsCutOff, SomeRose}
+use Rattle.viz_script_run.specs.Deeds.{Deed, Nothing, Asked, Kept, IsDoneAt, IsAccounted, IsServed, EndsIn, IsRan, calls_of, actors_over, is_written}
+use Rattle.viz_script_run.specs.Told.{text_of, refused_script, is_memory, is_fault, is_refused, served_status, status_after, Settles, IsPut, IsTold}
+use Rattle.viz_script_run.specs.Promises.{IsRefusal, IsScriptRefused, EndsInScript, TellsRefusals, IsServedBy, IsReported, IsServedWithFault, IsUnread, IsCutOff, SomeRose}
 
 abbrev pub Answer : Type 0
 Answer = Result (Unit {0}) WriteRefusal

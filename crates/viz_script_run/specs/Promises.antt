@@ -18,7 +18,7 @@ use Rattle.viz_words.specs.declared.refusal.ScriptRefusal.{ScriptRefusal}
 use Rattle.viz_words.specs.declared.refusal.ScriptRefusal.TheVariants as refusal
 use Rattle.viz_report.specs.declared.line.Line.{Line}
 use Rattle.viz_report.specs.Report.{lines_text}
-use Rattle.viz_script_run.specs.Deeds.{Asked, Kept, IsDoneAt, IsAccounted, IsServed, actors_over, is_written}
+use Rattle.viz_script_run.specs.Deeds.{Asked, Kept, IsDoneAt, IsAccounted, IsServed, actors_over}
 use Rattle.viz_script_run.specs.Told.{refused_script, served_status, is_memory, is_fault}
 
 -- ---- scripts that are refused
