@@ -231,7 +231,7 @@ fn cuts_by_planes(rt: HostRuntime) -> Result<(), Fail> {
 
 #[test]
 fn crossings_that_are_too_wide(rt: HostRuntime) -> Result<(), Fail> {
-    // too-wide-crossing: with the last plane's number the contour is too wide, else the cut of it is
+    // too-wide-crossing: with the last plane's number the contour is too wide, else the cut is
     let alloc = rt.alloc();
     for (last, end) in [
         (
