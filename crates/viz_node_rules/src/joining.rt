@@ -53,7 +53,8 @@ fn push_mesh(
     meshes: &mut Vec<Mesh>,
     input: Option<&Shared<Dataset>>,
 ) -> Result<(), AllocError>
-    ensures { OnOk result (meshes.new.items ≡ meshes.old.items ++ meshes_in (option_copied input.entry ∷ [])) }
+    ensures { OnOk result
+        (meshes.new.items ≡ meshes.old.items ++ meshes_in (option_copied input.entry ∷ [])) }
 {
     if let Some(dataset) = input {
         if let Dataset::Mesh(mesh) = dataset.get() {
@@ -69,7 +70,8 @@ fn copied_meshes(
     table: &[Held],
     places: &[Option<usize>],
 ) -> Result<Vec<Mesh>, AllocError>
-    ensures { IfOk result (λ meshes. meshes.items ≡ meshes_in (map (value_at table.now) places.now)) }
+    ensures { IfOk result (λ meshes.
+        meshes.items ≡ meshes_in (map (value_at table.now) places.now)) }
 {
     let mut meshes = Vec::new(alloc);
     for place in places {

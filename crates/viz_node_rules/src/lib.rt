@@ -1,10 +1,10 @@
-//! What one node of a network makes of what feeds its ports: of what is known of the datasets there,
-//! and of the datasets themselves.
+//! What one node of a network makes of what feeds its ports: of what is known of the datasets
+//! there, and of the datasets themselves.
 //!
 //! Contract: `own_information` and `own_dataset` give just what the rules of a node say, or its own
 //! fault; each rule has one result. Definitions: `specs/Information.antt`, `specs/Data.antt`,
-//! `specs/Rules.antt`; `specs/Places.antt` says what a table has of a port, and `specs/Steps/` has the
-//! words of private contracts. The rules are those of docs/FORMATS.md, "What a node gives".
+//! `specs/Rules.antt`; `specs/Places.antt` says what a table has of a port, and `specs/Steps/` has
+//! the words of private contracts. The rules are those of docs/FORMATS.md, "What a node gives".
 #![tactic(auto)]
 
 mod contours;

@@ -47,8 +47,8 @@ fn filtered(settings: &Settings, inputs: &[Option<Information>; 8]) -> Result<In
     }
 }
 
-/// What is known of a node's dataset, from what is known of those at its ports, or why the node gives
-/// none.
+/// What is known of a node's dataset, from what is known of those at its ports, or why the node
+/// gives none.
 pub fn own_information(node: &Node, inputs: &[Option<Information>; 8]) -> Result<Information, Cause>
     ensures value { InformationRule node.now inputs.now result }
 {

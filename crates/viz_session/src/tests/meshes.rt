@@ -2,6 +2,7 @@
 
 use super::{CORNER, EMPTY, file, port, run_over};
 use crate::Status;
+use std::alloc::Global;
 use std::process::Abort;
 use std::sync::Wait;
 use std::test::Fail;
@@ -204,12 +205,12 @@ file 1 9 at 7 cells 0 points 0 ran 2
 // Runs the script over `a.vtk`: its report ends so, and `o.vtk` has this text.
 fn ends_so<R: Threads + Wait + Sync + Abort>(
     rt: &R,
+    alloc: Global,
     image: &str,
     script: &str,
     end: &str,
     text: Option<&str>,
 ) -> Result<(), Fail> {
-    let alloc = rt.alloc();
     let first = port(
         alloc,
         "a.vtk",
@@ -226,18 +227,25 @@ fn ends_so<R: Threads + Wait + Sync + Abort>(
 #[test]
 fn boundaries_of_tetrahedra(rt: HostRuntime) -> Result<(), Fail> {
     // boundary-of-tets
-    ends_so(&rt, CUBES, BOUNDARIES, BOUNDARIES_END, Some(EMPTY))
+    ends_so(
+        &rt,
+        rt.alloc(),
+        CUBES,
+        BOUNDARIES,
+        BOUNDARIES_END,
+        Some(EMPTY),
+    )
 }
 
 #[test]
 fn cuts_by_planes(rt: HostRuntime) -> Result<(), Fail> {
     // slanted-cut
-    ends_so(&rt, SLANTED, CUT, CUT_END, Some(CUT_LINES))
+    ends_so(&rt, rt.alloc(), SLANTED, CUT, CUT_END, Some(CUT_LINES))
 }
 
 #[test]
 fn crossings_that_are_too_wide(rt: HostRuntime) -> Result<(), Fail> {
-    // too-wide-crossing: with the last plane's number the contour is too wide, else the cut of it is
+    // too-wide-crossing: with the last plane's number the contour is too wide, else the cut is
     let alloc = rt.alloc();
     for (last, end) in [
         (
@@ -250,7 +258,7 @@ fn crossings_that_are_too_wide(rt: HostRuntime) -> Result<(), Fail> {
         ),
     ] {
         let image = format!(in alloc; "{WIDE} {last}\n")?;
-        ends_so(&rt, image.as_str(), CROSSINGS, end, None)?;
+        ends_so(&rt, alloc, image.as_str(), CROSSINGS, end, None)?;
     }
     Ok(())
 }
@@ -270,11 +278,11 @@ fn meshes_joined_and_merged(rt: HostRuntime) -> Result<(), Fail> {
     assert!(rt; left.status == Status::Done);
     assert!(rt; left.text.ends_with(JOINED_END), "{}", left.text);
     // tie-at-corner: all points are one, so no cell is left
-    ends_so(&rt, TIE, MERGED, MERGED_END, Some(EMPTY))
+    ends_so(&rt, alloc, TIE, MERGED, MERGED_END, Some(EMPTY))
 }
 
 #[test]
 fn cells_by_any_or_all_corners(rt: HostRuntime) -> Result<(), Fail> {
     // select-any-all
-    ends_so(&rt, SOLID, SELECTED, SELECTED_END, Some(EMPTY))
+    ends_so(&rt, rt.alloc(), SOLID, SELECTED, SELECTED_END, Some(EMPTY))
 }
