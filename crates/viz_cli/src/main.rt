@@ -93,7 +93,7 @@ fn put_usage<O: Out>(alloc: Global, out: &mut O) -> Status {
 
 /// What the command line asks for.
 #[derive(Drop)]
-enum Asked {
+enum Wanted {
     /// A run of these words over a folder.
     Run { folder: String, words: Vec<Bytes> },
     /// Nothing more: this is the status.
@@ -101,15 +101,15 @@ enum Asked {
 }
 
 /// The folder that the words name, and the words behind it.
-fn asked_of(alloc: Global, words: &[String]) -> Result<Asked, AllocError> {
+fn asked_of(alloc: Global, words: &[String]) -> Result<Wanted, AllocError> {
     let front = option_words(words);
     let line = line(alloc, words, front)?;
     match folder(alloc, &line) {
-        Ok(folder) => Ok(Asked::Run {
+        Ok(folder) => Ok(Wanted::Run {
             folder: String::from_str(alloc, folder)?,
             words: bytes(alloc, words, front)?,
         }),
-        Err(status) => Ok(Asked::Ended(status)),
+        Err(status) => Ok(Wanted::Ended(status)),
     }
 }
 
@@ -123,14 +123,14 @@ fn show<O: Out>(alloc: Global, words: &[String], out: &mut O) -> Result<Status, 
 }
 
 /// What the words ask for, where it isn't answered at once.
-fn asked<O: Out>(alloc: Global, words: &[String], out: &mut O) -> Asked {
+fn asked<O: Out>(alloc: Global, words: &[String], out: &mut O) -> Wanted {
     if asks_to_be_shown(words) {
-        return Asked::Ended(show(alloc, words, out).unwrap_or(Status::Memory));
+        return Wanted::Ended(show(alloc, words, out).unwrap_or(Status::Memory));
     }
     match asked_of(alloc, words) {
-        Ok(Asked::Ended(Status::Usage)) => Asked::Ended(put_usage(alloc, out)),
+        Ok(Wanted::Ended(Status::Usage)) => Wanted::Ended(put_usage(alloc, out)),
         Ok(asked) => asked,
-        Err(_) => Asked::Ended(Status::Memory),
+        Err(_) => Wanted::Ended(Status::Memory),
     }
 }
 
@@ -148,8 +148,8 @@ fn main(rt: HostRuntime) -> ExitCode {
         Err(_) => return code(put_usage(alloc, &mut out)),
     };
     let (folder, words) = match asked(alloc, &words, &mut out) {
-        Asked::Run { folder, words } => (folder, words),
-        Asked::Ended(status) => return code(status),
+        Wanted::Run { folder, words } => (folder, words),
+        Wanted::Ended(status) => return code(status),
     };
     let Ok(mut desk) = DirPort::new(&rt, alloc, folder.as_str(), FILE_LIMIT) else {
         return code(Status::Memory);
