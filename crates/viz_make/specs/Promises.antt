@@ -21,7 +21,8 @@ FirstWrote m c answer old new = FirstOnly (IsAnswered m c (Some answer)) old new
 -- a run that answers Done wrote the volume, and told its numbers and those of its audit, by which its contour is closed up to the boundary
 abbrev pub IsDone : {P O : Type 0} → port.Ghosts P → out.Ghosts O → Make → List P → List P → O → O → Type 0
 IsDone m o c old new before after =
-    (made : Made) × IsMade c made × IsClosed made × FirstWrote m c write.Written old new × GainsLine o (text_of (came.Written made)) before after
+    (made : Made) × IsMade c made × IsClosed made × FirstWrote m c write.Written old new
+    × GainsLine o (text_of (came.Written made)) before after
 
 -- a run that answers Script: there is no port
 abbrev pub IsScript : {P O : Type 0} → port.Ghosts P → out.Ghosts O → List P → List P → O → O → Type 0

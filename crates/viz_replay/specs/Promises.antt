@@ -34,7 +34,8 @@ IsDone m o c desk new_desk old new before after =
 -- a run that answers Refused found no file of the sink, and told why
 abbrev pub IsRefused : {P O : Type 0} → port.Ghosts P → out.Ghosts O → Replay → P → P → List P → List P → O → O → Type 0
 IsRefused m o c desk new_desk old new before after =
-    (reason : Reason) × (at : ℕ) × IsUpdatedFrom m c (line.Refused reason at) desk new_desk old new × GainsLine o (refused_line reason at) before after
+    (reason : Reason) × (at : ℕ) × IsUpdatedFrom m c (line.Refused reason at) desk new_desk old new
+    × GainsLine o (refused_line reason at) before after
 
 -- a run that answers Script: there is no port, and the desk wasn't used; or the journal is refused for this
 abbrev pub IsScript : {P O : Type 0} → port.Ghosts P → out.Ghosts O → Replay → P → P → List P → List P → O → O → Type 0

@@ -17,7 +17,8 @@ use Rattle.viz_replay.specs.declared.came.Came.TheVariants as came
 
 -- a file was written, of the network of so many entries
 unfoldable pub file_line : ℕ → ℕ → ℕ → List ℕ
-file_line at cells points = codes "file at " ++ decimal at ++ codes " cells " ++ decimal cells ++ codes " points " ++ decimal points ++ codes "\n"
+file_line at cells points =
+    codes "file at " ++ decimal at ++ codes " cells " ++ decimal cells ++ codes " points " ++ decimal points ++ codes "\n"
 
 -- the sink has no file in the network of so many entries
 unfoldable pub refused_line : Reason → ℕ → List ℕ
@@ -72,4 +73,5 @@ Settles found told = (told ≡ found) ⊎ (told ≡ came.Memory)
 -- a run was told, and the status belongs to it
 abbrev pub IsTold : {O : Type 0} → out.Ghosts O → Came → Status → O → O → Type 0
 IsTold m found ended old new =
-    (told : Came) × (answer : Result (Unit {0}) WriteRefusal) × Settles found told × (ended ≡ status_after told answer) × IsPut m (line_of told) answer old new
+    (told : Came) × (answer : Result (Unit {0}) WriteRefusal) × Settles found told × (ended ≡ status_after told answer)
+    × IsPut m (line_of told) answer old new

@@ -41,7 +41,8 @@ calls_of script journal (Kept bytes text answer) = Read script (read.Given bytes
 abbrev pub FilesAround : List ℕ → List ℕ → Deed → ℕ → Files → Files → Type 0
 FilesAround script journal Nothing limit old new = SameFiles old new
 FilesAround script journal (Asked answer) limit old new = TellsFile old limit script answer × SameFiles old new
-FilesAround script journal (Kept bytes text answer) limit old new = (old script ≡ Some bytes) × LeavesText journal text answer new × SameOthers journal old new
+FilesAround script journal (Kept bytes text answer) limit old new =
+    (old script ≡ Some bytes) × LeavesText journal text answer new × SameOthers journal old new
 
 -- a deed that ended with a failed call
 abbrev pub HasFailed : Deed → Type 0
@@ -68,9 +69,11 @@ actors_over (p ∷ ps) = 1
 abbrev pub history_limit : ℕ
 history_limit = 65536
 
--- the account of the script of these bytes: a history, whose journal is this text, and a line for each command, whose report is that of these lines;
+-- the account of the script of these bytes: a history, whose journal is this text, and a line for each command, whose
+-- report is that of these lines;
 -- what their audits counted is closed up to the boundary
-pub record IsAccounted {P : Type 0} (m : port.Ghosts P) (bytes : List ℕ) (lines : List Line) (text : List ℕ) (old new : List P) : Type 0 where
+pub record IsAccounted {P : Type 0} (m : port.Ghosts P) (bytes : List ℕ) (lines : List Line) (text : List ℕ)
+    (old new : List P) : Type 0 where
   pub steps : List Stepped
   pub history : List Entry
   pub told : List (List (List Line))
@@ -104,4 +107,5 @@ EndsIn m deed came old new = ⊥
 
 -- a run of a script over a desk and ports
 abbrev pub IsRan : {P : Type 0} → port.Ghosts P → List ℕ → List ℕ → Ran → P → P → List P → List P → Type 0
-IsRan m script journal came desk new_desk old new = (deed : Deed) × EndsIn m deed came old new × IsDoneAt m script journal deed desk new_desk
+IsRan m script journal came desk new_desk old new =
+    (deed : Deed) × EndsIn m deed came old new × IsDoneAt m script journal deed desk new_desk

@@ -54,7 +54,8 @@ TellsRefusals m o script desk new_desk old new before after ended =
 -- the script was read, its commands were served by this account, the journal's write was answered so, and it is the last call of the desk
 abbrev pub IsServedBy : {P : Type 0} → port.Ghosts P → List ℕ → List ℕ → List Line → WriteAnswer → P → P → List P → List P → Type 0
 IsServedBy m script journal lines answer desk new_desk old new =
-    (bytes : List ℕ) × (text : List ℕ) × IsAccounted m bytes lines text old new × IsDoneAt m script journal (Kept bytes text answer) desk new_desk
+    (bytes : List ℕ) × (text : List ℕ) × IsAccounted m bytes lines text old new
+    × IsDoneAt m script journal (Kept bytes text answer) desk new_desk
 
 -- a run that answers Done or Refused: the journal was written, and the report put; the lines have this status
 abbrev pub IsReported : {P O : Type 0} → port.Ghosts P → out.Ghosts O → List ℕ → List ℕ → Status → P → P → List P → List P → O → O → Type 0
@@ -65,7 +66,8 @@ IsReported m o script journal ended desk new_desk old new before after =
 -- a served script whose run had a fault: at a line, at the journal, or at the report; no line tells of want of memory
 abbrev pub IsServedWithFault : {P O : Type 0} → port.Ghosts P → out.Ghosts O → List ℕ → List ℕ → P → P → List P → List P → O → O → Type 0
 IsServedWithFault m o script journal desk new_desk old new before after =
-    (lines : List Line) × (answer : WriteAnswer) × IsServedBy m script journal lines answer desk new_desk old new × (list_any is_memory lines ≡ false)
+    (lines : List Line) × (answer : WriteAnswer) × IsServedBy m script journal lines answer desk new_desk old new
+    × (list_any is_memory lines ≡ false)
     × ((list_any is_fault lines ≡ true) ⊎ ((answer ≡ write.Failed) ⊎ Rose (o.faults before) (o.faults after)))
     × PutsLine o (lines_text 1 1 lines) before after
 

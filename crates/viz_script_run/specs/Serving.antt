@@ -25,7 +25,8 @@ use Rattle.viz_script_run.specs.Journals.{numbered}
 use Rattle.viz_script_run.specs.Deeds.{Asked, Kept, EndsIn, actors_over, history_limit, is_written}
 
 -- the account of steps: a history, all of whose entries are of the first pass, and a line for each command
-pub record IsAccount {P : Type 0} (m : port.Ghosts P) (steps : List Stepped) (lines : List Line) (history : List Entry) (old new : List P) : Type 0 where
+pub record IsAccount {P : Type 0} (m : port.Ghosts P) (steps : List Stepped) (lines : List Line) (history : List Entry)
+    (old new : List P) : Type 0 where
   pub told : List (List (List Line))
   pub account : IsAccountOf m history_limit (by_actor (actors_over old) phase_limit steps) history told old new
   pub lines_are : lines ≡ flat_map (λ phases. flat_map (λ ls. ls) phases) told
@@ -36,7 +37,8 @@ pub record IsAccount {P : Type 0} (m : port.Ghosts P) (steps : List Stepped) (li
   pub own : own_of 0 history ≡ history
 
 -- steps were served by the first pass over one port, and the account of one actor may be said of it
-pub record IsServedFirst {P : Type 0} (m : port.Ghosts P) (steps : List Step) (lines : List Line) (history : List Entry) (before after : P) : Type 0 where
+pub record IsServedFirst {P : Type 0} (m : port.Ghosts P) (steps : List Step) (lines : List Line) (history : List Entry)
+    (before after : P) : Type 0 where
   pub served : ServesAll m history_limit 0 (commands steps) lines [] history before after
   pub legal : IsLegal history
   pub within : length history ≤ history_limit
@@ -69,7 +71,8 @@ pub record IsWrittenTo {P : Type 0} (m : port.Ghosts P) (name text : List ℕ) (
 abbrev pub IsRanBehind : {P : Type 0} → port.Ghosts P → List ℕ → List ℕ → Ran → P → P → List P → List P → Type 0
 IsRanBehind m bytes journal came desk new_desk old new =
     (EndsIn m (Asked (read.Given bytes)) came old new × IsLeft m desk new_desk)
-    ⊎ ((text : List ℕ) × (answer : WriteAnswer) × EndsIn m (Kept bytes text answer) came old new × IsWrittenTo m journal text answer desk new_desk)
+    ⊎ ((text : List ℕ) × (answer : WriteAnswer) × EndsIn m (Kept bytes text answer) came old new
+    × IsWrittenTo m journal text answer desk new_desk)
 
 -- the lines, and whether the write was done
 abbrev pub IsServedWith : List Line → WriteAnswer → Ran → Type 0
@@ -80,4 +83,5 @@ IsServedWith lines answer other = ⊥
 abbrev pub IsKept : {P : Type 0} → port.Ghosts P → List ℕ → List Line → List Entry → Ran → P → P → Type 0
 IsKept m name lines history came old new =
     ((came ≡ ran.Memory) × IsLeft m old new)
-    ⊎ ((answer : WriteAnswer) × IsServedWith lines answer came × IsWrittenTo m name (journal (numbered ((0 ∷ []) ∷ []) [] history)) answer old new)
+    ⊎ ((answer : WriteAnswer) × IsServedWith lines answer came
+    × IsWrittenTo m name (journal (numbered ((0 ∷ []) ∷ []) [] history)) answer old new)

@@ -57,7 +57,8 @@ abbrev pub is_refused : Line → Bool
 is_refused (line.Refused reason at) = true
 is_refused l = false
 
--- the status of lines, the whole of which was put, by whether the journal was written: want of memory comes first, then faults, then refusals
+-- the status of lines, the whole of which was put, by whether the journal was written: want of memory comes first,
+-- then faults, then refusals
 abbrev pub served_status : List Line → Bool → Status
 served_status lines kept = cond (list_any is_memory lines) status.Memory
     (cond (list_any is_fault lines || not kept) status.Fault (cond (list_any is_refused lines) status.Refused status.Done))
@@ -105,4 +106,5 @@ pub record IsPut {O : Type 0} (m : out.Ghosts O) (text : List ℕ) (answer : Res
 -- a run was told, and the status belongs to it
 abbrev pub IsTold : {O : Type 0} → out.Ghosts O → Ran → Status → O → O → Type 0
 IsTold m found ended old new =
-    (told : Ran) × (answer : Result (Unit {0}) WriteRefusal) × Settles found told × (ended ≡ status_after told answer) × IsPut m (text_of told) answer old new
+    (told : Ran) × (answer : Result (Unit {0}) WriteRefusal) × Settles found told × (ended ≡ status_after told answer)
+    × IsPut m (text_of told) answer old new

@@ -32,11 +32,14 @@ command_view (words.Script script journal) = Script script.now journal.now
 command_view (words.Scratch replay) = Scratch (replay_of replay)
 command_view (words.Make made) = Make (make_of made)
 
-module _ {P O : Type 0} (m : port.Ghosts P) (o : out.Ghosts O) (words : List (List ℕ)) (desk new_desk : P) (old new : List P) (before after : O) where
+module _ {P O : Type 0} (m : port.Ghosts P) (o : out.Ghosts O) (words : List (List ℕ)) (desk new_desk : P)
+    (old new : List P) (before after : O) where
   -- what a run was: the account of its command, and what was put of it. The words of one file and those of a volume use no desk
   abbrev pub IsRun : Option Command → Status → Type 0
-  IsRun (Some (Script script journal)) ended = (ran : Ran) × deeds.IsRan m script journal ran desk new_desk old new × script_told.IsTold o ran ended before after
-  IsRun (Some (Scratch c)) ended = (came : Came) × replay.IsRan m c came desk new_desk old new × replay_told.IsTold o came ended before after
+  IsRun (Some (Script script journal)) ended =
+      (ran : Ran) × deeds.IsRan m script journal ran desk new_desk old new × script_told.IsTold o ran ended before after
+  IsRun (Some (Scratch c)) ended =
+      (came : Came) × replay.IsRan m c came desk new_desk old new × replay_told.IsTold o came ended before after
   IsRun (Some (Make c)) ended =
       (came : MakeCame) × make.IsRan m c came old new × make_told.IsTold o came ended before after × (new_desk ≡ desk)
   IsRun None ended = once_account.IsRun m o words old new before after ended × (new_desk ≡ desk)
@@ -77,7 +80,8 @@ module _ {P O : Type 0} (m : port.Ghosts P) (o : out.Ghosts O) (words : List (Li
   -- a run that answers Fault: what failed, and what was told of it
   abbrev pub IsFault : Option Command → Type 0
   IsFault (Some (Script script journal)) =
-      script_promises.IsServedWithFault m o script journal desk new_desk old new before after ⊎ script_promises.IsUnread m o script journal desk new_desk old new before after
+      script_promises.IsServedWithFault m o script journal desk new_desk old new before after
+      ⊎ script_promises.IsUnread m o script journal desk new_desk old new before after
   IsFault (Some (Scratch c)) = replay_promises.IsFault m o c desk new_desk old new before after
   IsFault (Some (Make c)) = make_promises.IsFault m o c old new before after
   IsFault None = once_promises.IsFault m o (once.command_of words) old new before after
