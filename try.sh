@@ -4,8 +4,8 @@
 set -eu
 cd "$(dirname "$0")"
 
-echo "Each proof is checked before the program is built. The first time that takes about"
-echo "10 minutes on four processors, later only what has changed is proved again."
+echo "Each proof is checked before the program is built. The first time that takes up to an"
+echo "hour on four processors, later only what has changed is proved again."
 python3 .ci/prove.py
 
 echo "Proving and building the program."
@@ -41,4 +41,20 @@ END
 type_in ./vizrun run s j
 type_in ./vizrun scratch j 5 iso again.vtk
 type_in cmp one.vtk again.vtk
+cat >t <<'END'
+1 add file src
+1 load src c.vtk
+1 add contour iso
+1 connect src iso 1
+1 set iso levels 5
+phase
+1 update iso low.vtk 1 1
+2 audit iso 1 1
+phase
+2 set iso levels 8
+2 update iso high.vtk 1 1
+END
+type_in ./vizrun run t k
+type_in ./vizrun scratch k 5 iso again.vtk
+type_in cmp low.vtk again.vtk
 echo "The program is $PWD/vizrun. It reads and writes files of the folder that it is started in."

@@ -148,7 +148,7 @@ def check_proved(known):
 def check_crates():
     here = crates()
     for page, pattern in (("README.md", r"^\| `(viz_\w+)` \|"),
-                          ("docs/ARCHITECTURE.md", r"^\| \d \| `(viz_\w+)` \| stands \|")):
+                          ("docs/ARCHITECTURE.md", r"^\| \d+ \| `(viz_\w+)` \| stands \|")):
         rows = re.findall(pattern, text(page), re.M)
         if sorted(rows) != sorted(here):
             errors.append("%s: its lines are not those of crates.txt: %s" % (page, sorted(rows)))

@@ -1,6 +1,7 @@
--- What an account says still holds of a longer history, and of one command more.
+-- What an account says still holds of a longer history, and of more commands.
 use Rattle.std.proofs.Common.{◌≡◌, ℕ, zero, suc, ◌+◌, ◌^◌, ◌<◌, ◌≤◌, ◌⊎◌, inl, inr, List, [], ◌∷◌, ◌++◌, length, length-append, slice_get, append_assoc, append-nil, flat_map, Some, Err, refl, sym, ap, subst, ◌∙◌, arith}
 use Rattle.std.proofs.lemmas.List.{take-append-le}
+use Rattle.std.proofs.lemmas.Grind.{flat_map-append}
 use Rattle.viz_base.specs.Faults.{most_faults, Rose}
 use Rattle.viz_base.specs.declared.call.Call.{Call}
 use Rattle.viz_base.specs.declared.port.Port as port
@@ -75,7 +76,7 @@ told_longer limit h more ps low (o ∷ os) [] calls last t = t
 told_longer limit h more ps low (o ∷ os) (l ∷ ls) calls last t =
     (t.0, t.1, t.2, t.3, tells_more limit h more ps t.0 o l t.1 t.6 t.4, t.5, longer h more t.0 t.6, told_longer limit h more ps t.0 os ls t.2 last t.7)
 
--- ---- one command more
+-- ---- more commands
 
 least_up : (low mid n : ℕ) (l : Line) → low ≤ mid → least mid l ≤ n → least low l ≤ n
 least_up low mid n (line.Edit at) a b = omega (arith, a, b)
@@ -86,20 +87,24 @@ least_up low mid n line.ReadFault a b = omega (arith, a, b)
 least_up low mid n line.WriteFault a b = omega (arith, a, b)
 least_up low mid n line.Memory a b = omega (arith, a, b)
 
--- an account with one command more
-pub told_snoc : (limit : ℕ) (h : List Entry) (ps : List ℕ) (low : ℕ) (os : List Asked) (ls : List Line) (calls : List Call) (last n : ℕ) (o : Asked) (l : Line) (mine : List Call)
-    → AreTold limit h ps low os ls calls last → Tells limit h ps n o l mine → least last l ≤ n → n ≤ length h
-    → AreTold limit h ps low (os ++ o ∷ []) (ls ++ l ∷ []) (calls ++ mine) n
-told_snoc limit h ps low [] [] calls last n o l mine t told up within =
-    (n, mine, [], ap (λ c. c ++ mine) t.0 ∙ sym (append-nil mine), told, subst (λ m. least m l ≤ n) t.1 up, within, (refl, refl))
-told_snoc limit h ps low [] (k ∷ ls) calls last n o l mine t told up within = absurd t
-told_snoc limit h ps low (p ∷ os) [] calls last n o l mine t told up within = absurd t
-told_snoc limit h ps low (p ∷ os) (k ∷ ls) calls last n o l mine t told up within =
-    (t.0, t.1, t.2 ++ mine, ap (λ c. c ++ mine) t.3 ∙ append_assoc t.1 t.2 mine, t.4, t.5, t.6, told_snoc limit h ps t.0 os ls t.2 last n o l mine t.7 told up within)
+-- numbers may begin lower
+pub told_lower : (limit : ℕ) (h : List Entry) (ps : List ℕ) (low mid : ℕ) (os : List Asked) (ls : List Line) (calls : List Call) (last : ℕ) → low ≤ mid
+    → AreTold limit h ps mid os ls calls last → (end : ℕ) × (end ≤ last) × AreTold limit h ps low os ls calls end
+told_lower limit h ps low mid [] [] calls last up t = (low, omega (arith, up, t.1), (t.0, refl))
+told_lower limit h ps low mid [] (l ∷ ls) calls last up t = absurd t
+told_lower limit h ps low mid (o ∷ os) [] calls last up t = absurd t
+told_lower limit h ps low mid (o ∷ os) (l ∷ ls) calls last up t =
+    (last, omega arith, (t.0, t.1, t.2, t.3, t.4, least_up low mid t.0 l up t.5, t.6, t.7))
 
-edited_snoc : (ls : List Line) (l : Line) → flat_map edited (ls ++ l ∷ []) ≡ flat_map edited ls ++ edited l
-edited_snoc [] l = append-nil (edited l)
-edited_snoc (k ∷ ls) l = ap (λ t. edited k ++ t) (edited_snoc ls l) ∙ sym (append_assoc (edited k) (flat_map edited ls) (edited l))
+-- two lists of commands, one after the other
+pub told_append : (limit : ℕ) (h : List Entry) (ps : List ℕ) (low : ℕ) (os more : List Asked) (ls behind : List Line) (first rest calls : List Call) (mid last : ℕ) → calls ≡ first ++ rest
+    → AreTold limit h ps low os ls first mid → AreTold limit h ps mid more behind rest last → AreTold limit h ps low (os ++ more) (ls ++ behind) calls last
+told_append limit h ps low [] more [] behind first rest calls mid last is s t =
+    subst (λ (c : List Call). AreTold limit h ps low more behind c last) (sym (is ∙ ap (λ c. c ++ rest) s.0)) (subst (λ (n : ℕ). AreTold limit h ps n more behind rest last) s.1 t)
+told_append limit h ps low [] more (l ∷ ls) behind first rest calls mid last is s t = absurd s
+told_append limit h ps low (o ∷ os) more [] behind first rest calls mid last is s t = absurd s
+told_append limit h ps low (o ∷ os) more (l ∷ ls) behind first rest calls mid last is s t =
+    (s.0, s.1, s.2 ++ rest, is ∙ ap (λ c. c ++ rest) s.3 ∙ append_assoc s.1 s.2 rest, s.4, s.5, s.6, told_append limit h ps s.0 os more ls behind s.2 rest (s.2 ++ rest) mid last refl s.7 t)
 
 pub faults_append : (ls ms : List Line) → faults_told (ls ++ ms) ≡ faults_told ls + faults_told ms
 faults_append [] ms = let none : faults_told ms ≡ 0 + faults_told ms = omega arith in none
@@ -155,26 +160,49 @@ served_none m limit pass h p = record {
   idle = λ e. refl;
 }
 
--- one command more
-pub served_more : {P : Type 0} (m : port.Ghosts P) (limit pass : ℕ) (os : List Asked) (ls : List Line) (o : Asked) (l : Line) (old mid new : List Entry) (p q r : P)
-    → ServesAll m limit pass os ls old mid p q → Serves m limit pass o l mid new q r → ServesAll m limit pass (os ++ o ∷ []) (ls ++ l ∷ []) old new p r
-served_more m limit pass os ls o l old mid new p q r s t =
-    let calls = s.gained.0 in
-    let last = s.gained.1 in
-    let n = t.gained.0 in
-    let mine = t.gained.1 in
+-- one command
+pub served_one : {P : Type 0} (m : port.Ghosts P) (limit pass : ℕ) (o : Asked) (l : Line) (old new : List Entry) (p q : P)
+    → Serves m limit pass o l old new p q → ServesAll m limit pass (o ∷ []) (l ∷ []) old new p q
+served_one m limit pass o l old new p q s = record {
+  further = s.further;
+  own = s.own ∙ ap (λ e. places (pass ∷ []) old ++ e) (sym (append-nil (edited l)));
+  gained = (
+    s.gained.1,
+    s.gained.0,
+    s.gained.2,
+    (s.gained.0, s.gained.1, [], sym (append-nil s.gained.1), s.gained.3, s.gained.4, s.gained.5, (refl, refl)),
+    s.gained.5,
+  );
+  faults = s.faults;
+  idle = λ e. absurd (omega (arith, ap length e));
+}
+
+-- commands of both lists, so the later list alone where the first is empty
+pub both_idle : {P : Type 0} (os more : List Asked) (p q r : P) → (os ≡ [] → q ≡ p) → (more ≡ [] → r ≡ q) → os ++ more ≡ [] → r ≡ p
+both_idle [] more p q r s t e = t e ∙ s refl
+both_idle (o ∷ os) more p q r s t e = absurd (omega (arith, ap length e))
+
+-- commands behind others
+pub served_append : {P : Type 0} (m : port.Ghosts P) (limit pass : ℕ) (os more : List Asked) (ls behind : List Line) (old mid new : List Entry) (p q r : P)
+    → ServesAll m limit pass os ls old mid p q → ServesAll m limit pass more behind mid new q r → ServesAll m limit pass (os ++ more) (ls ++ behind) old new p r
+served_append m limit pass os more ls behind old mid new p q r s t =
+    let ps = pass ∷ [] in
+    let first = s.gained.0 in
+    let rest = t.gained.0 in
+    let front : AreTold limit new ps (length old) os ls first s.gained.1 =
+    subst (λ h. AreTold limit h ps (length old) os ls first s.gained.1) (sym t.further.1) (told_longer limit mid t.further.0 ps (length old) os ls first s.gained.1 s.gained.3) in
+    let back = told_lower limit new ps s.gained.1 (length mid) more behind rest t.gained.1 s.gained.4 t.gained.3 in
     record {
       further = (s.further.0 ++ t.further.0, t.further.1 ∙ ap (λ h. h ++ t.further.0) s.further.1 ∙ append_assoc old s.further.0 t.further.0);
-      own = t.own ∙ ap (λ h. h ++ edited l) s.own ∙ append_assoc (places (pass ∷ []) old) (flat_map edited ls) (edited l) ∙ ap (λ h. places (pass ∷ []) old ++ h) (sym (edited_snoc ls l));
+      own = t.own ∙ ap (λ h. h ++ flat_map edited behind) s.own ∙ append_assoc (places ps old) (flat_map edited ls) (flat_map edited behind)
+          ∙ ap (λ h. places ps old ++ h) (sym (flat_map-append edited ls behind));
       gained = (
-        calls ++ mine,
-        n,
-        (λ told. t.gained.2 told ∙ ap (λ c. c ++ mine) (s.gained.2 told) ∙ append_assoc (m.calls p) calls mine),
-        told_snoc limit new (pass ∷ []) (length old) os ls calls last n o l mine
-            (subst (λ h. AreTold limit h (pass ∷ []) (length old) os ls calls last) (sym t.further.1) (told_longer limit mid t.further.0 (pass ∷ []) (length old) os ls calls last s.gained.3))
-            t.gained.3 (least_up last (length mid) n l s.gained.4 t.gained.4) t.gained.5,
-        t.gained.5,
+        first ++ rest,
+        back.0,
+        (λ told. t.gained.2 told ∙ ap (λ c. c ++ rest) (s.gained.2 told) ∙ append_assoc (m.calls p) first rest),
+        told_append limit new ps (length old) os more ls behind first rest (first ++ rest) s.gained.1 back.0 refl front back.2,
+        omega (arith, back.1, t.gained.4),
       );
-      faults = subst (λ k. RoseBy k (m.faults p) (m.faults r)) (sym (faults_append ls (l ∷ []))) (rose_more (faults_told ls) (faults_told (l ∷ [])) (m.faults p) (m.faults q) (m.faults r) s.faults t.faults);
-      idle = λ e. absurd (omega (arith, ap length e, length-append os (o ∷ [])));
+      faults = subst (λ k. RoseBy k (m.faults p) (m.faults r)) (sym (faults_append ls behind)) (rose_more (faults_told ls) (faults_told behind) (m.faults p) (m.faults q) (m.faults r) s.faults t.faults);
+      idle = both_idle os more p q r s.idle t.idle;
     }

@@ -19,61 +19,24 @@ use Rattle.viz_audit.specs.Laws.{AuditsAreClosed}
 use Rattle.viz_report.specs.declared.line.Line.{Line}
 use Rattle.viz_report.specs.declared.line.Line.TheVariants as line
 use Rattle.viz_report.specs.declared.line.Reason.TheVariants as reason
+use Rattle.viz_account.specs.declared.answer.Missing.{Missing}
+use Rattle.viz_account.specs.declared.answer.Missing.TheVariants as missing
+use Rattle.viz_account.specs.Answers.{audit_line_of, audit_without}
 use Rattle.viz_account.specs.Lines.{network_at, TellsEdit, TellsLoad, TellsUpdate, TellsAudit, Tells}
 use Rattle.viz_account.specs.Account.{edited, least, places, AreTold, ArePhases, faults_told, RoseBy, IsActor, AreActors, IsAccountOf}
-use Rattle.viz_account.specs.Served.{Serves}
 use Rattle.viz_account.specs.Laws.{IsClosedLine, AuditLinesAreClosed}
 use Rattle.viz_account.specs.Steps.Made.{IsStop}
-use Rattle.viz_account.proofs.AccountLemmas.{rose_none}
-use Rattle.viz_account.proofs.HistoryLemmas.{take-all}
 
--- the line of a stop tells of the audit
-pub stopped_audit : (net : Network) (n : ℕ) (node : List ℕ) (x : Node) (s : Stop) (l : Line) → named net node ≡ Some x → Answers (IsAuditOf net x.id.0) (Err s) → IsStop net n s l
-    → TellsAudit net n node l
-stopped_audit net n node x (stop.Fault f) (line.Refused (reason.Fault g name) at) there made t =
-    (t.1, (x, there, subst (λ e. IsAuditOf net x.id.0 (Err e)) (sym t.0) made), ap (λ e. name_of net e.node.0) t.0 ∙ t.2)
-stopped_audit net n node x (stop.Fault f) line.Memory there made t = tt
-stopped_audit net n node x (stop.Fault f) (line.Refused (reason.Edit r) at) there made t = absurd t
-stopped_audit net n node x (stop.Fault f) (line.Refused reason.Full at) there made t = absurd t
-stopped_audit net n node x (stop.Fault f) (line.Refused reason.TooLong at) there made t = absurd t
-stopped_audit net n node x (stop.Fault f) (line.Refused reason.Unknown at) there made t = absurd t
-stopped_audit net n node x (stop.Fault f) (line.Edit at) there made t = absurd t
-stopped_audit net n node x (stop.Fault f) (line.File at cells points ran) there made t = absurd t
-stopped_audit net n node x (stop.Fault f) (line.Audit at sides two lone border) there made t = absurd t
-stopped_audit net n node x (stop.Fault f) line.ReadFault there made t = absurd t
-stopped_audit net n node x (stop.Fault f) line.WriteFault there made t = absurd t
-stopped_audit net n node x stop.Memory line.Memory there made t = tt
-stopped_audit net n node x stop.Memory (line.Refused r at) there made t = absurd t
-stopped_audit net n node x stop.Memory (line.Edit at) there made t = absurd t
-stopped_audit net n node x stop.Memory (line.File at cells points ran) there made t = absurd t
-stopped_audit net n node x stop.Memory (line.Audit at sides two lone border) there made t = absurd t
-stopped_audit net n node x stop.Memory line.ReadFault there made t = absurd t
-stopped_audit net n node x stop.Memory line.WriteFault there made t = absurd t
-
--- such a line tells of no entry and of no fault
-quiet : (net : Network) (n : ℕ) (node : List ℕ) (l : Line) → TellsAudit net n node l → (edited l ≡ []) × ((k : ℕ) → least k l ≡ k) × (faults_told (l ∷ []) ≡ 0)
-quiet net n node (line.Audit at sides two lone border) t = (refl, (λ k. refl), refl)
-quiet net n node (line.Refused r at) t = (refl, (λ k. refl), refl)
-quiet net n node line.Memory t = (refl, (λ k. refl), refl)
-quiet net n node (line.Edit at) t = absurd t
-quiet net n node (line.File at cells points ran) t = absurd t
-quiet net n node line.ReadFault t = absurd t
-quiet net n node line.WriteFault t = absurd t
-
--- an audit of the network of all entries, without a call
-pub serves_audit : {P : Type 0} (m : port.Ghosts P) (limit pass : ℕ) (h : List Entry) (node : List ℕ) (pieces workers : ℕ) (l : Line) (net : Network) (at : ℕ) (p : P)
-    → net ≡ network_of h → at ≡ length h → TellsAudit net at node l → Serves m limit pass (audit node pieces workers) l h h p p
-serves_audit m limit pass h node pieces workers l net at p whole count t =
-    let still = quiet net at node l t in
-    let here : TellsAudit (network_at h (length h)) (length h) node l =
-    subst (λ n. TellsAudit (network_at h (length h)) n node l) count (subst (λ g. TellsAudit g at node l) (whole ∙ sym (ap network_of (take-all h))) t) in
-    let up : least (length h) l ≤ length h = omega (arith, still.1 (length h)) in
-    record {
-      further = ([], sym (append-nil h));
-      own = sym (ap (λ e. places (pass ∷ []) h ++ e) still.0 ∙ append-nil (places (pass ∷ []) h));
-      gained = (length h, [], (λ told. sym (append-nil (m.calls p))), (here, refl), up, omega arith);
-      faults = subst (λ k. RoseBy k (m.faults p) (m.faults p)) (sym still.2) (rose_none (m.faults p));
-    }
+-- the line without counts tells of the audit
+pub stopped_audit : (net : Network) (n : ℕ) (node : List ℕ) (x : Node) (s : Stop) (m : Missing) → named net node ≡ Some x → Answers (IsAuditOf net x.id.0) (Err s) → IsStop net s m
+    → TellsAudit net n node (audit_line_of (audit_without m n))
+stopped_audit net n node x (stop.Fault f) (missing.Fault g name) there made t =
+    (refl, (x, there, subst (λ e. IsAuditOf net x.id.0 (Err e)) (sym t.0) made), ap (λ e. name_of net e.node.0) t.0 ∙ t.1)
+stopped_audit net n node x (stop.Fault f) missing.Unknown there made t = absurd t
+stopped_audit net n node x (stop.Fault f) missing.Memory there made t = tt
+stopped_audit net n node x stop.Memory (missing.Fault g name) there made t = absurd t
+stopped_audit net n node x stop.Memory missing.Unknown there made t = absurd t
+stopped_audit net n node x stop.Memory missing.Memory there made t = tt
 
 -- ---- closed up to the boundary
 

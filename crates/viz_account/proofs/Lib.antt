@@ -1,10 +1,10 @@
-mod HistoryLemmas
-mod AccountLemmas
+pub mod HistoryLemmas
+pub mod AccountLemmas
 mod MadeLemmas
 mod AboveLemmas
 mod RanLemmas
 mod CountLemmas
-mod ScriptLemmas
+pub mod ScriptLemmas
 mod OnceLemmas
 mod NumberLemmas
 mod AuditLemmas

@@ -1,22 +1,21 @@
 -- The numbers of one actor's lines are those of its edits.
-use Rattle.std.proofs.Common.{◌≡◌, ℕ, zero, suc, ◌+◌, ◌≤◌, Bool, true, false, cond, List, [], ◌∷◌, length, flat_map, refl, sym, ap, subst, ◌∙◌, arith}
+use Rattle.std.proofs.Common.{◌≡◌, ℕ, zero, suc, ◌+◌, ◌≤◌, Bool, true, false, cond, List, [], ◌∷◌, ◌++◌, append-nil, length, flat_map, refl, sym, ap, subst, ◌∙◌, arith}
 use Rattle.viz_base.specs.declared.call.Call.{Call}
 use Rattle.viz_base.specs.declared.port.Port as port
 use Rattle.viz_network.specs.declared.edit.Edit.{Edit}
 use Rattle.viz_network.specs.Network.{Network}
 use Rattle.viz_turn.specs.Tales.{has, entries_of}
 use Rattle.viz_core.specs.declared.entry.Entry.{Entry}
-use Rattle.viz_core.specs.History.{by_of, own_of}
+use Rattle.viz_core.specs.History.{by_of}
 use Rattle.viz_script.specs.Orders.{Asked, edit, load, update, audit}
 use Rattle.viz_report.specs.declared.line.Line.{Line}
 use Rattle.viz_report.specs.declared.line.Line.TheVariants as line
 use Rattle.viz_report.specs.declared.line.Reason.TheVariants as reason
 use Rattle.viz_account.specs.Lines.{network_at, TellsEdit, TellsLoad, TellsAudit, Tells}
-use Rattle.viz_account.specs.Account.{edited, AreTold, places_from}
-use Rattle.viz_account.specs.Served.{ServesAll}
-use Rattle.viz_account.specs.Laws.{Shows, CountEdits}
+use Rattle.viz_account.specs.Account.{edited, AreTold, places_from, AreActors, IsAccountOf}
+use Rattle.viz_account.specs.Laws.{Shows, CountEdits, LinesCountEdits}
 use Rattle.viz_account.proofs.OnceLemmas.{few}
-use Rattle.viz_account.proofs.ScriptLemmas.{least_low}
+use Rattle.viz_account.proofs.ScriptLemmas.{least_low, phases_flat, edited_flat}
 
 -- ---- a line shows its number
 
@@ -149,6 +148,17 @@ module _ (limit : ℕ) (h : List Entry) (ps : List ℕ) where
   counted n c (o ∷ os) (line.WriteFault ∷ ls) calls last t e whole = let q = quiet n c o os line.WriteFault ls calls last t e whole in (q.2, subst (λ k. CountEdits k ls) (let z : n ≡ n + 0 = omega arith in z) (counted n c os ls q.3.0 last (subst (λ k. AreTold limit h ps k os ls q.3.0 last) (let z : n + 0 ≡ n = omega arith in z) q.3.1) e whole))
   counted n c (o ∷ os) (line.Memory ∷ ls) calls last t e whole = let q = quiet n c o os line.Memory ls calls last t e whole in (q.2, subst (λ k. CountEdits k ls) (let z : n ≡ n + 0 = omega arith in z) (counted n c os ls q.3.0 last (subst (λ k. AreTold limit h ps k os ls q.3.0 last) (let z : n + 0 ≡ n = omega arith in z) q.3.1) e whole))
 
-pub lines_count : {P : Type 0} (m : port.Ghosts P) (limit pass : ℕ) (h : List Entry) (os : List Asked) (ls : List Line) (p q : P) → own_of pass h ≡ h → ServesAll m limit pass os ls [] h p q → CountEdits 0 ls
-lines_count m limit pass h os ls p q own s =
-    counted limit h (pass ∷ []) 0 (length h) os ls s.gained.0 s.gained.1 s.gained.3 (sym s.own ∙ all_places (pass ∷ []) 0 h own) (let e : 0 + length h ≡ length h = omega arith in e)
+one_actor : {P : Type 0} (m : port.Ghosts P) (limit : ℕ) (h : List Entry) (passes : List (List ℕ)) (phases : List (List Asked)) (lines : List (List Line)) (ends : List ℕ) (before after : List P)
+    → AreActors m limit h passes (phases ∷ []) (lines ∷ []) ends before after → entries_of by_of (flat_map (λ ps. ps) passes) h ≡ h → CountEdits 0 (flat_map (λ ls. ls) lines)
+one_actor m limit h [] phases lines ends before after t whole = absurd t
+one_actor m limit h (ps ∷ passes) phases lines ends [] after t whole = absurd t
+one_actor m limit h (ps ∷ passes) phases lines ends (b ∷ before) [] t whole = absurd t
+one_actor m limit h (ps ∷ p ∷ passes) phases lines ends (b ∷ before) (a ∷ after) t whole = absurd t.1
+one_actor m limit h (ps ∷ []) phases lines ends (b ∷ before) (a ∷ after) t whole =
+    let r = phases_flat limit h ps 0 phases lines ends t.0.gained.0 t.0.gained.2 in
+    let all : entries_of by_of ps h ≡ h = subst (λ (l : List ℕ). entries_of by_of l h ≡ h) (append-nil ps) whole in
+    counted limit h ps 0 (length h) (flat_map (λ os. os) phases) (flat_map (λ ls. ls) lines) t.0.gained.0 r.0 r.1
+    (edited_flat lines ∙ sym t.0.own ∙ all_places ps 0 h all) (let e : 0 + length h ≡ length h = omega arith in e)
+
+pub lines_count : {P : Type 0} (m : port.Ghosts P) → LinesCountEdits m
+lines_count m limit phases h lines before after account = one_actor m limit h account.passes phases lines account.ends before after account.actors account.whole

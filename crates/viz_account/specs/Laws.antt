@@ -3,24 +3,15 @@ use Rattle.std.specs.Prelude.{◌≡◌, ℕ, ◌+◌, ◌<◌, ◌≤◌, nat_e
 use Rattle.viz_base.specs.declared.call.Call.{Call}
 use Rattle.viz_base.specs.declared.port.Port as port
 use Rattle.viz_core.specs.declared.entry.Entry.{Entry}
-use Rattle.viz_core.specs.History.{own_of, IsLegal}
 use Rattle.viz_script.specs.Orders.{Asked}
 use Rattle.viz_report.specs.declared.line.Line.{Line}
 use Rattle.viz_report.specs.declared.line.Line.TheVariants as line
 use Rattle.viz_account.specs.Account.{edited, AreTold, IsAccountOf}
-use Rattle.viz_account.specs.Served.{ServesAll}
 
 -- lines that tell of commands in a history tell of them in each longer one
 abbrev pub HoldLater : Type 0
 HoldLater = (limit : ℕ) (h more : List Entry) (passes : List ℕ) (low : ℕ) (os : List Asked) (ls : List Line) (calls : List Call) (last : ℕ)
     → AreTold limit h passes low os ls calls last → AreTold limit (h ++ more) passes low os ls calls last
-
--- the commands of one actor, served from no entry on over a history that gains none but its own, are accounted for, in whatever phases
-abbrev pub OneActor : {P : Type 0} → port.Ghosts P → Type 0
-OneActor {P} m = (limit pass : ℕ) (h : List Entry) (phases : List (List Asked)) (ls : List Line) (p q : P) (others : List P)
-    → IsLegal h → length h ≤ limit → own_of pass h ≡ h → ServesAll m limit pass (flat_map (λ os. os) phases) ls [] h p q
-    → (lines : List (List Line)) × (flat_map (λ l. l) lines ≡ ls) × (length lines ≡ length phases)
-    × IsAccountOf m limit (phases ∷ []) h (lines ∷ []) (p ∷ others) (q ∷ others)
 
 -- how often a number stands in a list
 abbrev pub times : ℕ → List ℕ → ℕ
@@ -50,10 +41,10 @@ abbrev pub CountEdits : ℕ → List Line → Type 0
 CountEdits n [] = Unit {0}
 CountEdits n (l ∷ ls) = Shows (n + length (edited l)) l × CountEdits (n + length (edited l)) ls
 
--- where all entries are of one pass, its lines count its accepted edits
+-- the lines of a script of one actor, in whatever phases, count its accepted edits
 abbrev pub LinesCountEdits : {P : Type 0} → port.Ghosts P → Type 0
-LinesCountEdits {P} m = (limit pass : ℕ) (h : List Entry) (os : List Asked) (ls : List Line) (p q : P) → own_of pass h ≡ h
-    → ServesAll m limit pass os ls [] h p q → CountEdits 0 ls
+LinesCountEdits {P} m = (limit : ℕ) (phases : List (List Asked)) (h : List Entry) (lines : List (List Line)) (before after : List P)
+    → IsAccountOf m limit (phases ∷ []) h (lines ∷ []) before after → CountEdits 0 (flat_map (λ ls. ls) lines)
 
 -- what an audit's line tells is closed up to the boundary: each side lies in two triangles or in one, and in one only on the boundary
 abbrev pub IsClosedLine : Line → Type 0

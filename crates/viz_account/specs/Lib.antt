@@ -2,6 +2,7 @@ pub mod Account
 pub mod Served
 pub mod Lines
 pub mod Written
+pub mod Answers
 pub mod Counts
 pub mod Laws
 pub mod Steps

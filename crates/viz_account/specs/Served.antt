@@ -4,12 +4,9 @@ use Rattle.viz_base.specs.declared.call.Call.{Call}
 use Rattle.viz_base.specs.declared.port.Port as port
 use Rattle.viz_network.specs.Network.{Network}
 use Rattle.viz_core.specs.declared.entry.Entry.{Entry}
-use Rattle.viz_core.specs.History.{own_of}
-use Rattle.viz_core.specs.Machine.{State}
 use Rattle.viz_script.specs.declared.order.Step.{Step}
 use Rattle.viz_script.specs.Orders.{Asked, seen}
 use Rattle.viz_report.specs.declared.line.Line.{Line}
-use Rattle.viz_account.specs.declared.actor.Actor.{Actor}
 use Rattle.viz_account.specs.Lines.{Tells, TellsUpdate}
 use Rattle.viz_account.specs.Account.{edited, least, places, AreTold, faults_told, RoseBy}
 
@@ -45,16 +42,3 @@ pub record ServesAll {P : Type 0} (m : port.Ghosts P) (limit pass : ℕ) (os : L
       × AreTold limit new (pass ∷ []) (length old) os ls mine last × (last ≤ length new)
   pub faults : RoseBy (faults_told ls) (m.faults before) (m.faults after)
   pub idle : os ≡ [] → after ≡ before
-
--- the actor's count is that of the entries of its pass
-abbrev pub IsCounted : Actor → List Entry → Type 0
-IsCounted actor h = actor.count ≡ length (own_of actor.pass h)
-
--- a core whose history goes on by entries of this pass alone, and all else of which is as before
-pub record GoesOnAlone (pass : ℕ) (old new : State) : Type 0 where
-  pub more : List Entry
-  pub history : new.history ≡ old.history ++ more
-  pub own : own_of pass more ≡ more
-  pub limit : new.limit ≡ old.limit
-  pub capacity : new.capacity ≡ old.capacity
-  pub cache : new.cache ≡ old.cache

@@ -1,15 +1,17 @@
 //! An audit: the sides of a node's surface are counted.
 
+ghost use Rattle.std.specs.Prelude.{◌≡◌, IfSome};
 ghost use Rattle.viz_scratch.specs.Scratch.{Answers};
 ghost use Rattle.viz_audit.specs.Audited.{IsAuditOf};
+ghost use Rattle.viz_account.specs.Answers.{audit_line_of, audit_at_of};
 ghost use Rattle.viz_account.specs.Lines.{TellsAudit};
 
-use crate::made::stopped;
+use crate::answer::{AuditAnswer, Missing};
+use crate::made::missing_of;
 use std::alloc::Global;
 use viz_audit::{Counts, audit_of};
 use viz_base::{NodeId, Word};
 use viz_network::{Net, Stop};
-use viz_report::{Line, Reason};
 
 // The counts of a node, if it is there.
 fn audit_there(alloc: Global, net: &Net, node: NodeId) -> Result<Counts, Stop>
@@ -23,23 +25,15 @@ fn audit_there(alloc: Global, net: &Net, node: NodeId) -> Result<Counts, Stop>
 
 /// Counts the sides of the surface of a node of this network, which so many entries of a history
 /// made. The network may be that of a pin.
-pub fn audit(alloc: Global, net: &Net, at: u32, node: &Word) -> Line
-    ensures { TellsAudit net.now at node.now result }
+pub fn audit(alloc: Global, net: &Net, at: u32, node: &Word) -> AuditAnswer
+    ensures tells { TellsAudit net.now at node.now (audit_line_of result) }
+    ensures at { IfSome (audit_at_of result) (λ n. n ≡ at) }
 {
     let Some(id) = net.find(node) else {
-        return Line::Refused {
-            reason: Reason::Unknown,
-            at,
-        };
+        return AuditAnswer::without(Missing::Unknown, at);
     };
     match audit_there(alloc, net, id) {
-        Ok(counts) => Line::Audit {
-            at,
-            sides: counts.sides,
-            two: counts.two,
-            lone: counts.lone,
-            border: counts.border,
-        },
-        Err(stop) => stopped(net, at, stop),
+        Ok(audit) => AuditAnswer::Counted { at, audit },
+        Err(stop) => AuditAnswer::without(missing_of(net, stop), at),
     }
 }

@@ -1,6 +1,6 @@
 //! How many cells and points are written of a dataset.
 
-ghost use Rattle.std.specs.Prelude.{◌≡◌, IfSome, length};
+ghost use Rattle.std.specs.Prelude.{◌≡◌, ◌≤◌, ◌^◌, None, IfSome, length};
 ghost use Rattle.viz_mesh_write.specs.Cells.{cells_of, points_of};
 ghost use Rattle.viz_account.specs.Counts.{cube_count, cells_written, points_written};
 
@@ -19,7 +19,8 @@ fn cube_count(extent: &Extent) -> u64
 
 // How many cells all sheets have; None past 64 bits.
 fn cells_in(sheets: &[Sheet]) -> Option<u64>
-    ensures { IfSome result (λ n. n ≡ length (cells_of sheets.now)) }
+    ensures value { IfSome result (λ n. n ≡ length (cells_of sheets.now)) }
+    ensures none { result ≡ None → 2 ^ 64 ≤ length (cells_of sheets.now) }
 {
     let mut count: u64 = 0;
     for sheet in sheets {
@@ -30,7 +31,8 @@ fn cells_in(sheets: &[Sheet]) -> Option<u64>
 
 // How many points all sheets have; None past 64 bits.
 fn points_in(sheets: &[Sheet]) -> Option<u64>
-    ensures { IfSome result (λ n. n ≡ length (points_of sheets.now)) }
+    ensures value { IfSome result (λ n. n ≡ length (points_of sheets.now)) }
+    ensures none { result ≡ None → 2 ^ 64 ≤ length (points_of sheets.now) }
 {
     let mut count: u64 = 0;
     for sheet in sheets {
@@ -41,7 +43,8 @@ fn points_in(sheets: &[Sheet]) -> Option<u64>
 
 /// How many cells are written of a dataset; None past 64 bits, which no text has.
 pub fn cell_count(dataset: &Dataset) -> Option<u64>
-    ensures { IfSome result (λ n. n ≡ cells_written dataset.now) }
+    ensures value { IfSome result (λ n. n ≡ cells_written dataset.now) }
+    ensures none { result ≡ None → 2 ^ 64 ≤ cells_written dataset.now }
 {
     match dataset {
         Dataset::Image(image) => Some(cube_count(&image.extent())),
@@ -51,7 +54,8 @@ pub fn cell_count(dataset: &Dataset) -> Option<u64>
 
 /// How many points are written of a dataset; None past 64 bits, which no text has.
 pub fn point_count(dataset: &Dataset) -> Option<u64>
-    ensures { IfSome result (λ n. n ≡ points_written dataset.now) }
+    ensures value { IfSome result (λ n. n ≡ points_written dataset.now) }
+    ensures none { result ≡ None → 2 ^ 64 ≤ points_written dataset.now }
 {
     match dataset {
         Dataset::Image(image) => Some(image.extent().count()),

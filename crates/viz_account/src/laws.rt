@@ -1,7 +1,7 @@
 //! Laws on accounts. A law is a function that does nothing: its contract holds of the definitions
 //! alone.
 
-ghost use Rattle.viz_account.specs.Laws.{AuditLinesAreClosed, EntriesAreToldOnce, HoldLater, LinesCountEdits, OneActor};
+ghost use Rattle.viz_account.specs.Laws.{AuditLinesAreClosed, EntriesAreToldOnce, HoldLater, LinesCountEdits};
 
 use viz_audit::audits_are_closed;
 use viz_base::Port;
@@ -11,19 +11,12 @@ pub fn accounts_hold_later()
     ensures { HoldLater }
 {}
 
-/// What one actor did by `serve_all`, from a core without entries on, is the account of its script,
-/// in whatever phases its commands stand.
-pub fn one_actor_is_accounted_for<P: Port>()
-    ensures { OneActor P.Port }
-{}
-
 /// Each entry of an account's history is told by just one line, that of its edit.
 pub fn entries_are_told_once<P: Port>()
     ensures { EntriesAreToldOnce P.Port }
 {}
 
-/// The lines of one actor, from a core without entries on, show how many of its edits were accepted
-/// so far.
+/// The lines of a script of one actor show how many of its edits were accepted so far.
 pub fn lines_count_edits<P: Port>()
     ensures { LinesCountEdits P.Port }
 {}

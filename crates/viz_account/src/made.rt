@@ -6,14 +6,14 @@ ghost use Rattle.viz_scratch.specs.Scratch.{IsScratch};
 ghost use Rattle.viz_scratch.specs.Written.{IsFileOf};
 ghost use Rattle.viz_account.specs.Steps.Made.{IsStop, Makes, MakesNamed};
 
+use crate::answer::Missing;
 use crate::counts::{cell_count, point_count};
 use crate::running::ran;
 use std::alloc::Global;
-use viz_base::{Bytes, NodeId, Word};
+use viz_base::{Bytes, NodeId, Shared, Word};
 use viz_dataset::Dataset;
 use viz_network::{Net, Stop};
-use viz_report::{Line, Reason};
-use viz_scratch::{scratch, style_with, text_with};
+use viz_scratch::{scratch, style_with, text_of};
 
 /// The text of a node's file, with the numbers that its line tells.
 #[derive(Debug, Drop)]
@@ -24,44 +24,26 @@ pub struct Made {
     pub ran: u32,
 }
 
-// The text with its numbers.
-fn numbered(
-    alloc: Global,
-    net: &Net,
-    node: NodeId,
-    dataset: &Dataset,
-    text: Bytes,
-) -> Result<Made, Stop>
-    requires given { IsScratch net.now node.0 (Ok dataset.now) }
-    requires file { IsFileOf net.now node.0 (Ok text) }
-    ensures { Makes net.now node.0 result }
-{
-    let Some(cells) = cell_count(dataset) else {
-        return Err(Stop::Memory);
-    };
-    let Some(points) = point_count(dataset) else {
-        return Err(Stop::Memory);
-    };
-    match ran(alloc, net, node) {
-        Ok(ran) => Ok(Made {
-            text,
-            cells,
-            points,
-            ran,
-        }),
-        Err(_) => Err(Stop::Memory),
-    }
-}
-
-// The file of a node that gives this dataset.
-fn file_with(alloc: Global, net: &Net, node: NodeId, dataset: &Dataset) -> Result<Made, Stop>
+// The file of a node that gives this dataset. Its counts are taken first, since the dataset is
+// given up while its text is made.
+fn file_with(alloc: Global, net: &Net, node: NodeId, dataset: Shared<Dataset>) -> Result<Made, Stop>
     requires there { IsSome (node_of net.now node.0) }
-    requires given { IsScratch net.now node.0 (Ok dataset.now) }
+    requires given { IsScratch net.now node.0 (Ok dataset) }
     ensures { Makes net.now node.0 result }
 {
     let style = style_with(&net.node(node).unwrap().settings);
-    match text_with(alloc, node, &style, dataset) {
-        Ok(text) => numbered(alloc, net, node, dataset, text),
+    let cells = cell_count(dataset.get());
+    let points = point_count(dataset.get());
+    match text_of(alloc, node, &style, dataset) {
+        Ok(text) => match (cells, points, ran(alloc, net, node)) {
+            (Some(cells), Some(points), Ok(ran)) => Ok(Made {
+                text,
+                cells,
+                points,
+                ran,
+            }),
+            _ => Err(Stop::Memory),
+        },
         Err(stop) => Err(stop),
     }
 }
@@ -72,7 +54,7 @@ fn file_of(alloc: Global, net: &Net, node: NodeId) -> Result<Made, Stop>
     ensures { Makes net.now node.0 result }
 {
     match scratch(alloc, net, node) {
-        Ok(dataset) => file_with(alloc, net, node, dataset.get()),
+        Ok(dataset) => file_with(alloc, net, node, dataset),
         Err(stop) => Err(stop),
     }
 }
@@ -87,35 +69,28 @@ fn file_there(alloc: Global, net: &Net, node: NodeId) -> Result<Made, Stop>
     }
 }
 
-/// The line of a command whose node has a fault.
-pub fn stopped(net: &Net, at: u32, stop: Stop) -> Line
-    ensures { IsStop net.now at stop result }
+/// Why a node of this network gives nothing.
+pub fn missing_of(net: &Net, stop: Stop) -> Missing
+    ensures { IsStop net.now stop result }
 {
     let Stop::Fault(fault) = stop else {
-        return Line::Memory;
+        return Missing::Memory;
     };
     match net.name(fault.node) {
-        Some(node) => Line::Refused {
-            reason: Reason::Fault { fault, node },
-            at,
-        },
-        None => Line::Memory,
+        Some(name) => Missing::Fault { fault, name },
+        None => Missing::Memory,
     }
 }
 
-/// The file of the node of this name in a network that so many entries made, or the line that says
-/// why there is none.
-pub fn made_of(alloc: Global, net: &Net, at: u32, node: &Word) -> Result<Made, Line>
-    ensures { MakesNamed net.now at node.now result }
+/// The file of the node of this name, or why there is none.
+pub fn made_of(alloc: Global, net: &Net, node: &Word) -> Result<Made, Missing>
+    ensures { MakesNamed net.now node.now result }
 {
     let Some(id) = net.find(node) else {
-        return Err(Line::Refused {
-            reason: Reason::Unknown,
-            at,
-        });
+        return Err(Missing::Unknown);
     };
     match file_there(alloc, net, id) {
         Ok(made) => Ok(made),
-        Err(stop) => Err(stopped(net, at, stop)),
+        Err(stop) => Err(missing_of(net, stop)),
     }
 }

@@ -1,24 +1,19 @@
-//! Scripts of one actor over files in memory: reports and files, counted by hand.
+//! Updates and audits of networks, their answers and their lines, counted by hand.
 
-ghost use Rattle.std.specs.Prelude.{◌<◌};
-
-use crate::{Actor, Line, serve_all};
+use crate::{Answer, AuditAnswer, audit, file_name, update};
 use std::alloc::Global;
+use std::marker::Model;
 use std::process::Abort;
 use std::test::Fail;
-use viz_base::{Bytes, FILE_LIMIT, FailAt, FileEntry, MemoryPort, Word};
-use viz_core::Core;
-use viz_report::report_text;
-use viz_script::parse;
+use viz_audit::Counts;
+use viz_base::{Bytes, FILE_LIMIT, FailAt, MemoryPort, Shared, Word};
+use viz_network::{ApplyStop, Cause, Edit, Fault, Kind, Net, Param, Value};
+use viz_report::{Line, Reason};
 
 // Eight points, of which the last one has the value 9.
 const CORNER: &str = "# vtk DataFile Version 5.1\nvtk output\nASCII\nDATASET STRUCTURED_POINTS\n\
     DIMENSIONS 2 2 2\nSPACING 1 1 1\nORIGIN 0 0 0\nPOINT_DATA 8\nSCALARS ImageScalars int\n\
     LOOKUP_TABLE default\n0 0 0 0 0 0 0 9 \nMETADATA\nINFORMATION 0\n\n";
-
-// A mesh whose points are no whole numbers.
-const FLOATS: &str =
-    "# vtk DataFile Version 3.0\nt\nASCII\nDATASET POLYDATA\nPOINTS 1 float\n0 0 0\n";
 
 // The contour of the corner at 5.
 const SURFACE: &str = "# vtk DataFile Version 3.0\nvizrun fixed 10^-3\nASCII\nDATASET POLYDATA\n\
@@ -26,179 +21,203 @@ const SURFACE: &str = "# vtk DataFile Version 3.0\nvizrun fixed 10^-3\nASCII\nDA
     1000 555 1000\n555 1000 1000\nPOLYGONS 6 24\n3 1 0 3\n3 5 0 1\n3 3 0 2\n3 2 0 6\n3 4 0 5\n\
     3 6 0 4\nPOINT_DATA 7\nSCALARS scalars long 1\nLOOKUP_TABLE default\n5\n5\n5\n5\n5\n5\n5\n";
 
-// A surface without cells.
-const EMPTY: &str = "# vtk DataFile Version 3.0\nvizrun fixed 10^-3\nASCII\nDATASET POLYDATA\n\
-    POINTS 0 long\nPOLYGONS 0 0\n";
+// A network and the position of its last edit.
+#[derive(Drop)]
+struct Story {
+    net: Net,
+    at: u32,
+}
 
-// The first 40 bytes of it.
-const BEGUN: &str = "# vtk DataFile Version 3.0\nvizrun fixed ";
+impl Model for Story {
+    ghost use Rattle.viz_network.specs.Network.{Network};
+    ghost use Rattle.viz_network.specs.EqualStamps.{IsSound};
 
-// The two points with the values 0 and 9 of a corner's side, and two more.
-const CROPPED: &str = "# vtk DataFile Version 3.0\nvizrun image\nASCII\nDATASET STRUCTURED_POINTS\n\
-    DIMENSIONS 1 2 2\nORIGIN 1 0 0\nSPACING 1 1 1\nPOINT_DATA 4\nSCALARS scalars int 1\n\
-    LOOKUP_TABLE default\n0\n0\n0\n9\n";
+    ghost Value = { Network };
 
-const SIX: &str = "1 add file src\n1 load src a.vtk\n1 add contour iso\n1 connect src iso 1\n\
-    1 set iso levels 5\n1 update iso one.vtk 1 1\n";
+    ghost view = { λ story. story.net };
 
-const SIX_TOLD: &str = "edit 1 1 at 1\nedit 1 2 at 2\nedit 1 3 at 3\nedit 1 4 at 4\nedit 1 5 at 5\n\
-    file 1 6 at 5 cells 6 points 7 ran 2\n";
+    ghost invariant = { λ story. IsSound story.at story.net };
+}
 
-// A port with both files, up to so many bytes each; at most one call fails.
-fn port(alloc: Global, limit: u64, failing: Option<FailAt>) -> Result<MemoryPort, Fail> {
-    let mut files = Vec::new(alloc);
-    for (name, text) in [("a.vtk", CORNER), ("p.vtk", FLOATS)] {
-        files.push(FileEntry {
-            name: Word::new(name.as_bytes()).ok_or("no name")?,
-            bytes: Bytes::new(text.as_bytes().to_vec(alloc)?),
-        })?;
+impl Story {
+    fn new(alloc: Global) -> Story {
+        Story {
+            net: Net::new(alloc),
+            at: 0,
+        }
     }
-    let mut calls = Vec::new(alloc);
-    if let Some(call) = failing {
-        calls.push(call)?;
+
+    fn apply(&mut self, edit: &Edit) -> Result<(), ApplyStop> {
+        if self.at == u32::MAX {
+            return Err(ApplyStop::Memory);
+        }
+        let at = self.at + 1;
+        let answer = self.net.apply(at, edit);
+        self.at = at;
+        answer
     }
-    Ok(MemoryPort::new(alloc, files, limit, calls))
 }
 
-// The lines of a script over a history of at most so many entries.
-fn serve(
-    alloc: Global,
-    entries: u32,
-    script: &str,
-    port: &mut MemoryPort,
-) -> Result<Vec<Line>, Fail>
-    requires { entries < 4294967295 }
-{
-    let Ok(script) = parse(alloc, script.as_bytes(), 1) else {
-        return Err("no script".into());
-    };
-    let mut core = Core::new(alloc, entries, 1)?;
-    let mut actor = Actor { pass: 1, count: 0 };
-    Ok(serve_all(alloc, &mut core, &mut actor, port, &script.steps)?)
+fn word(text: &str) -> Result<Word, Fail> {
+    Ok(Word::new(text.as_bytes()).ok_or("no name")?)
 }
 
-// The script has this report.
-fn reports(
-    rt: &impl Abort,
-    alloc: Global,
-    port: &mut MemoryPort,
-    script: &str,
-    want: &str,
-) -> Result<(), Fail> {
-    let lines = serve(alloc, 65536, script, port)?;
-    let told = report_text(alloc, 1, &lines)?;
-    assert!(rt; told.list() == want.as_bytes(), "{script}: {told:?}");
-    Ok(())
+fn make(story: &mut Story, edit: Edit) -> Result<(), Fail> {
+    match story.apply(&edit) {
+        Ok(()) => Ok(()),
+        Err(_) => Err("refused".into()),
+    }
 }
 
-// The same behind the first six commands.
-fn goes_on(
-    rt: &impl Abort,
-    alloc: Global,
-    port: &mut MemoryPort,
-    script: &str,
-    want: &str,
-) -> Result<(), Fail> {
-    let script = format!(in alloc; "{SIX}{script}")?;
-    let want = format!(in alloc; "{SIX_TOLD}{want}")?;
-    reports(rt, alloc, port, &script, &want)
-}
-
-fn holds(rt: &impl Abort, port: &MemoryPort, name: &str, want: &str) {
-    let is = match port.file(name) {
-        Some(bytes) => bytes.list() == want.as_bytes(),
-        None => false,
-    };
-    assert!(rt; is, "{name}");
-}
-
-#[test]
-fn level_changed(rt: HostRuntime) -> Result<(), Fail> {
-    let alloc = rt.alloc();
-    let mut port = port(alloc, FILE_LIMIT, None)?;
-    let script = "1 set iso levels 10\n1 update iso two.vtk 1 1\n";
-    let want = "edit 1 7 at 6\nfile 1 8 at 6 cells 0 points 0 ran 2\n";
-    goes_on(&rt, alloc, &mut port, script, want)?;
-    holds(&rt, &port, "one.vtk", SURFACE);
-    holds(&rt, &port, "two.vtk", EMPTY);
-    Ok(())
-}
-
-#[test]
-fn node_replaced(rt: HostRuntime) -> Result<(), Fail> {
-    let alloc = rt.alloc();
-    let mut port = port(alloc, FILE_LIMIT, None)?;
-    let script = "1 remove iso\n1 add contour iso\n1 connect src iso 1\n\
-        1 update iso two.vtk 1 1\n1 add writer w\n1 connect iso w 1\n1 update w w.vtk 1 1\n";
-    let want = "edit 1 7 at 6\nedit 1 8 at 7\nedit 1 9 at 8\n\
-        file 1 10 at 8 cells 0 points 0 ran 2\nedit 1 11 at 9\nedit 1 12 at 10\n\
-        file 1 13 at 10 cells 0 points 0 ran 2\n";
-    goes_on(&rt, alloc, &mut port, script, want)?;
-    holds(&rt, &port, "two.vtk", EMPTY);
-    Ok(())
-}
-
-#[test]
-fn threshold_then_crop(rt: HostRuntime) -> Result<(), Fail> {
-    let alloc = rt.alloc();
-    let mut port = port(alloc, FILE_LIMIT, None)?;
-    let script = "1 add file src\n1 load src a.vtk\n1 add threshold t\n1 connect src t 1\n\
-        1 set t range 1 9\n1 update t x.vtk 1 1\n1 add crop c\n1 connect t c 1\n\
-        1 set c box 1 1 0 1 0 1\n1 update c z.vtk 1 1\n";
-    let want = "edit 1 1 at 1\nedit 1 2 at 2\nedit 1 3 at 3\nedit 1 4 at 4\nedit 1 5 at 5\n\
-        file 1 6 at 5 cells 1 points 8 ran 2\nedit 1 7 at 6\nedit 1 8 at 7\nedit 1 9 at 8\n\
-        file 1 10 at 8 cells 0 points 4 ran 3\n";
-    reports(&rt, alloc, &mut port, script, want)?;
-    holds(&rt, &port, "z.vtk", CROPPED);
-    Ok(())
-}
-
-#[test]
-fn refused_edits_and_updates(rt: HostRuntime) -> Result<(), Fail> {
-    let alloc = rt.alloc();
-    let mut port = port(alloc, FILE_LIMIT, None)?;
-    // cycle-refused; a missing file and an unknown node is a failed read
-    let cycle = "1 add crop a\n1 add crop b\n1 connect a b 1\n1 connect b a 1\n\
-        1 update b o.vtk 1 1\n1 update z o.vtk 1 1\n1 load z none.vtk\n";
-    let want = "edit 1 1 at 1\nedit 1 2 at 2\nedit 1 3 at 3\nrefused 1 4 WouldCycle at 3\n\
-        refused 1 5 fault:a:Unconnected(1) at 3\nrefused 1 6 Unknown at 3\nfault 1 7 read\n";
-    reports(&rt, alloc, &mut port, cycle, want)?;
-    // float-points-refused
-    let floats = "1 add file src\n1 load src p.vtk\n1 update src o.vtk 1 1\n";
-    let want = "edit 1 1 at 1\nedit 1 2 at 2\n\
-        refused 1 3 fault:src:BadFile(FloatArray,61) at 2\n";
-    reports(&rt, alloc, &mut port, floats, want)?;
-    assert!(rt; port.file("o.vtk").is_none());
-    Ok(())
-}
-
-#[test]
-fn history_full(rt: HostRuntime) -> Result<(), Fail> {
-    let alloc = rt.alloc();
-    let mut port = port(alloc, 100, None)?;
-    let script = "1 add file a\n1 load a a.vtk\n1 add file b\n1 add file c\n1 add file c\n\
-        1 update a o.vtk 1 1\n";
-    let lines = serve(alloc, 3, script, &mut port)?;
-    let told = report_text(alloc, 1, &lines)?;
-    let want = "edit 1 1 at 1\nrefused 1 2 TooLong at 1\nedit 1 3 at 2\nedit 1 4 at 3\n\
-        refused 1 5 Full at 3\nrefused 1 6 fault:a:NoFile at 3\n";
-    assert!(rt; told.list() == want.as_bytes(), "{told:?}");
-    Ok(())
-}
-
-#[test]
-fn write_fails_midway(rt: HostRuntime) -> Result<(), Fail> {
-    let alloc = rt.alloc();
-    let mut port = port(alloc, FILE_LIMIT, Some(FailAt { call: 3, kept: 40 }))?;
-    let script = "1 set iso levels 10\n1 update iso two.vtk 1 1\n";
-    goes_on(
-        &rt,
-        alloc,
-        &mut port,
-        script,
-        "edit 1 7 at 6\nfault 1 8 write\n",
+// The corner's contour at 5, and a contour that stands on nothing.
+fn corner_story(alloc: Global) -> Result<Story, Fail> {
+    let src = word("src")?;
+    let iso = word("iso")?;
+    let mut story = Story::new(alloc);
+    make(
+        &mut story,
+        Edit::Add {
+            kind: Kind::File,
+            node: src,
+        },
     )?;
-    holds(&rt, &port, "one.vtk", SURFACE);
-    holds(&rt, &port, "two.vtk", BEGUN);
+    let file = Shared::new(alloc, Bytes::new(CORNER.as_bytes().to_vec(alloc)?))?;
+    make(&mut story, Edit::Load { node: src, file })?;
+    make(
+        &mut story,
+        Edit::Add {
+            kind: Kind::Contour,
+            node: iso,
+        },
+    )?;
+    make(
+        &mut story,
+        Edit::Connect {
+            from: src,
+            to: iso,
+            port: 1,
+        },
+    )?;
+    let value = Value::Numbers {
+        count: 1,
+        items: [5, 0, 0, 0, 0, 0, 0, 0],
+    };
+    make(
+        &mut story,
+        Edit::Set {
+            node: iso,
+            param: Param::Levels,
+            value,
+        },
+    )?;
+    make(
+        &mut story,
+        Edit::Add {
+            kind: Kind::Contour,
+            node: word("bare")?,
+        },
+    )?;
+    Ok(story)
+}
+
+// The fault of a node, where ports are counted from 1.
+fn fault_of(net: &Net, node: Word, cause: Cause) -> Result<Fault, Fail> {
+    let node = net.find(&node).ok_or("no node")?;
+    Ok(Fault { node, cause })
+}
+
+#[test]
+fn updates_are_answered(rt: HostRuntime) -> Result<(), Fail> {
+    let alloc = rt.alloc();
+    let story = corner_story(alloc)?;
+    let fault = fault_of(&story.net, word("bare")?, Cause::Unconnected(1))?;
+    let name = word("bare")?;
+    let written = Answer::Written {
+        at: 6,
+        cells: 6,
+        points: 7,
+        ran: 2,
+    };
+    for (node, failing, want, file) in [
+        ("iso", None, written, Some(SURFACE)),
+        ("none", None, Answer::Unknown { at: 6 }, None),
+        ("bare", None, Answer::Network { fault, name, at: 6 }, None),
+        (
+            "iso",
+            Some(FailAt { call: 1, kept: 0 }),
+            Answer::WriteFault { at: 6 },
+            Some(""),
+        ),
+    ] {
+        let mut failures = Vec::new(alloc);
+        if let Some(call) = failing {
+            failures.push(call)?;
+        }
+        let mut port = MemoryPort::new(alloc, Vec::new(alloc), FILE_LIMIT, failures);
+        let answer = update(alloc, &story.net, 6, &mut port, &word(node)?, "o.vtk");
+        assert_eq!(rt; answer, want, "{node}");
+        let is = match (port.file("o.vtk"), file) {
+            (Some(bytes), Some(text)) => bytes.list() == text.as_bytes(),
+            (None, None) => true,
+            _ => false,
+        };
+        assert!(rt; is, "{node}");
+    }
+    Ok(())
+}
+
+#[test]
+fn audits_are_answered(rt: HostRuntime) -> Result<(), Fail> {
+    // corner-contour, audit-line
+    let alloc = rt.alloc();
+    let story = corner_story(alloc)?;
+    let name = word("src")?;
+    let fault = fault_of(&story.net, name, Cause::WrongInput(1))?;
+    let audited = Counts {
+        sides: 12,
+        two: 6,
+        lone: 6,
+        border: 6,
+    };
+    for (node, want) in [
+        (
+            "iso",
+            AuditAnswer::Counted {
+                at: 6,
+                audit: audited,
+            },
+        ),
+        ("none", AuditAnswer::Unknown { at: 6 }),
+        ("src", AuditAnswer::Network { fault, name, at: 6 }),
+    ] {
+        assert_eq!(rt; audit(alloc, &story.net, 6, &word(node)?), want, "{node}");
+    }
+    Ok(())
+}
+
+#[test]
+fn answers_have_their_lines(rt: HostRuntime) -> Result<(), Fail> {
+    let file = Answer::Written {
+        at: 3,
+        cells: 1,
+        points: 8,
+        ran: 2,
+    };
+    let line = Line::File {
+        at: 3,
+        cells: 1,
+        points: 8,
+        ran: 2,
+    };
+    assert!(rt; file.line() == line);
+    let unknown = Line::Refused {
+        reason: Reason::Unknown,
+        at: 4,
+    };
+    assert!(rt; Answer::Unknown { at: 4 }.line() == unknown);
+    assert!(rt; AuditAnswer::Unknown { at: 4 }.line() == unknown);
+    assert!(rt; Answer::WriteFault { at: 4 }.line() == Line::WriteFault);
+    assert!(rt; AuditAnswer::Memory.line() == Line::Memory);
+    assert!(rt; file_name(&word("o.vtk")?) == Some("o.vtk"));
     Ok(())
 }

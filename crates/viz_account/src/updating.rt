@@ -1,13 +1,14 @@
 //! An update: a node's file is written.
 
 ghost use Rattle.std.specs.Prelude.{◌≡◌, IfSome};
+ghost use Rattle.viz_account.specs.Answers.{line_of, at_of};
 ghost use Rattle.viz_account.specs.Served.{Updates};
 
+use crate::answer::Answer;
 use crate::made::made_of;
 use std::alloc::Global;
 use viz_base::{Port, Word, WriteRefusal};
 use viz_network::Net;
-use viz_report::Line;
 
 /// The name of a file as a port takes it; None where it is no text.
 pub fn file_name(file: &Word) -> Option<&str>
@@ -24,25 +25,24 @@ pub fn update<P: Port>(
     at: u32,
     port: &mut P,
     node: &Word,
-    file: &Word,
-) -> Line
-    ensures updates { Updates P.Port net.now at node.now file.now result port.old port.new }
+    file: &str,
+) -> Answer
+    ensures updates { Updates P.Port net.now at node.now file.now (line_of result)
+        port.old port.new }
+    ensures at { IfSome (at_of result) (λ n. n ≡ at) }
 {
-    let made = match made_of(alloc, net, at, node) {
+    let made = match made_of(alloc, net, node) {
         Ok(made) => made,
-        Err(line) => return line,
+        Err(missing) => return Answer::without(missing, at),
     };
-    let Some(name) = file_name(file) else {
-        return Line::Memory;
-    };
-    match port.write(alloc, name, made.text.list()) {
-        Ok(()) => Line::File {
+    match port.write(alloc, file, made.text.list()) {
+        Ok(()) => Answer::Written {
             at,
             cells: made.cells,
             points: made.points,
-            ran: made.ran,
+            ran: u64::from(made.ran),
         },
-        Err(WriteRefusal::Failed) => Line::WriteFault,
-        Err(WriteRefusal::Memory) => Line::Memory,
+        Err(WriteRefusal::Failed) => Answer::WriteFault { at },
+        Err(WriteRefusal::Memory) => Answer::Memory,
     }
 }

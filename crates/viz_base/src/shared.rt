@@ -1,6 +1,6 @@
 //! A value that several own.
 
-ghost use Rattle.std.specs.Prelude.{◌≡◌, IfOk};
+ghost use Rattle.std.specs.Prelude.{◌≡◌, IfOk, IfErr};
 
 use std::alloc::{AllocError, Global};
 use std::marker::Model;
@@ -44,6 +44,18 @@ impl<T> Shared<T> {
     {
         let held = Arc::try_clone(&self.held)?;
         Ok(Shared { held })
+    }
+
+    /// The value itself, where this is its one owner, and else the owner as it was.
+    pub fn try_unwrap(self) -> Result<T, Shared<T>>
+        ensures ok { IfOk result (λ value. value ≡ self) }
+        ensures err { IfErr result (λ shared. shared ≡ self) }
+    {
+        let Shared { held } = self;
+        match Arc::try_unwrap(held) {
+            Ok(value) => Ok(value),
+            Err(held) => Err(Shared { held }),
+        }
     }
 }
 

@@ -212,6 +212,15 @@ fn owners_share_a_list(rt: HostRuntime) -> Result<(), Fail> {
     drop(shared);
     assert_eq!(rt; copy.get().list(), [3, 1, 2].as_slice());
     assert_eq!(rt; clone.get().list(), [3, 1, 2].as_slice());
+    let copy = match copy.try_unwrap() {
+        Ok(_) => Err("the one owner of two")?,
+        Err(copy) => copy,
+    };
+    drop(clone);
+    match copy.try_unwrap() {
+        Ok(items) => assert_eq!(rt; items.list(), [3, 1, 2].as_slice()),
+        Err(_) => Err("an owner beside the last")?,
+    }
     let taken = Items::new([7u8].to_vec(alloc)?).take();
     assert_eq!(rt; taken.as_slice(), [7].as_slice());
     let mut steps = Steps::new(taken);

@@ -1,13 +1,12 @@
 -- A cell has one facet with some ranks where these are all but one of its own, and else none.
-use Rattle.std.proofs.Common.{◌≡◌, ℕ, ◌+◌, ◌^◌, ◌<◌, ◌≤◌, Bool, true, false, cond, ◌&&◌, not, List, [], ◌∷◌, ◌++◌, length, get_or, map, refl, sym, ap, ap₂, ◌∙◌, nat_eq, arith, eqb-true, eq-eqb}
-use Rattle.std.specs.List.{All, count_by, filter, flat_map}
-use Rattle.std.proofs.lemmas.List.{length-map}
+use Rattle.std.proofs.Common.{◌≡◌, ℕ, ◌+◌, ◌^◌, ◌<◌, ◌≤◌, Bool, true, false, cond, ◌&&◌, not, List, [], ◌∷◌, length, get_or, map, refl, sym, ap, ap₂, ◌∙◌, nat_eq, arith, eqb-true, eq-eqb}
+use Rattle.std.specs.List.{All, count_by, flat_map}
 use Rattle.std.proofs.lemmas.List.Elements.{All-head, All-tail}
 use Rattle.std.proofs.lemmas.List.Sums.{sum_by-append}
 use Rattle.viz_sheet.specs.Sheet.{AreApart}
 use Rattle.viz_sheet.specs.Ranked.{IsCell}
 use Rattle.viz_sheet.proofs.KeptLemmas.{count_by-cons}
-use Rattle.viz_mesh_meaning.specs.Facets.{facet, facets_of, has_each, lone_facets, occurrences}
+use Rattle.viz_mesh_meaning.specs.Facets.{facet, facets_of, has_each, occurrences}
 use Rattle.viz_mesh_meaning.proofs.FacetLemmas.{facets-all, facets-apart, facets-size}
 use Rattle.viz_boundary.specs.Steps.Keys.{set_key}
 use Rattle.viz_boundary.proofs.OrderLemmas.{IsSet, key-tells_set}

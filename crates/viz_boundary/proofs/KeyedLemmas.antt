@@ -1,5 +1,5 @@
 -- Keys of facets in turn, and the facets that the marks keep.
-use Rattle.std.proofs.Common.{◌≡◌, ℕ, zero, suc, ◌+◌, ◌*◌, ◌^◌, ◌<◌, ◌≤◌, Bool, true, false, cond, List, [], ◌∷◌, ◌++◌, length, get_or, map, refl, sym, ap, ap₂, subst, ◌∙◌, nat_eq, arith}
+use Rattle.std.proofs.Common.{◌≡◌, ℕ, zero, suc, ◌+◌, ◌*◌, ◌^◌, ◌<◌, ◌≤◌, Bool, false, cond, List, [], ◌∷◌, ◌++◌, length, get_or, map, refl, sym, ap, ap₂, ◌∙◌, nat_eq, arith}
 use Rattle.std.specs.List.{All, count_by, filter, flat_map}
 use Rattle.std.proofs.lemmas.List.{get_or-map, get_or_default, length-map, same_lists}
 use Rattle.std.proofs.lemmas.List.Elements.{All-head, All-tail, filter-append}
@@ -8,7 +8,7 @@ use Rattle.viz_sheet.specs.Ranked.{IsCell}
 use Rattle.viz_mesh_meaning.specs.Facets.{facets_of, lone_facets, occurrences}
 use Rattle.viz_mesh_meaning.proofs.FacetLemmas.{facets-size}
 use Rattle.viz_boundary.specs.Steps.Keys.{keyed, keyed_from, set_key}
-use Rattle.viz_boundary.specs.Steps.Alone.{AreIndexed, TellAlone, index_of, is_alone, set_of, times}
+use Rattle.viz_boundary.specs.Steps.Alone.{AreIndexed, TellAlone, index_of, is_alone, set_of}
 use Rattle.viz_boundary.proofs.CountLemmas.{cells-count, count-alike, facet-sets}
 
 pub keyed-append : (at : ℕ) (xs ys : List (List ℕ)) → keyed_from at (xs ++ ys) ≡ keyed_from at xs ++ keyed_from (at + length xs) ys

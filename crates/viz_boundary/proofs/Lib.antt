@@ -5,4 +5,5 @@ pub mod LoneLemmas
 pub mod KeyedLemmas
 pub mod NamedLemmas
 pub mod LoopLemmas
+pub mod SlotLemmas
 pub mod MadeLemmas

@@ -1,14 +1,12 @@
 -- The marked facets of the first so many cells, and of one more.
-use Rattle.std.proofs.Common.{◌≡◌, ℕ, zero, suc, ◌+◌, ◌*◌, ◌<◌, ◌≤◌, Bool, true, false, cond, List, [], ◌∷◌, ◌++◌, length, get_or, take, drop, refl, sym, ap, ap₂, subst, ◌∙◌, append_assoc, append-nil, arith}
+use Rattle.std.proofs.Common.{◌≡◌, ℕ, zero, suc, ◌+◌, ◌<◌, ◌≤◌, Bool, true, false, cond, List, [], ◌∷◌, ◌++◌, length, get_or, take, drop, refl, sym, ap, ap₂, ◌∙◌, append_assoc, append-nil, arith}
 use Rattle.std.specs.List.{All, flat_map}
-use Rattle.std.proofs.lemmas.List.{length-append, get_or_default}
+use Rattle.std.proofs.lemmas.List.{length-append}
 use Rattle.std.proofs.lemmas.List.Elements.{All-head, All-tail}
 use Rattle.viz_sheet.specs.Kept.{kept}
 use Rattle.viz_mesh_meaning.specs.Facets.{facets_of}
-use Rattle.viz_boundary.specs.Steps.Keys.{keyed_from}
-use Rattle.viz_boundary.proofs.KeyedLemmas.{keyed-append, length-keyed}
 
-flat-more : {X Y : Type 0} (f : X → List Y) (xs : List X) (i : ℕ) (d : X) → i < length xs → flat_map f (take (i + 1) xs) ≡ flat_map f (take i xs) ++ f (get_or xs i d)
+pub flat-more : {X Y : Type 0} (f : X → List Y) (xs : List X) (i : ℕ) (d : X) → i < length xs → flat_map f (take (i + 1) xs) ≡ flat_map f (take i xs) ++ f (get_or xs i d)
 flat-more f [] i d l = absurd (omega arith)
 flat-more f (x ∷ xs) zero d l = append-nil (f x)
 flat-more f (x ∷ xs) (suc i) d l =
@@ -105,28 +103,10 @@ four-count (a ∷ b ∷ c ∷ []) e = absurd (omega (arith, e))
 four-count (a ∷ b ∷ c ∷ d ∷ []) e = refl
 four-count (a ∷ b ∷ c ∷ d ∷ f ∷ rest) e = absurd (omega (arith, e))
 
-facets-most : (c : List ℕ) → length c ≤ 4 → length (facets_of c) ≤ 4
+pub facets-most : (c : List ℕ) → length c ≤ 4 → length (facets_of c) ≤ 4
 facets-most [] l = omega arith
 facets-most (a ∷ []) l = omega arith
 facets-most (a ∷ b ∷ []) l = omega arith
 facets-most (a ∷ b ∷ c ∷ []) l = omega arith
 facets-most (a ∷ b ∷ c ∷ d ∷ []) l = omega arith
 facets-most (a ∷ b ∷ c ∷ d ∷ e ∷ rest) l = absurd (omega arith)
-
--- the keys of the facets of the first so many cells
-pub record AreKeysUpTo (cells : List (List ℕ)) (i : ℕ) (keys : List ℕ) : Type 0 where
-  pub made : keys ≡ keyed_from 0 (flat_map facets_of (take i cells))
-  pub few : length keys ≤ 4 * i
-
-pub keys-more : (cells : List (List ℕ)) (i : ℕ) (cell : List ℕ) (old new : List ℕ) → i < length cells → cell ≡ get_or cells i [] → length cell ≤ 4
-    → old ≡ keyed_from 0 (flat_map facets_of (take i cells)) → length old ≤ 4 * i → new ≡ old ++ keyed_from (length old) (facets_of cell) → AreKeysUpTo cells (i + 1) new
-keys-more cells i cell old new l is most made few more =
-    let all = flat_map facets_of (take i cells) in
-    let flat : flat_map facets_of (take (i + 1) cells) ≡ all ++ facets_of cell = flat-more facets_of cells i [] l ∙ ap (λ c. all ++ facets_of c) (sym is) in
-    let count : length old ≡ length all = ap length made ∙ length-keyed 0 all in
-    record {
-      made =
-          more ∙ ap₂ (λ a b. a ++ b) made (ap (λ n. keyed_from n (facets_of cell)) {x = length old} {y = 0 + length all} (omega (arith, count)))
-          ∙ sym (keyed-append 0 all (facets_of cell)) ∙ ap (keyed_from 0) (sym flat);
-      few = omega (arith, ap length more, length-append old (keyed_from (length old) (facets_of cell)), length-keyed (length old) (facets_of cell), facets-most cell most, few);
-    }

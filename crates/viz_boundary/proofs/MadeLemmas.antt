@@ -1,19 +1,19 @@
 -- What is made of the marked facets is the boundary.
-use Rattle.std.proofs.Common.{◌≡◌, ℕ, ◌+◌, ◌^◌, ◌<◌, ◌≤◌, Bool, List, length, map, nat_eq, refl, sym, ap, subst, ◌∙◌, arith}
-use Rattle.std.specs.List.{All, filter, flat_map}
+use Rattle.std.proofs.Common.{◌≡◌, ℕ, ◌^◌, ◌<◌, ◌≤◌, Bool, List, length, nat_eq, sym, ap, subst, ◌∙◌, arith}
+use Rattle.std.specs.List.{All, flat_map}
 use Rattle.std.proofs.lemmas.List.Elements.{All-filter}
 use Rattle.viz_fraction.specs.Points.{Point}
 use Rattle.viz_sheet.specs.Sheet.{SheetData, IsSheet, KeepPoints}
 use Rattle.viz_sheet.specs.Kept.{kept}
-use Rattle.viz_sheet.specs.Ranked.{AreCells, AreRanks, IsCell, by_names, names_at}
+use Rattle.viz_sheet.specs.Ranked.{AreCells, AreRanks, IsCell, by_names}
 use Rattle.viz_meaning.proofs.SectionLemmas.{all-cells}
 use Rattle.viz_mesh_meaning.specs.Cells.{with_cells}
 use Rattle.viz_mesh_meaning.specs.Facets.{boundary_of, facets_of, is_same_name, lone_facets}
 use Rattle.viz_mesh_meaning.proofs.CellLemmas.{made-is}
 use Rattle.viz_mesh_meaning.proofs.FacetLemmas.{facets-all, facets-apart, facets-size}
-use Rattle.viz_boundary.specs.Steps.Alone.{AreIndexed, TellAlone}
+use Rattle.viz_boundary.specs.Steps.Alone.{TellAlone}
 use Rattle.viz_boundary.specs.Steps.Keys.{keyed_from}
-use Rattle.viz_boundary.proofs.KeyedLemmas.{kept-lone, keyed-indexed, length-keyed}
+use Rattle.viz_boundary.proofs.KeyedLemmas.{kept-lone, length-keyed}
 use Rattle.viz_boundary.proofs.NamedLemmas.{boundary-named}
 
 lone-cells : (n : ℕ) (cells : List (List ℕ)) (cell : List ℕ) → IsCell n cell → All (IsCell n) (lone_facets nat_eq cells cell)
@@ -28,13 +28,13 @@ lone-cells n cells cell h =
     })
 
 -- the marks keep the lone facets
-pub facets-are : (s : SheetData) (cells left : List (List ℕ)) (keys : List ℕ) (marks : List Bool) → AreRanks s.names s.points cells → length keys ≤ 2 ^ 32
-    → keys ≡ keyed_from 0 (flat_map facets_of cells) → TellAlone keys marks → left ≡ kept marks (flat_map facets_of cells)
+pub facets-are : (s : SheetData) (cells left : List (List ℕ)) (marks : List Bool) → AreRanks s.names s.points cells → length marks ≤ 2 ^ 32
+    → TellAlone (keyed_from 0 (flat_map facets_of cells)) marks → left ≡ kept marks (flat_map facets_of cells)
     → left ≡ flat_map (lone_facets nat_eq cells) cells
-facets-are s cells left keys marks ranks few ek tell is =
+facets-are s cells left marks ranks few tell is =
     let all = flat_map facets_of cells in
-    let size : length all ≤ 2 ^ 32 = omega (arith, length-keyed 0 all, few, ap length ek) in
-    is ∙ kept-lone (length s.names) cells marks ranks.rule.few ranks.rule.each size (subst (λ (ks : List ℕ). TellAlone ks marks) ek tell)
+    let size : length all ≤ 2 ^ 32 = omega (arith, length-keyed 0 all, few, tell.size) in
+    is ∙ kept-lone (length s.names) cells marks ranks.rule.few ranks.rule.each size tell
 
 pub cells-for : (s : SheetData) (names : List (List ℕ)) (points : List Point) (cells left : List (List ℕ)) → AreRanks s.names s.points cells → names ≡ s.names → points ≡ s.points
     → left ≡ flat_map (lone_facets nat_eq cells) cells → AreCells names points left
@@ -60,11 +60,6 @@ boundary-made s t names points cells left h k ranks named en ep is keep made =
     ∙ ap (with_cells s) (made ∙ ap (λ ns. by_names ns left) en ∙ ap (by_names s.names) is ∙ boundary-named s.names cells ranks.rule.ascending ranks.rule.each
     ∙ ap (λ cs. flat_map (lone_facets is_same_name cs) cs) named)
 
--- the keys of all facets are indexed, and there are as many marks as facets
-pub keys-indexed : (cells : List (List ℕ)) (keys : List ℕ) → keys ≡ keyed_from 0 (flat_map facets_of cells) → length keys ≤ 2 ^ 32 → AreIndexed keys
-keys-indexed cells keys e few =
-    let all = flat_map facets_of cells in
-    subst AreIndexed (sym e) (keyed-indexed all (omega (arith, length-keyed 0 all, few, ap length e)))
-
-pub marks-matched : (cells : List (List ℕ)) (keys : List ℕ) (marks lent : List Bool) → keys ≡ keyed_from 0 (flat_map facets_of cells) → TellAlone keys marks → lent ≡ marks → length lent ≡ length (flat_map facets_of cells)
-marks-matched cells keys marks lent e tell same = ap length same ∙ tell.size ∙ ap length e ∙ length-keyed 0 (flat_map facets_of cells)
+-- there are as many marks as facets
+pub marks-matched : (cells : List (List ℕ)) (marks lent : List Bool) → TellAlone (keyed_from 0 (flat_map facets_of cells)) marks → lent ≡ marks → length lent ≡ length (flat_map facets_of cells)
+marks-matched cells marks lent tell same = ap length same ∙ tell.size ∙ length-keyed 0 (flat_map facets_of cells)

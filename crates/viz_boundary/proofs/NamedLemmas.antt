@@ -1,7 +1,6 @@
 -- Lone facets by ranks are those by names.
 use Rattle.std.proofs.Common.{◌≡◌, ℕ, ◌<◌, Bool, true, false, cond, ◌&&◌, ◌||◌, List, [], ◌∷◌, ◌++◌, length, get_or, map, is_eq, refl, sym, ap, ap₂, ◌∙◌, nat_eq, arith}
-use Rattle.std.specs.List.{All, count_by, filter, flat_map, list_all, list_any}
-use Rattle.std.specs.Cmp.Lexicographic.{slice_cmp}
+use Rattle.std.specs.List.{All, filter, flat_map, list_any}
 use Rattle.std.specs.Ordering.{nat_cmp}
 use Rattle.std.proofs.lemmas.Cmp.{nat_list_cmp_total}
 use Rattle.std.proofs.lemmas.List.{length-map, map-append}

@@ -1,12 +1,12 @@
 -- Tests whether numbers are among others, and how many are.
-use Rattle.std.proofs.Common.{◌≡◌, ◌≢◌, ℕ, zero, suc, ◌+◌, ◌<◌, ◌≤◌, Bool, true, false, cond, ◌&&◌, ◌||◌, not, List, [], ◌∷◌, length, get_or, map, refl, sym, ap, ap₂, subst, ◌∙◌, true≢false, ⊎_elim, nat_eq, arith, eqb-true, eq-eqb, ◌%◌}
-use Rattle.std.specs.List.{All, Contains, count_by, list_all, list_any, remove}
+use Rattle.std.proofs.Common.{◌≡◌, ◌≢◌, ℕ, zero, suc, ◌+◌, ◌<◌, ◌≤◌, Bool, true, false, cond, ◌&&◌, ◌||◌, not, List, [], ◌∷◌, length, get_or, refl, sym, ap, ap₂, subst, ◌∙◌, true≢false, ⊎_elim, nat_eq, arith, eqb-true, eq-eqb, ◌%◌}
+use Rattle.std.specs.List.{All, Contains, count_by, list_any, remove}
 use Rattle.std.proofs.lemmas.Cmp.{nat_eq_equiv}
 use Rattle.std.proofs.lemmas.List.Elements.{All-nil, All-cons, All-head, All-tail}
 use Rattle.std.proofs.lemmas.Map.Views.{Contains-from_any, list_any-from_Contains}
 use Rattle.viz_sheet.specs.Sheet.{AreApart}
 use Rattle.viz_sheet.proofs.KeptLemmas.{count_by-cons}
-use Rattle.viz_sheet.proofs.MemberLemmas.{here, there, member_cases, no_member}
+use Rattle.viz_sheet.proofs.MemberLemmas.{member_cases, no_member}
 use Rattle.viz_mesh_meaning.specs.Facets.{exchanged, facet, has_each}
 
 -- a number is among some

@@ -1,2 +1,3 @@
 pub mod Keys
 pub mod Alone
+pub mod Slots

@@ -4,7 +4,6 @@ ghost use Rattle.std.specs.Prelude.{◌≡◌, IfOk, map};
 ghost use Rattle.viz_mesh_meaning.specs.Facets.{boundaries, boundary_of};
 
 use crate::facets::marked_facets;
-use crate::keys::facet_keys;
 use crate::lone::lone_marks;
 use std::alloc::{AllocError, Global};
 use viz_sheet::{Mesh, Sheet, compacted};
@@ -32,8 +31,7 @@ fn boundary_of(alloc: Global, sheet: &Sheet) -> Result<Sheet, AllocError>
     if ranks.len() > 1 << 30 {
         return Err(AllocError);
     }
-    let keys = facet_keys(alloc, ranks)?;
-    let marks = lone_marks(alloc, keys)?;
+    let marks = lone_marks(alloc, places.len(), ranks)?;
     let facets = marked_facets(alloc, &marks, ranks)?;
     let made = compacted(alloc, sheet.leaves(), places, &facets)?;
     sheet.known();

@@ -134,7 +134,7 @@ fn mixed_facets(
 }
 
 /// How many facets a cell has.
-fn facet_count(cell: &[u32]) -> usize
+pub(crate) fn facet_count(cell: &[u32]) -> usize
     requires { length cell.now ≤ 4 }
     ensures { result ≡ length (facets_of cell.now) }
 {

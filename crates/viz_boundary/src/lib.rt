@@ -10,6 +10,7 @@ mod facets;
 mod keys;
 mod lone;
 mod packing;
+mod slots;
 
 pub use boundaries::boundary;
 

@@ -1,19 +1,34 @@
-//! Which keys have a set that no other key has, by a sort and one pass over neighbours.
+//! Which facets have a set of ranks that no other facet has, by a sort of keys and one pass over
+//! neighbours.
 
-ghost use Rattle.std.specs.Prelude.{◌≡◌, ◌↔◌, ◌&&◌, ◌+◌, ◌-◌, ◌<◌, ◌≤◌, ◌/◌, ◌%◌, ◌^◌, false, true, IfOk, IsTrue, length, slice_index_or};
+ghost use Rattle.std.specs.Prelude.{◌≡◌, ◌↔◌, ◌&&◌, ◌+◌, ◌-◌, ◌<◌, ◌≤◌, ◌/◌, ◌%◌, ◌^◌, false, true, All, IfOk, IsTrue, length, slice_index_or};
+ghost use Rattle.std.specs.List.{flat_map};
 ghost use Rattle.std.specs.List.Sorted.{IsSorted};
 ghost use Rattle.std.specs.Ordering.{nat_cmp};
-ghost use Rattle.viz_boundary.specs.Steps.Alone.{AreIndexed, AreMarked, Begins, Ends, HaveIndices, TellAlone, index_of, is_alone, set_of};
+ghost use Rattle.viz_sheet.specs.Arrays.{ranks_in};
+ghost use Rattle.viz_mesh_meaning.specs.Facets.{facets_of};
+ghost use Rattle.viz_boundary.specs.Steps.Keys.{keyed_from};
+ghost use Rattle.viz_boundary.specs.Steps.Alone.{AreMarked, Begins, Ends, HaveIndices, TellAlone, index_of, is_alone, set_of};
 
+use crate::keys::facet_keys;
 use std::alloc::{AllocError, Global};
+use viz_sheet::Ranks;
 
-/// For each key, by its index, whether no other key has its set.
-pub(crate) fn lone_marks(alloc: Global, keys: Vec<u128>) -> Result<Vec<bool>, AllocError>
-    requires indexed { AreIndexed keys.items }
-    ensures value { IfOk result (λ v. TellAlone keys.items v.items) }
+/// For each facet of all cells in turn, whether no other facet has its set of ranks. There are at
+/// most 2^30 cells, with ranks below a number of points.
+pub(crate) fn lone_marks(
+    alloc: Global,
+    points: usize,
+    ranks: &Ranks,
+) -> Result<Vec<bool>, AllocError>
+    requires few { length (ranks_in ranks.now) ≤ 2 ^ 30 }
+    requires most { All (λ cell. length cell ≤ 4) (ranks_in ranks.now) }
+    ensures value { IfOk result (λ v.
+        TellAlone (keyed_from 0 (flat_map facets_of (ranks_in ranks.now))) v.items) }
+    ensures few { IfOk result (λ v. length v.items ≤ 2 ^ 32) }
 {
-    let mut marks = vec![in alloc; false; keys.len()]?;
-    let mut sorted = keys;
+    let mut sorted = facet_keys(alloc, points, ranks)?;
+    let mut marks = vec![in alloc; false; sorted.len()]?;
     sorted.sort_unstable();
     mark_lone(&mut marks, &sorted);
     Ok(marks)

@@ -1,7 +1,7 @@
 -- Lists that are joined by index, their lengths and their items.
 use Rattle.std.proofs.Common.{◌≡◌, ℕ, zero, suc, ◌+◌, ◌-◌, ◌*◌, ◌<◌, ◌≤◌, ℤ, List, [], ◌∷◌, ◌++◌, length, map, get_or, refl, sym, ap, ap₂, ◌∙◌, inl, inr, arith, add-one, append_assoc}
 use Rattle.std.proofs.lemmas.Bool.{cases_lt}
-use Rattle.std.proofs.lemmas.List.{length-append, get_or_append_left, get_or-append_right, map-append}
+use Rattle.std.proofs.lemmas.List.{append-nil, length-append, get_or_append_left, get_or-append_right, map-append}
 use Rattle.std.proofs.lemmas.Nat.{mul-add-lt}
 use Rattle.viz_extent.specs.Extent.{Bounds, size_x, size_y, size_z, count_of, Has}
 use Rattle.viz_extent.specs.Numbering.{index_at}
@@ -112,3 +112,23 @@ get_or-values_on f b i j k d has =
   where
     by_places : (a b c w h : ℕ) → a + b * w + c * (w * h) ≡ c * (h * w) + (b * w + a)
     by_places a b c w h = omega arith
+
+-- lists behind others, and lists behind these
+pub joined_behind : {X : Type 0} (f : ℕ → List X) (first m n : ℕ) → joined f first m ++ joined f (first + m) n ≡ joined f first (m + n)
+joined_behind f first m zero = let none : m ≡ m + 0 = omega arith in append-nil (joined f first m) ∙ ap (joined f first) none
+joined_behind f first m (suc n) =
+    let more : suc (m + n) ≡ m + suc n = omega arith in
+    let place : first + m + n ≡ first + (m + n) = omega arith in
+    sym (append_assoc (joined f first m) (joined f (first + m) n) (f (first + m + n)))
+    ∙ ap₂ (λ (s t : List _). s ++ t) (joined_behind f first m n) (ap f place) ∙ ap (joined f first) more
+
+-- values up to an index, and values from there on
+pub run_on : (f : ℕ → ℤ) (first i n : ℕ) (xs ys zs : List ℤ) → first ≤ i → ys ≡ xs ++ run_of f first (i - first)
+    → zs ≡ ys ++ run_of f i n → zs ≡ xs ++ run_of f first (i + n - first)
+run_on f first i n xs ys zs from so_far more =
+    let at : i ≡ first + (i - first) = omega arith in
+    let all : i - first + n ≡ i + n - first = omega arith in
+    more ∙ ap (λ (t : List ℤ). t ++ run_of f i n) so_far ∙ append_assoc xs (run_of f first (i - first)) (run_of f i n)
+    ∙ ap (λ (m : ℕ). xs ++ (run_of f first (i - first) ++ run_of f m n)) at
+    ∙ ap (λ (t : List ℤ). xs ++ t) (joined_behind (λ i. f i ∷ []) first (i - first) n)
+    ∙ ap (λ (m : ℕ). xs ++ run_of f first m) all

@@ -4,6 +4,7 @@ pub mod RangeLemmas
 pub mod KeptLemmas
 pub mod SampleLemmas
 pub mod ArithLemmas
+pub mod DivisorLemmas
 pub mod SumLemmas
 pub mod MeanLemmas
 pub mod SmoothLemmas

@@ -1,5 +1,5 @@
 -- Windows that move along an axis, the means in them, and their ranges.
-use Rattle.std.proofs.Common.{◌≡◌, ℕ, ◌+◌, ◌-◌, ◌*◌, ◌/◌, ◌^◌, ◌<◌, ◌≤◌, ℤ, pos, negsuc, true, ◌≤ℤ◌, List, length, get_or, sym, ap, ap₂, ◌∙◌, subst, arith}
+use Rattle.std.proofs.Common.{◌≡◌, ℕ, ◌+◌, ◌-◌, ◌*◌, ◌/◌, ◌^◌, ◌<◌, ◌≤◌, ℤ, pos, negsuc, true, ◌≤ℤ◌, List, length, max, get_or, sym, ap, ap₂, ◌∙◌, subst, arith}
 use Rattle.std.specs.Prelude.{neg_ℤ}
 use Rattle.std.proofs.lemmas.Bool.{ltb-true, lt-ltb}
 use Rattle.std.proofs.lemmas.Int.{ints}
@@ -44,6 +44,32 @@ reach_of a first last i reach from to = record {
   start = omega (arith, reach.start);
   end = omega (arith, reach.end);
 }
+
+-- of a window that is not clipped, and the one behind it
+pub whole_first : (a : Axis) (i : ℕ) → a.start ≤ max a.lower (i - a.radius) → a.lower + a.radius ≤ i → window_first a (i + 1) ≡ window_first a i + 1
+whole_first a i start low = omega (arith, start, low)
+
+pub whole_behind : (a : Axis) (i : ℕ) → a.start ≤ max a.lower (i - a.radius) → a.lower + a.radius ≤ i → i + 1 + a.radius ≤ a.upper
+    → window_behind a (i + 1) ≡ window_behind a i + 1
+whole_behind a i start low high = omega (arith, start, low, high)
+
+-- the window of an index is the one before it, one further
+pub record IsWindow (a : Axis) (i first behind : ℕ) : Type 0 where
+  pub from : first ≡ window_first a i
+  pub to : behind ≡ window_behind a i
+
+pub whole_next : (a : Axis) (before last i first behind : ℕ) → IsReach a before last → before + 1 ≤ i → i ≤ last → a.lower + a.radius ≤ before
+    → last + a.radius ≤ a.upper → IsWindow a (i - 1) first behind → IsWindow a i (first + 1) (behind + 1)
+whole_next a before last i first behind reach after until low high is =
+    let h = i - 1 in
+    let at : h + 1 ≡ i = omega (arith, after) in
+    let start : a.start ≤ max a.lower (h - a.radius) = omega (arith, reach.start, after) in
+    let above : a.lower + a.radius ≤ h = omega (arith, low, after) in
+    let below : h + 1 + a.radius ≤ a.upper = omega (arith, high, until, after) in
+    record {
+      from = ap (λ (n : ℕ). n + 1) is.from ∙ sym (whole_first a h start above) ∙ ap (window_first a) at;
+      to = ap (λ (n : ℕ). n + 1) is.to ∙ sym (whole_behind a h start above below) ∙ ap (window_behind a) at;
+    }
 
 -- a number in the range of a kind, by its size
 signed_within : (bits : ℕ) (n : ℤ) → fits_signed bits n ≡ true → IsWithin (2 ^ bits) (2 ^ bits - 1) n

@@ -8,6 +8,7 @@
 
 mod arithmetic;
 mod cropping;
+mod divisor;
 mod lane;
 mod laws;
 mod means;

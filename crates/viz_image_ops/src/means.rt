@@ -6,6 +6,7 @@ ghost use Rattle.viz_meaning.specs.ImageFilters.{sum_of, floor_of};
 ghost use Rattle.viz_image_ops.specs.Joined.{joined, run_of, values_on};
 ghost use Rattle.viz_image_ops.specs.Sums.{AreReaches, AreSumsOf, HasRoom, IsReach, IsWithin, place_mean, plane_mean, reach_above, reach_below, row_mean};
 
+use crate::divisor::Divisor;
 use crate::lane::own;
 use crate::sums::{move_numbers, move_terms};
 use crate::window::{Axes, Axis};
@@ -94,8 +95,42 @@ fn clear(sums: &mut [i128])
     }
 }
 
-/// Adds the means of a row, whose numbers are sums of so many each.
+/// Adds the means of a row, whose numbers are sums of so many each. Windows that the whole doesn't
+/// clip are taken by themselves, since those have one size.
 fn push_row<T: Number>(
+    means: &mut Vec<T>,
+    row: &[i128],
+    rows: u64,
+    axis: &Axis,
+    first_index: u32,
+    last_index: u32,
+) -> Result<(), AllocError>
+    requires reach { IsReach axis.now first_index last_index }
+    requires order { first_index ≤ last_index }
+    requires row { length row.now ≡ axis.now.places }
+    requires some { 0 < rows }
+    requires few { rows * length row.now < 2 ^ 31 }
+    requires range { AreSumsOf T.kind rows row.now }
+    ensures { OnOk result (map T.value means.new.items ≡ map T.value means.old.items
+        ++ run_of (row_mean row.now rows axis.now) first_index
+        (size_of first_index last_index)) }
+{
+    let before = first_index.max(axis.lower.saturating_add(axis.radius));
+    let last = last_index.min(axis.upper.saturating_sub(axis.radius));
+    if before >= last {
+        return push_any(means, row, rows, axis, first_index, last_index);
+    }
+    push_any(means, row, rows, axis, first_index, before)?;
+    push_whole(means, row, rows, axis, before, last)?;
+    if last == last_index {
+        return Ok(());
+    }
+    push_any(means, row, rows, axis, last + 1, last_index)?;
+    Ok(())
+}
+
+/// The same for windows of any size.
+fn push_any<T: Number>(
     means: &mut Vec<T>,
     row: &[i128],
     rows: u64,
@@ -116,12 +151,47 @@ fn push_row<T: Number>(
     let mut sum = 0;
     let mut first = 0;
     let mut behind = 0;
+    let mut count = Divisor::new(1);
     for i in first_index..last_index + 1 {
         let (next, next_behind) = axis.window(i);
         sum = moved(&sum, row, first, behind, next, next_behind);
         first = next;
         behind = next_behind;
-        means.push(mean(&sum, rows * (behind - first) as u64))?;
+        count = count.renewed(rows * (behind - first) as u64);
+        means.push(mean(&sum, &count))?;
+    }
+    Ok(())
+}
+
+/// The same for windows that are not clipped: those of the indices behind one, up to a last one.
+fn push_whole<T: Number>(
+    means: &mut Vec<T>,
+    row: &[i128],
+    rows: u64,
+    axis: &Axis,
+    before: u32,
+    last_index: u32,
+) -> Result<(), AllocError>
+    requires reach { IsReach axis.now before last_index }
+    requires order { before ≤ last_index }
+    requires low { axis.now.lower + axis.now.radius ≤ before }
+    requires high { last_index + axis.now.radius ≤ axis.now.upper }
+    requires row { length row.now ≡ axis.now.places }
+    requires some { 0 < rows }
+    requires few { rows * length row.now < 2 ^ 31 }
+    requires range { AreSumsOf T.kind rows row.now }
+    ensures { OnOk result (map T.value means.new.items ≡ map T.value means.old.items
+        ++ run_of (row_mean row.now rows axis.now) (before + 1) (last_index - before)) }
+{
+    let (mut first, mut behind) = axis.window(before);
+    let mut sum = moved(&0, row, 0, 0, first, behind);
+    let count = Divisor::new(rows * (behind - first) as u64);
+    means.reserve((last_index - before) as usize)?;
+    for i in before + 1..last_index + 1 {
+        sum = moved_by_one(&sum, row, first, behind);
+        first += 1;
+        behind += 1;
+        means.push_reserved(mean(&sum, &count));
     }
     Ok(())
 }
@@ -145,10 +215,6 @@ fn moved(
         first (behind - first) }
     ensures { result ≡ sum_of (λ p. slice_index_or row.now p (pos 0)) next (next_behind - next) }
 {
-    // Nearly all windows of a row move so; without loops that costs half.
-    if behind + 1 == next_behind && first + 1 == next {
-        return moved_by_one(sum, row, first, behind);
-    }
     let mut moved = *sum;
     for p in behind..next_behind {
         moved += row[p];
@@ -174,25 +240,10 @@ fn moved_by_one(sum: &i128, row: &[i128], first: usize, behind: usize) -> i128
 }
 
 /// The mean of so many numbers of a type, by their sum: the quotient rounded down.
-fn mean<T: Number>(sum: &i128, count: u64) -> T
-    requires some { 0 < count }
-    requires few { count < 2 ^ 31 }
-    requires range { IsWithin (count * reach_below T.kind) (count * reach_above T.kind) sum.now }
-    ensures { T.value result ≡ floor_of sum.now count }
+fn mean<T: Number>(sum: &i128, count: &Divisor) -> T
+    requires { IsWithin (count.now.number * reach_below T.kind)
+        (count.now.number * reach_above T.kind) sum.now }
+    ensures { T.value result ≡ floor_of sum.now count.now.number }
 {
-    own(&quotient(sum, count))
-}
-
-/// The quotient of a number, rounded down. One of 64 bits is divided as such, which takes a part
-/// of the time.
-fn quotient(n: &i128, divisor: u64) -> i128
-    requires some { 0 < divisor }
-    requires few { divisor < 2 ^ 31 }
-    requires room { IsWithin (2 ^ 96) (2 ^ 96) n.now }
-    ensures { result ≡ floor_of n.now divisor }
-{
-    match i64::try_from(*n) {
-        Ok(n) => i128::from(n.div_euclid(divisor as i64)),
-        Err(_) => n.div_euclid(i128::from(divisor)),
-    }
+    own(&count.quotient(sum))
 }

@@ -73,6 +73,95 @@ fn means_are_rounded_down(rt: HostRuntime) -> Result<(), Fail> {
     Ok(())
 }
 
+// Sums of two and three quarters of the range, which 64 bits hold, of both signs.
+#[test]
+fn large_sums_are_rounded_down(rt: HostRuntime) -> Result<(), Fail> {
+    let alloc = rt.alloc();
+    row(
+        &rt,
+        alloc,
+        Kind8::I64,
+        1,
+        [1 << 62, (1 << 62) - 1, 0],
+        [
+            4_611_686_018_427_387_903,
+            3_074_457_345_618_258_602,
+            2_305_843_009_213_693_951,
+        ],
+    )?;
+    row(
+        &rt,
+        alloc,
+        Kind8::I64,
+        1,
+        [-(1 << 62), -(1 << 62), 1],
+        [
+            -4_611_686_018_427_387_904,
+            -3_074_457_345_618_258_603,
+            -2_305_843_009_213_693_952,
+        ],
+    )?;
+    Ok(())
+}
+
+// Both ends of the types of 8, 16 and 32 bits.
+#[test]
+fn means_have_the_ends_of_their_types(rt: HostRuntime) -> Result<(), Fail> {
+    let alloc = rt.alloc();
+    row(&rt, alloc, Kind8::I8, 1, [-128, -128, 127], [-128, -43, -1])?;
+    row(&rt, alloc, Kind8::U8, 1, [255, 255, 0], [255, 170, 127])?;
+    row(
+        &rt,
+        alloc,
+        Kind8::I16,
+        1,
+        [-32_768, -32_768, 32_767],
+        [-32_768, -10_923, -1],
+    )?;
+    row(
+        &rt,
+        alloc,
+        Kind8::U16,
+        1,
+        [65_535, 65_535, 0],
+        [65_535, 43_690, 32_767],
+    )?;
+    let (least, most) = (i128::from(i32::MIN), i128::from(i32::MAX));
+    row(
+        &rt,
+        alloc,
+        Kind8::I32,
+        1,
+        [least, least, most],
+        [least, -715_827_883, -1],
+    )?;
+    let most = i128::from(u32::MAX);
+    row(
+        &rt,
+        alloc,
+        Kind8::U32,
+        1,
+        [most, most, 0],
+        [most, 2_863_311_530, 2_147_483_647],
+    )?;
+    Ok(())
+}
+
+// Windows that move on by one between two that are clipped; a part of them has the same means.
+#[test]
+fn windows_move_over_a_row(rt: HostRuntime) -> Result<(), Fail> {
+    let alloc = rt.alloc();
+    let bounds = [4, 11, 0, 0, 0, 0];
+    let image = image_of(alloc, Kind8::I16, bounds, &[-9, 4, 0, 7, -2, -2, 5, 1])?;
+    let means = smoothed(alloc, &image, 1, bounds, bounds)?;
+    let want = [-3, -2, 3, 1, 1, 0, 1, 3];
+    is_image(&rt, &means, bounds, [1, 2, 3], Kind8::I16, &want);
+    let part = [6, 9, 0, 0, 0, 0];
+    let means = smoothed(alloc, &image, 1, bounds, part)?;
+    is_image(&rt, &means, part, [1, 2, 3], Kind8::I16, &[3, 1, 1, 0]);
+    Ok(())
+}
+
 // 27 points with 0 everywhere but at the one within.
 fn single(n: i128) -> [i128; 27] {
     [

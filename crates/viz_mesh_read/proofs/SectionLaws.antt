@@ -63,8 +63,8 @@ unfolding section_size_at
 decides-section_size n =
     decides-follow number _ due_number _ decides-number (λ size.
     decides-demand (is_at_least 0 size.1) Count size.0 _ _ (
-    decides-demand (not (n == 0) || is_number 0 size.1) Count size.0 _ _ (
-    decides-demand (is_below (2 ^ 31) size.1) TooMany size.0 _ _ (decides-gives (unsigned_abs size.1)))))
+    decides-demand (is_below (2 ^ 31) size.1) TooMany size.0 _ _ (
+    decides-demand (not (n == 0) || is_number 0 size.1) Count size.0 _ _ (decides-gives (unsigned_abs size.1)))))
 
 -- ---- the readers that give lists of indices
 

@@ -65,8 +65,8 @@ abbrev pub section_size : ℕ → Rule ℕ
 section_size n = do
   size ← number
   demand (is_at_least 0 size.1) (fault_at Count size.0) (
-      demand (not (n == 0) || is_number 0 size.1) (fault_at Count size.0) (
-      demand (is_below (2 ^ 31) size.1) (fault_at TooMany size.0) (gives (unsigned_abs size.1))))
+      demand (is_below (2 ^ 31) size.1) (fault_at TooMany size.0) (
+      demand (not (n == 0) || is_number 0 size.1) (fault_at Count size.0) (gives (unsigned_abs size.1))))
 
 -- a section behind its keyword: n size, then n cells, each by its indices
 abbrev pub section : Bool → ℕ → Rule (List (List ℕ))

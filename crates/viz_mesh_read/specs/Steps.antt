@@ -98,8 +98,8 @@ unfoldable pub section_size_at : ℕ → Reading → Result (ℕ × Reading) Fil
 section_size_at n r = do
   size ← due_number r
   some ← guard (is_at_least 0 size.0.1) Count size.0.0
-  none ← guard (not (n == 0) || is_number 0 size.0.1) Count size.0.0
   few ← guard (is_below (2 ^ 31) size.0.1) TooMany size.0.0
+  none ← guard (not (n == 0) || is_number 0 size.0.1) Count size.0.0
   Ok (unsigned_abs size.0.1, size.1)
 
 -- a section

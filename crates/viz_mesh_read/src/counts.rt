@@ -57,7 +57,8 @@ fn is_size(cells: u64, n: &i128) -> bool
     cells != 0 || is_zero(n)
 }
 
-/// How many numbers so many cells have: Count also where there is no cell and some number.
+/// How many numbers so many cells have: at most 2^31 - 1, and Count where there is no cell and some
+/// number.
 #[tactic(auto, unfolding(crate::specs::Steps::section_size_at))]
 pub(crate) fn section_size(lexer: &mut Lexer<'_>, cells: u64) -> Result<u64, FileFault>
     ensures read { Reads (λ n. n) result lexer.new (section_size_at cells lexer.old) }
@@ -70,15 +71,15 @@ pub(crate) fn section_size(lexer: &mut Lexer<'_>, cells: u64) -> Result<u64, Fil
             place,
         });
     }
-    if !is_size(cells, &n) {
-        return Err(FileFault {
-            kind: FileKind::Count,
-            place,
-        });
-    }
     if !is_below_most(&n) {
         return Err(FileFault {
             kind: FileKind::TooMany,
+            place,
+        });
+    }
+    if !is_size(cells, &n) {
+        return Err(FileFault {
+            kind: FileKind::Count,
             place,
         });
     }

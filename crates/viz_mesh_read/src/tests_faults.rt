@@ -123,7 +123,7 @@ fn faults_of_cells_and_types(rt: HostRuntime) -> Result<(), Fail> {
         ),
         (
             b"POINTS 3 int\n0 0 0 1 0 0 0 1 0\nCELLS 0 2147483648\n",
-            FileKind::Count,
+            FileKind::TooMany,
             39,
         ),
         // no number is left for a cell

@@ -122,8 +122,8 @@ stands-size old n size behind few none ends e =
     let first = stands-count old 32 size behind refl few ends e in
     stands-follow number _ old (first.0, pos size) size behind behind first.1
     (stands-demand _ _ _ first.1.new size behind (le-leb 0 size (omega arith))
-    (stands-demand _ _ _ first.1.new size behind (otherwise (n == 0) (is_number 0 (pos size)) (λ z. eq-eqb size 0 (none (eqb-true n 0 z))))
-    (stands-demand _ _ _ first.1.new size behind (lt-ltb size (2 ^ 31) few) (stands-gives size first.1.new behind first.1.rest))))
+    (stands-demand _ _ _ first.1.new size behind (lt-ltb size (2 ^ 31) few)
+    (stands-demand _ _ _ first.1.new size behind (otherwise (n == 0) (is_number 0 (pos size)) (λ z. eq-eqb size 0 (none (eqb-true n 0 z)))) (stands-gives size first.1.new behind first.1.rest))))
 
 stands-start : (binary : Bool) (old : Reading) (text : List ℕ) → rest_of old ≡ 10 ∷ text → Stands (section_start binary) old tt (start_of binary text)
 stands-start true old text e = stands-line_end old text e

@@ -2,18 +2,19 @@
 use Rattle.std.proofs.Common.{◌≡◌, get_or, take, ℕ, pos, true, false, ◌+◌, ◌<◌, ◌^◌, List, [], ◌∷◌, ◌++◌, length, get_or, map, drop, refl, sym, ap, ap₂, ◌∙◌, append_assoc, arith}
 use Rattle.std.specs.List.{All, flat_map}
 use Rattle.std.specs.Fmt.{decimal}
-use Rattle.std.proofs.lemmas.List.{drop_more, length-map, length-append}
+use Rattle.std.proofs.lemmas.List.{drop_more, length-map}
 use Rattle.std.proofs.lemmas.List.Folds.{flat_map-map}
 use Rattle.std.proofs.lemmas.List.Elements.{All-head, All-tail, All-weaker}
 use Rattle.viz_column.specs.declared.kind.Kind8.TheVariants.{I32}
 use Rattle.viz_column.specs.Bytes.{bytes_of}
 use Rattle.viz_legacy_write.specs.ImageText.{spaced_number}
-use Rattle.viz_sheet.specs.Sheet.{SheetData, AreAscending}
+use Rattle.viz_sheet.specs.Sheet.{AreAscending}
 use Rattle.viz_sheet.specs.Ranked.{IsCell, by_names, ranks_of}
 use Rattle.viz_sheet.proofs.RankLemmas.{ranks-at}
 use Rattle.viz_legacy_write.proofs.PassLemmas.{appended, lines_more}
-use Rattle.viz_mesh_write.specs.Cells.{moved, points_of}
+use Rattle.viz_mesh_write.specs.Cells.{moved}
 use Rattle.viz_mesh_write.specs.Steps.Passes.{IsMovable, index_text, index_bytes, cell_row, cell_rows}
+use Rattle.viz_mesh_write.specs.Steps.SheetCells.{CellsData, total_points, points_by}
 
 row_is : (first : ℕ) (ranks : List ℕ) → decimal (length ranks) ++ flat_map (index_text first) ranks ≡ decimal (length (moved first ranks)) ++ flat_map spaced_number (map (λ (n : ℕ). pos n) (moved first ranks))
 row_is first ranks =
@@ -48,25 +49,26 @@ movable first count cells few h =
     }) cells h
 
 -- the sheet that is next, and those behind it
-next_sheet : (sheets : List SheetData) (i : ℕ) (s : SheetData) → i < length sheets → s ≡ get_or sheets i s → drop i sheets ≡ s ∷ drop (i + 1) sheets
-next_sheet sheets i s lt is = drop_more sheets i s lt ∙ ap (λ (t : SheetData). t ∷ drop (i + 1) sheets) (sym is)
+next_sheet : {X : Type 0} (seen : X → CellsData) (sheets : List X) (i : ℕ) (s : X) → i < length sheets → s ≡ get_or sheets i s → map seen (drop i sheets) ≡ seen s ∷ map seen (drop (i + 1) sheets)
+next_sheet {X} seen sheets i s lt is =
+    ap (map seen) (drop_more sheets i s lt ∙ ap (λ (t : X). t ∷ drop (i + 1) sheets) (sym is))
 
 -- the points of one sheet more stand in front
-pub first_more : (total first : ℕ) (sheets : List SheetData) (i : ℕ) (s : SheetData) → i < length sheets → s ≡ get_or sheets i s → first + length (points_of (drop i sheets)) ≡ total
-    → (first + length s.points) + length (points_of (drop (i + 1) sheets)) ≡ total
-first_more total first sheets i s lt is so_far =
-    let e : length (points_of (drop i sheets)) ≡ length s.points + length (points_of (drop (i + 1) sheets)) =
-    ap (λ (ss : List SheetData). length (points_of ss)) (next_sheet sheets i s lt is) ∙ length-append s.points (points_of (drop (i + 1) sheets)) in
+pub first_more : {X : Type 0} (seen : X → CellsData) (total first : ℕ) (sheets : List X) (i : ℕ) (s : X) → i < length sheets → s ≡ get_or sheets i s → first + points_by seen (drop i sheets) ≡ total
+    → (first + (seen s).points) + points_by seen (drop (i + 1) sheets) ≡ total
+first_more seen total first sheets i s lt is so_far =
+    let e : points_by seen (drop i sheets) ≡ (seen s).points + points_by seen (drop (i + 1) sheets) =
+    ap total_points (next_sheet seen sheets i s lt is) in
     omega (arith, e, so_far)
 
 -- the cells of one sheet more are written
-pub sheet_cells_more : (row : ℕ → List ℕ → List ℕ) (text new all : List ℕ) (first : ℕ) (sheets : List SheetData) (i : ℕ) (s : SheetData) → i < length sheets → s ≡ get_or sheets i s
-    → text ++ cell_rows row first (drop i sheets) ≡ all → new ≡ text ++ flat_map (row first) (map (ranks_of s.names) s.cells)
-    → new ++ cell_rows row (first + length s.points) (drop (i + 1) sheets) ≡ all
-sheet_cells_more row text new all first sheets i s lt is so_far put =
-    let here = flat_map (row first) (map (ranks_of s.names) s.cells) in
-    let rest = cell_rows row (first + length s.points) (drop (i + 1) sheets) in
-    ap (λ (t : List ℕ). t ++ rest) put ∙ append_assoc text here rest ∙ sym (ap (λ (ss : List SheetData). text ++ cell_rows row first ss) (next_sheet sheets i s lt is)) ∙ so_far
+pub sheet_cells_more : {X : Type 0} (seen : X → CellsData) (row : ℕ → List ℕ → List ℕ) (text new all : List ℕ) (first : ℕ) (sheets : List X) (i : ℕ) (s : X) → i < length sheets → s ≡ get_or sheets i s
+    → text ++ cell_rows row first (map seen (drop i sheets)) ≡ all → new ≡ text ++ flat_map (row first) (seen s).cells
+    → new ++ cell_rows row (first + (seen s).points) (map seen (drop (i + 1) sheets)) ≡ all
+sheet_cells_more seen row text new all first sheets i s lt is so_far put =
+    let here = flat_map (row first) (seen s).cells in
+    let rest = cell_rows row (first + (seen s).points) (map seen (drop (i + 1) sheets)) in
+    ap (λ (t : List ℕ). t ++ rest) put ∙ append_assoc text here rest ∙ sym (ap (λ (ss : List CellsData). text ++ cell_rows row first ss) (next_sheet seen sheets i s lt is)) ∙ so_far
 
 -- one cell more is written
 pub cell_more : {X : Type 0} (list : X → List ℕ) (row : List ℕ → List ℕ) (old text new ranks : List ℕ) (cells : List X) (i : ℕ) (c : X) → i < length cells → c ≡ get_or cells i c → ranks ≡ list c

@@ -2,4 +2,5 @@ mod PointLemmas
 mod CellLemmas
 pub mod TallyLemmas
 mod SectionLemmas
+mod SheetLemmas
 mod TextLemmas

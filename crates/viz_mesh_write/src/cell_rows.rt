@@ -3,18 +3,17 @@
 ghost use Rattle.std.specs.Prelude.{◌≡◌, ◌<◌, ◌≤◌, ◌+◌, ◌^◌, ◌++◌, ℕ, Bool, List, All, OnOk, length, map, true, false, pos};
 ghost use Rattle.std.specs.List.{flat_map};
 ghost use Rattle.viz_sheet.specs.Arrays.{ranks_in};
-ghost use Rattle.viz_sheet.specs.Ranked.{IsCell, ranks_of};
-ghost use Rattle.viz_sheet.specs.Sheet.{IsSheet};
 ghost use Rattle.viz_column.specs.declared.kind.Kind8.TheVariants.{I32};
 ghost use Rattle.viz_column.specs.Bytes.{bytes_of};
-ghost use Rattle.viz_mesh_write.specs.Cells.{points_of};
 ghost use Rattle.viz_mesh_write.specs.MeshText.{type_of};
 ghost use Rattle.viz_mesh_write.specs.Steps.Passes.{IsMovable, cell_row, row_of_size, type_row, cell_rows, index_text, index_bytes};
+ghost use Rattle.viz_mesh_write.specs.Steps.SheetCells.{points_by};
 
 use crate::cell_ranks::CellRanks;
 use crate::numbers::{put_count, put_int};
+use crate::sheet_cells::SheetCells;
 use std::alloc::AllocError;
-use viz_sheet::{Ranks, Sheet};
+use viz_sheet::Ranks;
 
 /// What is written of each cell. A function that is generic in it has no `match` in its loop.
 pub(crate) trait CellRow {
@@ -231,45 +230,36 @@ fn put_ranks<R: CellRow>(
     }
 }
 
-/// The cells of a sheet by ranks, and what they keep.
-pub(crate) fn sheet_ranks(sheet: &Sheet) -> &Ranks
-    ensures value { ranks_in result.now ≡ map (ranks_of sheet.now.names) sheet.now.cells }
-    ensures each { All (IsCell (length sheet.now.points)) (ranks_in result.now) }
-{
-    sheet.ranks()
-}
-
 /// The rows of the cells of a sheet.
-fn put_sheet_cells<R: CellRow>(
+fn put_sheet_cells<R: CellRow, S: SheetCells>(
     text: &mut Vec<u8>,
     binary: bool,
     what: &R,
     first: u32,
-    sheet: &Sheet,
+    sheet: &S,
 ) -> Result<(), AllocError>
-    requires { first + length sheet.now.points < 2 ^ 31 }
+    requires { first + (S.seen sheet.now).points < 2 ^ 31 }
     ensures { OnOk result (text.new.items ≡ text.old.items
-        ++ flat_map (R.written what.now binary first)
-        (map (ranks_of sheet.now.names) sheet.now.cells)) }
+        ++ flat_map (R.written what.now binary first) (S.seen sheet.now).cells) }
 {
-    put_ranks(text, binary, what, first, sheet_ranks(sheet))
+    put_ranks(text, binary, what, first, sheet.cells())
 }
 
 /// The rows of the cells of all sheets.
-pub(crate) fn put_all_cells<R: CellRow>(
+pub(crate) fn put_all_cells<R: CellRow, S: SheetCells>(
     text: &mut Vec<u8>,
     binary: bool,
     what: &R,
-    sheets: &[Sheet],
+    sheets: &[S],
 ) -> Result<(), AllocError>
-    requires { length (points_of sheets.now) < 2 ^ 31 }
-    ensures { OnOk result (text.new.items
-        ≡ text.old.items ++ cell_rows (R.written what.now binary) 0 sheets.now) }
+    requires { points_by S.seen sheets.now < 2 ^ 31 }
+    ensures { OnOk result (text.new.items ≡ text.old.items
+        ++ cell_rows (R.written what.now binary) 0 (map S.seen sheets.now)) }
 {
     let mut first: u32 = 0;
     for sheet in sheets {
         put_sheet_cells(text, binary, what, first, sheet)?;
-        first += sheet.places().len() as u32;
+        first += sheet.points() as u32;
     }
     Ok(())
 }

@@ -4,7 +4,7 @@ ghost use Rattle.std.specs.Prelude.{◌≡◌, ◌≢◌, ◌≤◌, ◌<◌, �
 ghost use Rattle.viz_legacy_write.specs.ImageText.{form_line};
 ghost use Rattle.viz_mesh_write.specs.Cells.{points_of, cells_of, has_tetrahedra};
 ghost use Rattle.viz_mesh_write.specs.Fits.{FitCounts, FitRows, FitNumbers};
-ghost use Rattle.viz_mesh_write.specs.MeshText.{title_lines, dataset_line, coordinates, scalars, points_text, scalars_text, mesh_text};
+ghost use Rattle.viz_mesh_write.specs.MeshText.{title_lines, dataset_line, coordinates, scalars, points_text, cells_text, scalars_text, mesh_text};
 ghost use Rattle.viz_mesh_write.specs.Steps.Tallies.{AreSmall, IsReady};
 
 use crate::heads::{put_dataset, put_form, put_points_line, put_scalars_head, put_title};
@@ -18,10 +18,10 @@ use viz_legacy_write::{Style, WriteStop};
 use viz_sheet::{Mesh, Sheet};
 
 /// The room for all lines in front of numbers.
-const ROOM_OF_HEADS: u64 = 512;
+pub(crate) const ROOM_OF_HEADS: u64 = 512;
 
 /// The most bytes of a number of 64 bits in words, and of what stands behind it.
-const LONG_WORD: u64 = 21;
+pub(crate) const LONG_WORD: u64 = 21;
 
 /// The same of an index below 2^31 or of a count.
 const INDEX_WORD: u64 = 11;
@@ -30,7 +30,7 @@ const INDEX_WORD: u64 = 11;
 const TYPE_WORD: u64 = 3;
 
 /// Room for the whole text.
-fn room(binary: bool, tally: &Tally) -> u64
+pub(crate) fn room(binary: bool, tally: &Tally) -> u64
     requires { AreSmall tally.now }
 {
     let (long, index, kind) = if binary {
@@ -42,7 +42,7 @@ fn room(binary: bool, tally: &Tally) -> u64
 }
 
 /// The lines in front of the points.
-fn put_head(
+pub(crate) fn put_head(
     text: &mut Vec<u8>,
     binary: bool,
     digits: u8,
@@ -69,7 +69,7 @@ fn is_grid(tally: &Tally, _sheets: &[Sheet]) -> bool
 }
 
 /// The points.
-fn put_points_text(
+pub(crate) fn put_points_text(
     text: &mut Vec<u8>,
     binary: bool,
     digits: u8,
@@ -92,7 +92,7 @@ fn put_points_text(
 }
 
 /// The scalars, where there are points.
-fn put_scalars_text(
+pub(crate) fn put_scalars_text(
     text: &mut Vec<u8>,
     binary: bool,
     n: u64,
@@ -115,6 +115,20 @@ fn put_scalars_text(
     Ok(())
 }
 
+/// The cells of sheets.
+fn put_sheets(
+    text: &mut Vec<u8>,
+    binary: bool,
+    tally: &Tally,
+    sheets: &[Sheet],
+) -> Result<(), AllocError>
+    requires { IsReady sheets.now tally.now }
+    ensures { OnOk result (text.new.items
+        ≡ text.old.items ++ cells_text binary (cells_of sheets.now)) }
+{
+    put_cells_text(text, binary, tally, sheets)
+}
+
 /// The whole text.
 #[tactic(auto, unfolding(crate::specs::MeshText::mesh_text))]
 fn put_mesh(
@@ -134,7 +148,7 @@ fn put_mesh(
 {
     put_head(text, binary, digits, tally, sheets)?;
     put_points_text(text, binary, digits, tally.points, sheets)?;
-    put_cells_text(text, binary, tally, sheets)?;
+    put_sheets(text, binary, tally, sheets)?;
     put_scalars_text(text, binary, tally.points, sheets)?;
     Ok(())
 }

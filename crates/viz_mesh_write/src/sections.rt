@@ -1,30 +1,32 @@
 //! The sections of cells, and their types.
 
-ghost use Rattle.std.specs.Prelude.{◌≡◌, ◌<◌, ◌*◌, ◌+◌, ◌^◌, ◌++◌, codes, OnOk, length};
-ghost use Rattle.viz_mesh_write.specs.Cells.{points_of, cells_of, of_size};
+ghost use Rattle.std.specs.Prelude.{◌≡◌, ◌<◌, ◌*◌, ◌+◌, ◌^◌, ◌++◌, codes, OnOk, length, map};
+ghost use Rattle.viz_mesh_write.specs.Cells.{of_size};
 ghost use Rattle.viz_mesh_write.specs.MeshText.{section_line, types_text, grid_text, some_section, parts_text, poly_text, cells_text};
 ghost use Rattle.viz_mesh_write.specs.Rows.{block_end};
 ghost use Rattle.viz_mesh_write.specs.Steps.Passes.{cell_rows};
-ghost use Rattle.viz_mesh_write.specs.Steps.Tallies.{IsReady};
+ghost use Rattle.viz_mesh_write.specs.Steps.SheetCells.{points_by, indices_by};
+ghost use Rattle.viz_mesh_write.specs.Steps.Tallies.{AreCounted};
 
 use crate::cell_rows::{CellRow, Every, OfSize, Types, put_all_cells};
 use crate::heads::{put_section_line, put_types_line};
 use crate::numbers::put_end;
+use crate::sheet_cells::SheetCells;
 use crate::tally::Tally;
 use std::alloc::AllocError;
-use viz_sheet::Sheet;
 
 /// The rows of cells, and what stands behind so many.
-fn put_block<R: CellRow>(
+fn put_block<R: CellRow, S: SheetCells>(
     text: &mut Vec<u8>,
     binary: bool,
     what: &R,
     n: u64,
-    sheets: &[Sheet],
+    sheets: &[S],
 ) -> Result<(), AllocError>
-    requires { length (points_of sheets.now) < 2 ^ 31 }
+    requires { points_by S.seen sheets.now < 2 ^ 31 }
     ensures { OnOk result (text.new.items ≡ text.old.items
-        ++ (cell_rows (R.written what.now binary) 0 sheets.now ++ block_end binary n)) }
+        ++ (cell_rows (R.written what.now binary) 0 (map S.seen sheets.now)
+        ++ block_end binary n)) }
 {
     put_all_cells(text, binary, what, sheets)?;
     put_end(text, binary, n)?;
@@ -32,20 +34,21 @@ fn put_block<R: CellRow>(
 }
 
 /// The cells of so many points as a section, where there are any.
-fn put_some_section(
+fn put_some_section<S: SheetCells>(
     text: &mut Vec<u8>,
     binary: bool,
     keyword: &[u8],
     size: usize,
     n: u64,
-    sheets: &[Sheet],
+    sheets: &[S],
 ) -> Result<(), AllocError>
-    requires few { length (points_of sheets.now) < 2 ^ 31 }
-    requires count { n ≡ length (of_size size (cells_of sheets.now)) }
+    requires few { points_by S.seen sheets.now < 2 ^ 31 }
+    requires count { n ≡ length (of_size size (indices_by S.seen sheets.now)) }
     requires fits { (size + 1) * n < 2 ^ 31 }
     requires small { size < 4 }
     ensures { OnOk result (text.new.items
-        ≡ text.old.items ++ some_section binary keyword.now (of_size size (cells_of sheets.now))) }
+        ≡ text.old.items
+        ++ some_section binary keyword.now (of_size size (indices_by S.seen sheets.now))) }
 {
     if n == 0 {
         return Ok(());
@@ -57,18 +60,19 @@ fn put_some_section(
 
 /// The cells of polydata, where there are any.
 #[tactic(auto, unfolding(crate::specs::MeshText::parts_text))]
-fn put_parts(
+fn put_parts<S: SheetCells>(
     text: &mut Vec<u8>,
     binary: bool,
     tally: &Tally,
-    sheets: &[Sheet],
+    sheets: &[S],
 ) -> Result<(), AllocError>
-    requires ready { IsReady sheets.now tally.now }
+    requires few { points_by S.seen sheets.now < 2 ^ 31 }
+    requires ready { AreCounted (indices_by S.seen sheets.now) tally.now }
     requires vertices { 2 * tally.now.vertices < 2 ^ 31 }
     requires lines { 3 * tally.now.lines < 2 ^ 31 }
     requires triangles { 4 * tally.now.triangles < 2 ^ 31 }
     ensures { OnOk result (text.new.items
-        ≡ text.old.items ++ parts_text binary (cells_of sheets.now)) }
+        ≡ text.old.items ++ parts_text binary (indices_by S.seen sheets.now)) }
 {
     put_some_section(text, binary, b"VERTICES", 1, tally.vertices, sheets)?;
     put_some_section(text, binary, b"LINES", 2, tally.lines, sheets)?;
@@ -77,16 +81,17 @@ fn put_parts(
 }
 
 /// The cells of polydata.
-fn put_poly(
+fn put_poly<S: SheetCells>(
     text: &mut Vec<u8>,
     binary: bool,
     tally: &Tally,
-    sheets: &[Sheet],
+    sheets: &[S],
 ) -> Result<(), AllocError>
-    requires ready { IsReady sheets.now tally.now }
+    requires few { points_by S.seen sheets.now < 2 ^ 31 }
+    requires ready { AreCounted (indices_by S.seen sheets.now) tally.now }
     requires none { tally.now.tetrahedra ≡ 0 }
     ensures { OnOk result (text.new.items
-        ≡ text.old.items ++ poly_text binary (cells_of sheets.now)) }
+        ≡ text.old.items ++ poly_text binary (indices_by S.seen sheets.now)) }
 {
     if tally.cells() == 0 {
         put_section_line(text, b"POLYGONS", 0, 0)?;
@@ -97,11 +102,16 @@ fn put_poly(
 }
 
 /// The types of the cells of a grid.
-fn put_types(text: &mut Vec<u8>, binary: bool, n: u64, sheets: &[Sheet]) -> Result<(), AllocError>
-    requires few { length (points_of sheets.now) < 2 ^ 31 }
-    requires count { n ≡ length (cells_of sheets.now) }
+fn put_types<S: SheetCells>(
+    text: &mut Vec<u8>,
+    binary: bool,
+    n: u64,
+    sheets: &[S],
+) -> Result<(), AllocError>
+    requires few { points_by S.seen sheets.now < 2 ^ 31 }
+    requires count { n ≡ length (indices_by S.seen sheets.now) }
     ensures { OnOk result (text.new.items
-        ≡ text.old.items ++ types_text binary (cells_of sheets.now)) }
+        ≡ text.old.items ++ types_text binary (indices_by S.seen sheets.now)) }
 {
     put_types_line(text, n)?;
     put_block(text, binary, &Types, n, sheets)?;
@@ -109,15 +119,16 @@ fn put_types(text: &mut Vec<u8>, binary: bool, n: u64, sheets: &[Sheet]) -> Resu
 }
 
 /// The cells of a grid, and their types.
-fn put_grid(
+fn put_grid<S: SheetCells>(
     text: &mut Vec<u8>,
     binary: bool,
     tally: &Tally,
-    sheets: &[Sheet],
+    sheets: &[S],
 ) -> Result<(), AllocError>
-    requires ready { IsReady sheets.now tally.now }
+    requires few { points_by S.seen sheets.now < 2 ^ 31 }
+    requires ready { AreCounted (indices_by S.seen sheets.now) tally.now }
     ensures { OnOk result (text.new.items
-        ≡ text.old.items ++ grid_text binary (cells_of sheets.now)) }
+        ≡ text.old.items ++ grid_text binary (indices_by S.seen sheets.now)) }
 {
     let n = tally.cells();
     put_section_line(text, b"CELLS", n, tally.size())?;
@@ -127,15 +138,16 @@ fn put_grid(
 }
 
 /// The cells: of a grid where a tetrahedron is there, and else of polydata.
-pub(crate) fn put_cells_text(
+pub(crate) fn put_cells_text<S: SheetCells>(
     text: &mut Vec<u8>,
     binary: bool,
     tally: &Tally,
-    sheets: &[Sheet],
+    sheets: &[S],
 ) -> Result<(), AllocError>
-    requires ready { IsReady sheets.now tally.now }
+    requires few { points_by S.seen sheets.now < 2 ^ 31 }
+    requires ready { AreCounted (indices_by S.seen sheets.now) tally.now }
     ensures { OnOk result (text.new.items
-        ≡ text.old.items ++ cells_text binary (cells_of sheets.now)) }
+        ≡ text.old.items ++ cells_text binary (indices_by S.seen sheets.now)) }
 {
     if tally.tetrahedra == 0 {
         put_poly(text, binary, tally, sheets)

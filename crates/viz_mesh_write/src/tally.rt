@@ -10,7 +10,7 @@ ghost use Rattle.viz_mesh_write.specs.Fits.{FitCounts};
 ghost use Rattle.viz_mesh_write.specs.Steps.Tallies.{capped, IsCapped, IsReady, AreSmall, cell_count, size_count, SectionsFit};
 
 use crate::cell_ranks::CellRanks;
-use crate::cell_rows::sheet_ranks;
+use crate::sheet_cells::sheet_ranks;
 use viz_legacy_write::counts_fit;
 use viz_sheet::{Ranks, Sheet};
 

@@ -1,6 +1,6 @@
 //! Meshes whose texts are reckoned by hand.
 
-use crate::write_mesh;
+use crate::{write_mesh, write_owned_mesh};
 use std::alloc::Global;
 use std::process::Abort;
 use std::test::Fail;
@@ -81,7 +81,7 @@ fn bytes_of(alloc: Global, sheets: Vec<Sheet>, style: &Style) -> Result<Bytes, W
     write_mesh(alloc, &mesh, style)
 }
 
-// These sheets are written so.
+// These sheets are written so, lent or given up.
 fn shows(
     rt: &impl Abort,
     alloc: Global,
@@ -89,8 +89,11 @@ fn shows(
     style: &Style,
     want: &[u8],
 ) -> Result<(), Fail> {
-    let bytes = bytes_of(alloc, sheets, style)?;
-    assert_eq!(rt; bytes.list(), want);
+    let mesh = Mesh::new(sheets);
+    let lent = write_mesh(alloc, &mesh, style)?;
+    assert_eq!(rt; lent.list(), want);
+    let given_up = write_owned_mesh(alloc, mesh, style)?;
+    assert_eq!(rt; given_up.list(), want);
     Ok(())
 }
 
@@ -303,6 +306,43 @@ fn side(alloc: Global) -> Result<Sheet, Fail> {
     sheet_by(alloc, 3, places, Ranks::Any(cells))
 }
 
+const GRID_OF_TWO_SHEETS: &[u8] = b"# vtk DataFile Version 3.0
+vizrun fixed 10^-3
+ASCII
+DATASET UNSTRUCTURED_GRID
+POINTS 6 long
+7000 0 0
+0 7000 0
+0 0 0
+500 0 0
+0 500 0
+0 0 500
+CELLS 3 10
+2 0 1
+1 1
+4 5 3 2 4
+CELL_TYPES 3
+3
+1
+10
+POINT_DATA 6
+SCALARS scalars long 1
+LOOKUP_TABLE default
+1
+2
+0
+0
+1
+1
+";
+
+#[test]
+fn a_grid_of_two_sheets_has_all_points_first(rt: HostRuntime) -> Result<(), Fail> {
+    let ranks = Ranks::Tetrahedra(vec![in rt.alloc(); [3, 1, 0, 2]]?);
+    let sheets = vec![in rt.alloc(); line(rt.alloc())?, corners(rt.alloc(), ranks)?]?;
+    shows(&rt, rt.alloc(), sheets, &WORDS, GRID_OF_TWO_SHEETS)
+}
+
 #[test]
 fn ranks_are_moved_by_the_sheets_in_front(rt: HostRuntime) -> Result<(), Fail> {
     let mut sheets = Vec::new(rt.alloc());
@@ -505,11 +545,17 @@ fn wide_numbers_are_refused(rt: HostRuntime) -> Result<(), Fail> {
     ] {
         let style = Style { binary, digits };
         let sheets = vertex(rt.alloc(), numbers)?;
+        let mesh = Mesh::new(sheets);
         let refused = matches!(
-            bytes_of(rt.alloc(), sheets, &style),
+            write_mesh(rt.alloc(), &mesh, &style),
             Err(WriteStop::TooWide)
         );
         assert!(rt; refused, "{numbers:?} {digits}");
+        let refused = matches!(
+            write_owned_mesh(rt.alloc(), mesh, &style),
+            Err(WriteStop::TooWide)
+        );
+        assert!(rt; refused, "{numbers:?} {digits}, given up");
     }
     Ok(())
 }

@@ -8,7 +8,7 @@ ghost use Rattle.viz_replay.specs.Served.{replay_of, IsServed};
 use crate::came::Came;
 use crate::network::network_of;
 use std::alloc::Global;
-use viz_account::update;
+use viz_account::{file_name, update};
 use viz_base::{Port, ReadRefusal, Word};
 use viz_journal::{JournalEntry, read_journal};
 use viz_words::{ScriptRefusal, ScriptStop};
@@ -51,8 +51,12 @@ fn serve_entries<P: Port>(
     let Ok(net) = network_of(alloc, entries, command.count) else {
         return Came::Memory;
     };
+    let Some(file) = file_name(&command.output) else {
+        return Came::Memory;
+    };
     let at = entries_at(command.count, entries);
-    Came::Updated(update(alloc, &net, at, port, &command.sink, &command.output))
+    let answer = update(alloc, &net, at, port, &command.sink, file);
+    Came::Updated(answer.line())
 }
 
 /// Reads the journal from the desk, and updates the sink on the network of its first entries.

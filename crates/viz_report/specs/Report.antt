@@ -1,8 +1,9 @@
--- The text of a report (docs/FORMATS.md, "Report").
-use Rattle.std.specs.Prelude.{ℕ, zero, suc, ◌+◌, List, [], ◌∷◌, ◌++◌, length, map, codes}
+-- The rows of a report, and their text (docs/FORMATS.md, "Report").
+use Rattle.std.specs.Prelude.{ℕ, zero, suc, ◌+◌, List, [], ◌∷◌, ◌++◌, length, map, flat_map, codes}
 use Rattle.std.specs.Fmt.{decimal}
 use Rattle.viz_report.specs.declared.line.Line.{Line}
 use Rattle.viz_report.specs.declared.line.Line.TheVariants as line
+use Rattle.viz_report.specs.declared.line.Row.{Row}
 use Rattle.viz_report.specs.Words.{reason_text}
 
 -- a word and a number behind it
@@ -24,7 +25,8 @@ numbers_text cells points ran = and_number (codes " cells ") cells ++ and_number
 -- the numbers of an audit
 abbrev pub counts_text : ℕ → ℕ → ℕ → ℕ → List ℕ
 counts_text sides two lone border =
-    and_number (codes " sides ") sides ++ and_number (codes " two ") two ++ and_number (codes " open ") lone ++ and_number (codes " border ") border
+    and_number (codes " sides ") sides ++ and_number (codes " two ") two
+    ++ and_number (codes " open ") lone ++ and_number (codes " border ") border
 
 -- what stands behind the front of a line
 abbrev pub behind : Line → List ℕ
@@ -50,17 +52,25 @@ word_of line.Memory = codes "memory"
 abbrev pub line_text : ℕ → ℕ → Line → List ℕ
 line_text actor count l = heading (word_of l) actor count ++ behind l ++ codes "\n"
 
--- lines of an actor, the first of which has this number among its lines
-abbrev pub lines_text : ℕ → ℕ → List Line → List ℕ
-lines_text actor count [] = []
-lines_text actor count (l ∷ ls) = line_text actor count l ++ lines_text actor (count + 1) ls
+-- ---- rows
 
--- ---- several actors and phases
+-- a row with its newline
+abbrev pub row_text : Row → List ℕ
+row_text r = line_text r.actor r.count r.line
 
--- the lines of actors, from this one on, in one phase; the first line of each has a number
-abbrev pub phase_text : ℕ → List ℕ → List (List Line) → List ℕ
-phase_text actor (count ∷ counts) (ls ∷ lines) = lines_text actor count ls ++ phase_text (actor + 1) counts lines
-phase_text actor counts lines = []
+-- the text of rows
+abbrev pub rows_text : List Row → List ℕ
+rows_text rows = flat_map row_text rows
+
+-- the rows of lines of an actor, the first of which has this number among its lines
+abbrev pub rows_from : ℕ → ℕ → List Line → List Row
+rows_from actor count [] = []
+rows_from actor count (l ∷ ls) = record { actor = actor; count = count; line = l } ∷ rows_from actor (count + 1) ls
+
+-- the rows of actors, from this one on, in one phase; the first line of each has a number
+abbrev pub phase_rows : ℕ → List ℕ → List (List Line) → List Row
+phase_rows actor (count ∷ counts) (ls ∷ lines) = rows_from actor count ls ++ phase_rows (actor + 1) counts lines
+phase_rows actor counts lines = []
 
 -- the numbers of the actors' first lines in the next phase
 abbrev pub next_counts : List ℕ → List (List Line) → List ℕ
@@ -79,12 +89,16 @@ later_phases [] = []
 later_phases ([] ∷ actors) = [] ∷ later_phases actors
 later_phases ((ls ∷ phases) ∷ actors) = phases ∷ later_phases actors
 
--- the lines of so many phases
-abbrev pub phases_text : ℕ → List ℕ → List (List (List Line)) → List ℕ
-phases_text zero counts lines = []
-phases_text (suc phases) counts lines =
-    phase_text 1 counts (first_phase lines) ++ phases_text phases (next_counts counts (first_phase lines)) (later_phases lines)
+-- the rows of so many phases
+abbrev pub phases_rows : ℕ → List ℕ → List (List (List Line)) → List Row
+phases_rows zero counts lines = []
+phases_rows (suc phases) counts lines =
+    phase_rows 1 counts (first_phase lines) ++ phases_rows phases (next_counts counts (first_phase lines)) (later_phases lines)
 
--- the report of lines that are given by actor and phase: by phase, then by actor, then in the order of the script
+-- the rows of lines that are given by actor and phase: by phase, then by actor, then in the order of the script
+abbrev pub report_rows : ℕ → List (List (List Line)) → List Row
+report_rows phases lines = phases_rows phases (map (λ actor. 1) lines) lines
+
+-- their text
 abbrev pub report : ℕ → List (List (List Line)) → List ℕ
-report phases lines = phases_text phases (map (λ actor. 1) lines) lines
+report phases lines = rows_text (report_rows phases lines)

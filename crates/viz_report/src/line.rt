@@ -1,4 +1,4 @@
-//! Lines of a report.
+//! Lines and rows of a report.
 
 use viz_base::Word;
 use viz_network::{Fault, Refusal};
@@ -32,7 +32,7 @@ pub enum Line {
         at: u32,
         cells: u64,
         points: u64,
-        ran: u32,
+        ran: u64,
     },
     /// The surface of a node was audited: how many sides its triangles have, how many of them lie in
     /// two triangles, how many in one, and how many of these on the boundary of the image's grid.
@@ -54,4 +54,15 @@ pub enum Line {
     WriteFault,
     /// Want of memory.
     Memory,
+}
+
+/// A row of a report: the line of a command, and whose command it is.
+#[derive(Clone, Copy, PartialEq, Eq, Debug)]
+pub struct Row {
+    /// The actor, from 1.
+    pub actor: u32,
+    /// The number of the command among those of its actor, from 1.
+    pub count: u64,
+    /// What the command came to.
+    pub line: Line,
 }

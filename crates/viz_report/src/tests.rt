@@ -1,6 +1,6 @@
 //! Lines of each kind, as docs/FORMATS.md spells them.
 
-use crate::{Line, Reason, report_text};
+use crate::{Line, Reason, Row, report_text};
 use std::alloc::Global;
 use std::process::Abort;
 use std::test::Fail;
@@ -9,8 +9,20 @@ use viz_lex::{FileFault, FileKind};
 use viz_network::{Cause, Fault, Refusal};
 
 fn told(rt: &impl Abort, alloc: Global, line: Line, want: &str) -> Result<(), Fail> {
-    let lines = [Line::Memory, line];
-    let text = report_text(alloc, 3, &lines)?;
+    let memory = Row {
+        actor: 3,
+        count: 1,
+        line: Line::Memory,
+    };
+    let rows = [
+        memory,
+        Row {
+            actor: 3,
+            count: 2,
+            line,
+        },
+    ];
+    let text = report_text(alloc, &rows)?;
     let want = format!(in alloc; "memory 3 1\n{want}\n")?;
     assert!(rt; text.list() == want.as_bytes(), "{want}: {text:?}");
     Ok(())

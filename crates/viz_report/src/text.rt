@@ -1,9 +1,9 @@
-//! The text of lines.
+//! The text of rows.
 
 ghost use Rattle.std.specs.Prelude.{◌≡◌, ◌++◌, IfOk, OnOk};
-ghost use Rattle.viz_report.specs.Report.{and_number, heading, at_text, counts_text, numbers_text, behind, word_of, line_text, lines_text};
+ghost use Rattle.viz_report.specs.Report.{and_number, heading, at_text, counts_text, numbers_text, behind, word_of, row_text, rows_text};
 
-use crate::line::Line;
+use crate::line::{Line, Row};
 use crate::words::put_reason;
 use std::alloc::{AllocError, Global};
 use viz_base::Bytes;
@@ -33,12 +33,12 @@ fn put_at(text: &mut Vec<u8>, at: u32) -> Result<(), AllocError>
     put_number(text, b" at ", u64::from(at))
 }
 
-fn put_numbers(text: &mut Vec<u8>, cells: u64, points: u64, ran: u32) -> Result<(), AllocError>
+fn put_numbers(text: &mut Vec<u8>, cells: u64, points: u64, ran: u64) -> Result<(), AllocError>
     ensures { OnOk result (text.new.items ≡ text.old.items ++ numbers_text cells points ran) }
 {
     put_number(text, b" cells ", cells)?;
     put_number(text, b" points ", points)?;
-    put_number(text, b" ran ", u64::from(ran))?;
+    put_number(text, b" ran ", ran)?;
     Ok(())
 }
 
@@ -107,37 +107,22 @@ fn word_of(line: &Line) -> &'static str
     }
 }
 
-fn put_line(text: &mut Vec<u8>, actor: u32, count: u64, line: &Line) -> Result<(), AllocError>
-    ensures { OnOk result (text.new.items ≡ text.old.items ++ line_text actor count line.now) }
+fn put_row(text: &mut Vec<u8>, row: &Row) -> Result<(), AllocError>
+    ensures { OnOk result (text.new.items ≡ text.old.items ++ row_text row.now) }
 {
-    put_heading(text, word_of(line).as_bytes(), actor, count)?;
-    put_behind(text, line)?;
+    put_heading(text, word_of(&row.line).as_bytes(), row.actor, row.count)?;
+    put_behind(text, &row.line)?;
     text.push(b'\n')?;
     Ok(())
 }
 
-/// Puts lines of an actor behind a text; the first has this number among the actor's lines, which
-/// are counted from 1.
-pub fn put_lines(
-    text: &mut Vec<u8>,
-    actor: u32,
-    first: u32,
-    lines: &[Line],
-) -> Result<(), AllocError>
-    ensures { OnOk result (text.new.items
-        ≡ text.old.items ++ lines_text actor first lines.now) }
-{
-    for (i, line) in lines.iter().enumerate() {
-        put_line(text, actor, u64::from(first) + i as u64, line)?;
-    }
-    Ok(())
-}
-
-/// The text of all lines of an actor.
-pub fn report_text(alloc: Global, actor: u32, lines: &[Line]) -> Result<Bytes, AllocError>
-    ensures { IfOk result (λ text. text ≡ lines_text actor 1 lines.now) }
+/// The text of rows.
+pub fn report_text(alloc: Global, rows: &[Row]) -> Result<Bytes, AllocError>
+    ensures { IfOk result (λ text. text ≡ rows_text rows.now) }
 {
     let mut text = Vec::new(alloc);
-    put_lines(&mut text, actor, 1, lines)?;
+    for row in rows {
+        put_row(&mut text, row)?;
+    }
     Ok(Bytes::new(text))
 }

@@ -16,7 +16,7 @@ mod written;
 
 pub use evaluation::scratch;
 pub use laws::{equal_stamps_give_one, scratch_is_one};
-pub use written::{file_text, style_with, text_with};
+pub use written::{file_text, style_with, text_of, text_with};
 
 #[cfg(test)]
 mod tests;

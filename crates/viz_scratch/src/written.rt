@@ -8,11 +8,11 @@ ghost use Rattle.viz_scratch.specs.Written.{IsFileOf, IsTextOf, style_with, styl
 
 use crate::evaluation::scratch;
 use std::alloc::Global;
-use viz_base::{Bytes, NodeId};
+use viz_base::{Bytes, NodeId, Shared};
 use viz_dataset::Dataset;
 use viz_kinds::Settings;
 use viz_legacy_write::{Style, WriteStop, write_image};
-use viz_mesh_write::write_mesh;
+use viz_mesh_write::{write_mesh, write_owned_mesh};
 use viz_network::{Cause, Fault, Net, Stop};
 
 fn digits_with(digits: u8) -> u8
@@ -78,6 +78,40 @@ pub fn text_with(
     }
 }
 
+// The same of a dataset that is given up.
+fn own_text(alloc: Global, node: NodeId, style: &Style, dataset: Dataset) -> Result<Bytes, Stop>
+    ensures value { Answers (IsTextOf (style_seen style.now) node.0 dataset) result }
+{
+    let text = match dataset {
+        Dataset::Image(image) => write_image(alloc, &image, style),
+        Dataset::Mesh(mesh) => write_owned_mesh(alloc, mesh, style),
+    };
+    match text {
+        Ok(text) => Ok(text),
+        Err(stop) => Err(stopped(node, stop)),
+    }
+}
+
+/// The same of an owner that is given up: where it is the one owner of a mesh, the mesh is given up
+/// while its text is made.
+///
+/// # Errors
+///
+/// Those of `text_with`.
+pub fn text_of(
+    alloc: Global,
+    node: NodeId,
+    style: &Style,
+    dataset: Shared<Dataset>,
+) -> Result<Bytes, Stop>
+    ensures value { Answers (IsTextOf (style_seen style.now) node.0 dataset) result }
+{
+    match dataset.try_unwrap() {
+        Ok(dataset) => own_text(alloc, node, style, dataset),
+        Err(dataset) => text_with(alloc, node, style, dataset.get()),
+    }
+}
+
 /// The text of what a node gives, evaluated from scratch, in the style of the node.
 ///
 /// # Errors
@@ -89,5 +123,5 @@ pub fn file_text(alloc: Global, net: &Net, node: NodeId) -> Result<Bytes, Stop>
 {
     let dataset = scratch(alloc, net, node)?;
     let style = style_with(&net.node(node).unwrap().settings);
-    text_with(alloc, node, &style, dataset.get())
+    text_of(alloc, node, &style, dataset)
 }

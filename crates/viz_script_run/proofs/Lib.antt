@@ -1,7 +1,8 @@
-pub mod PhaseLemmas
-pub mod ScriptLemmas
 pub mod NumberLemmas
-pub mod AccountLemmas
+pub mod RowLemmas
+pub mod ActorLemmas
+pub mod FoundLemmas
+pub mod JournalLemmas
 pub mod StepsLemmas
 pub mod DeskLemmas
 pub mod RunLemmas

@@ -1,5 +1,5 @@
 -- The promises of a run of a script, from its account.
-use Rattle.std.proofs.Common.{◌≡◌, ◌≢◌, ℕ, ◌+◌, Bool, true, false, not, cond, ◌||◌, List, [], ◌∷◌, ◌++◌, Result, Ok, Err, refl, sym, ap, ap₂, subst, ◌∙◌, inl, inr, true≢false, ⊎_elim, arith}
+use Rattle.std.proofs.Common.{◌≡◌, ◌≢◌, ℕ, ◌+◌, Bool, true, false, not, cond, ◌||◌, List, [], ◌∷◌, ◌++◌, map, Result, Ok, Err, refl, sym, ap, ap₂, subst, ◌∙◌, inl, inr, true≢false, ⊎_elim, arith}
 use Rattle.std.specs.Prelude.{◌⊎◌, flat_map}
 use Rattle.std.specs.List.{list_any}
 use Rattle.std.proofs.lemmas.Bool.{or_cases}
@@ -20,39 +20,38 @@ use Rattle.viz_once.specs.Promises.{GainsLine, PutsLine}
 use Rattle.viz_once.specs.declared.outcome.Status.{Status}
 use Rattle.viz_once.specs.declared.outcome.Status.TheVariants as status
 use Rattle.viz_script.specs.Orders.{Asked as Command}
-use Rattle.viz_script.specs.Script.{script_of}
+use Rattle.viz_script.specs.Script.{script_of, phase_limit}
 use Rattle.viz_words.specs.declared.refusal.ScriptRefusal.{ScriptRefusal}
 use Rattle.viz_report.specs.declared.line.Line.{Line}
 use Rattle.viz_report.specs.declared.line.Line.TheVariants as line
-use Rattle.viz_report.specs.Report.{lines_text}
+use Rattle.viz_report.specs.declared.line.Row.{Row}
+use Rattle.viz_report.specs.Report.{rows_text}
 use Rattle.viz_account.specs.Account.{faults_told, RoseBy, AreActors}
 use Rattle.viz_script_run.specs.declared.ran.Ran.{Ran}
 use Rattle.viz_script_run.specs.declared.ran.Ran.TheVariants as ran
-use Rattle.viz_script_run.specs.Deeds.{Deed, Nothing, Asked, Kept, IsDoneAt, IsAccounted, IsServed, EndsIn, IsRan, calls_of, actors_over, is_written}
-use Rattle.viz_script_run.specs.Told.{text_of, refused_script, is_memory, is_fault, is_refused, served_status, status_after, Settles, IsPut, IsTold}
+use Rattle.viz_phases.specs.Groups.{actors_over}
+use Rattle.viz_script_run.specs.Deeds.{Deed, Nothing, Asked, Kept, IsDoneAt, IsAccounted, IsServed, EndsIn, IsRan, calls_of, is_written}
+use Rattle.viz_script_run.specs.Told.{text_of, refused_script, is_fault, has_memory, has_fault, has_refused, served_status, status_after, Settles, IsPut, IsTold}
 use Rattle.viz_script_run.specs.Promises.{IsRefusal, IsScriptRefused, EndsInScript, TellsRefusals, IsServedBy, IsReported, IsServedWithFault, IsUnread, IsCutOff, SomeRose}
+use Rattle.viz_script_run.proofs.RowLemmas.{rows_pass}
 
 abbrev pub Answer : Type 0
 Answer = Result (Unit {0}) WriteRefusal
 
 -- ---- what was told, and what the put answered, by the status
 
--- statuses of lines, by what they have
-abbrev pub by_lines : Bool → Bool → Bool → Status
-by_lines memory fault refused = cond memory status.Memory (cond fault status.Fault (cond refused status.Refused status.Done))
-
--- the lines' status with a fault, and without a journal
-abbrev pub HasFault : List Line → Bool → Type 0
-HasFault lines kept = (list_any is_memory lines ≡ false) × ((list_any is_fault lines || not kept) ≡ true)
+-- statuses of rows, by what they have
+abbrev pub by_rows : Bool → Bool → Bool → Status
+by_rows memory fault refused = cond memory status.Memory (cond fault status.Fault (cond refused status.Refused status.Done))
 
 abbrev pub ToldBy : Ran → Answer → Status → Type 0
-ToldBy r a status.Done = (lines : List Line) × (r ≡ ran.Served lines true) × (served_status lines true ≡ status.Done) × (a ≡ Ok tt)
-ToldBy r a status.Refused = (lines : List Line) × (r ≡ ran.Served lines true) × (served_status lines true ≡ status.Refused) × (a ≡ Ok tt)
+ToldBy r a status.Done = (rows : List Row) × (r ≡ ran.Served rows true) × (served_status rows true ≡ status.Done) × (a ≡ Ok tt)
+ToldBy r a status.Refused = (rows : List Row) × (r ≡ ran.Served rows true) × (served_status rows true ≡ status.Refused) × (a ≡ Ok tt)
 ToldBy r a status.Script = (line : ℕ) × (why : ScriptRefusal) × (r ≡ ran.Refused line why) × ((a ≡ Err writing.Memory) → ⊥)
 ToldBy r a status.Fault =
     ((r ≡ ran.Unread) × ((a ≡ Err writing.Memory) → ⊥))
-    ⊎ ((lines : List Line) × (kept : Bool) × (r ≡ ran.Served lines kept) × (list_any is_memory lines ≡ false)
-    × ((((list_any is_fault lines || not kept) ≡ true) × (a ≡ Ok tt)) ⊎ (a ≡ Err writing.Failed)))
+    ⊎ ((rows : List Row) × (kept : Bool) × (r ≡ ran.Served rows kept) × (has_memory rows ≡ false)
+    × ((((has_fault rows || not kept) ≡ true) × (a ≡ Ok tt)) ⊎ (a ≡ Err writing.Failed)))
 ToldBy r a status.Usage = ⊥
 ToldBy r a status.Memory = Unit {0}
 
@@ -67,30 +66,30 @@ kept_all fault true e = refl
 kept_all true false e = absurd (true≢false e)
 kept_all false false e = absurd (true≢false e)
 
-module _ (lines : List Line) (kept : Bool) where
-  status_is : (m f r : Bool) → list_any is_memory lines ≡ m → (list_any is_fault lines || not kept) ≡ f → list_any is_refused lines ≡ r
-      → served_status lines kept ≡ by_lines m f r
+module _ (rows : List Row) (kept : Bool) where
+  status_is : (m f r : Bool) → has_memory rows ≡ m → (has_fault rows || not kept) ≡ f → has_refused rows ≡ r
+      → served_status rows kept ≡ by_rows m f r
   status_is m f r em ef er =
-      ap (λ (x : Bool). by_lines x (list_any is_fault lines || not kept) (list_any is_refused lines)) em
-      ∙ ap (λ (x : Bool). by_lines m x (list_any is_refused lines)) ef
-      ∙ ap (λ (x : Bool). by_lines m f x) er
+      ap (λ (x : Bool). by_rows x (has_fault rows || not kept) (has_refused rows)) em
+      ∙ ap (λ (x : Bool). by_rows m x (has_refused rows)) ef
+      ∙ ap (λ (x : Bool). by_rows m f x) er
 
-  whole : (ended : Status) → kept ≡ true → served_status lines kept ≡ ended → (r : Ran) → r ≡ ran.Served lines kept
-      → (all : List Line) × (r ≡ ran.Served all true) × (served_status all true ≡ ended) × ((let a : Answer = Ok tt in a) ≡ Ok tt)
-  whole ended kept_is is r e = (lines, e ∙ ap (λ (k : Bool). ran.Served lines k) kept_is, subst (λ (k : Bool). served_status lines k ≡ ended) kept_is is, refl)
+  whole : (ended : Status) → kept ≡ true → served_status rows kept ≡ ended → (r : Ran) → r ≡ ran.Served rows kept
+      → (all : List Row) × (r ≡ ran.Served all true) × (served_status all true ≡ ended) × ((let a : Answer = Ok tt in a) ≡ Ok tt)
+  whole ended kept_is is r e = (rows, e ∙ ap (λ (k : Bool). ran.Served rows k) kept_is, subst (λ (k : Bool). served_status rows k ≡ ended) kept_is is, refl)
 
-  served_told : (m f r : Bool) → list_any is_memory lines ≡ m → (list_any is_fault lines || not kept) ≡ f → list_any is_refused lines ≡ r
-      → ToldBy (ran.Served lines kept) (Ok tt) (by_lines m f r)
+  served_told : (m f r : Bool) → has_memory rows ≡ m → (has_fault rows || not kept) ≡ f → has_refused rows ≡ r
+      → ToldBy (ran.Served rows kept) (Ok tt) (by_rows m f r)
   served_told true f r em ef er = tt
-  served_told false true r em ef er = inr (lines, kept, refl, em, inl (ef, refl))
+  served_told false true r em ef er = inr (rows, kept, refl, em, inl (ef, refl))
   served_told false false true em ef er =
-      whole status.Refused (kept_all (list_any is_fault lines) kept ef) (status_is false false true em ef er) (ran.Served lines kept) refl
+      whole status.Refused (kept_all (has_fault rows) kept ef) (status_is false false true em ef er) (ran.Served rows kept) refl
   served_told false false false em ef er =
-      whole status.Done (kept_all (list_any is_fault lines) kept ef) (status_is false false false em ef er) (ran.Served lines kept) refl
+      whole status.Done (kept_all (has_fault rows) kept ef) (status_is false false false em ef er) (ran.Served rows kept) refl
 
-  failed_told : (m : Bool) → list_any is_memory lines ≡ m → ToldBy (ran.Served lines kept) (Err writing.Failed) (cond m status.Memory status.Fault)
+  failed_told : (m : Bool) → has_memory rows ≡ m → ToldBy (ran.Served rows kept) (Err writing.Failed) (cond m status.Memory status.Fault)
   failed_told true em = tt
-  failed_told false em = inr (lines, kept, refl, em, inr refl)
+  failed_told false em = inr (rows, kept, refl, em, inr refl)
 
 told_by : (r : Ran) (a : Answer) → ToldBy r a (status_after r a)
 told_by ran.Unread (Ok done) = inl (refl, no_memory)
@@ -99,9 +98,9 @@ told_by ran.Unread (Err writing.Memory) = tt
 told_by (ran.Refused line why) (Ok done) = (line, why, refl, no_memory)
 told_by (ran.Refused line why) (Err writing.Failed) = (line, why, refl, failed_is_no_memory)
 told_by (ran.Refused line why) (Err writing.Memory) = tt
-told_by (ran.Served lines kept) (Ok done) = served_told lines kept (list_any is_memory lines) (list_any is_fault lines || not kept) (list_any is_refused lines) refl refl refl
-told_by (ran.Served lines kept) (Err writing.Failed) = failed_told lines kept (list_any is_memory lines) refl
-told_by (ran.Served lines kept) (Err writing.Memory) = tt
+told_by (ran.Served rows kept) (Ok done) = served_told rows kept (has_memory rows) (has_fault rows || not kept) (has_refused rows) refl refl refl
+told_by (ran.Served rows kept) (Err writing.Failed) = failed_told rows kept (has_memory rows) refl
+told_by (ran.Served rows kept) (Err writing.Memory) = tt
 told_by ran.Memory (Ok done) = tt
 told_by ran.Memory (Err writing.Failed) = tt
 told_by ran.Memory (Err writing.Memory) = tt
@@ -119,13 +118,13 @@ found_is found told o settles is apart = elim settles [
 -- ---- what was done, by how the run ended
 
 module _ {P : Type 0} (m : port.Ghosts P) (old new : List P) where
-  served_deed : (deed : Deed) (lines : List Line) (kept : Bool) → EndsIn m deed (ran.Served lines kept) old new
-      → (bytes : List ℕ) × (text : List ℕ) × (answer : WriteAnswer) × (deed ≡ Kept bytes text answer) × IsAccounted m bytes lines text old new × (kept ≡ is_written answer)
-  served_deed Nothing lines kept h = absurd h
-  served_deed (Asked read.Failed) lines kept h = absurd h
-  served_deed (Asked (read.TooLong taken)) lines kept h = absurd h
-  served_deed (Asked (read.Given bytes)) lines kept h = absurd h
-  served_deed (Kept bytes text answer) lines kept h = (bytes, text, answer, refl, h.0, h.1)
+  served_deed : (deed : Deed) (rows : List Row) (kept : Bool) → EndsIn m deed (ran.Served rows kept) old new
+      → (bytes : List ℕ) × (text : List ℕ) × (answer : WriteAnswer) × (deed ≡ Kept bytes text answer) × IsAccounted m bytes rows text old new × (kept ≡ is_written answer)
+  served_deed Nothing rows kept h = absurd h
+  served_deed (Asked read.Failed) rows kept h = absurd h
+  served_deed (Asked (read.TooLong taken)) rows kept h = absurd h
+  served_deed (Asked (read.Given bytes)) rows kept h = absurd h
+  served_deed (Kept bytes text answer) rows kept h = (bytes, text, answer, refl, h.0, h.1)
 
   refused_deed : (deed : Deed) (line : ℕ) (why : ScriptRefusal) → EndsIn m deed (ran.Refused line why) old new
       → (answer : ReadAnswer) × (deed ≡ Asked answer) × IsRefusal (actors_over old) answer line why × (new ≡ old)
@@ -186,7 +185,7 @@ module _ {P : Type 0} (m : port.Ghosts P) (old new : List P) where
   refused_or_memory read.Failed line why found is h = absurd is
   refused_or_memory (read.TooLong taken) line why (ran.Refused l r) is h = (h.2, inr (ap₂ ran.Refused (h.0 ∙ sym is.0) (h.1 ∙ sym is.1)))
   refused_or_memory (read.TooLong taken) line why ran.Unread is h = absurd h
-  refused_or_memory (read.TooLong taken) line why (ran.Served lines kept) is h = absurd h
+  refused_or_memory (read.TooLong taken) line why (ran.Served rows kept) is h = absurd h
   refused_or_memory (read.TooLong taken) line why ran.Memory is h = absurd h
   refused_or_memory (read.Given bytes) line why (ran.Refused l r) is h =
       (h.1, inr (ap (λ (x : ℕ × ScriptRefusal). ran.Refused x.0 x.1) (same_refusal (l, r) (line, why) (script_of (actors_over old) bytes) h.0 is)))
@@ -196,7 +195,7 @@ module _ {P : Type 0} (m : port.Ghosts P) (old new : List P) where
       unserved (inl same) = same
       unserved (inr s) = absurd (let bad : Ok s.2.steps ≡ Err (line, why) = sym s.2.reads ∙ is in cc)
   refused_or_memory (read.Given bytes) line why ran.Unread is h = absurd h
-  refused_or_memory (read.Given bytes) line why (ran.Served lines kept) is h = absurd h
+  refused_or_memory (read.Given bytes) line why (ran.Served rows kept) is h = absurd h
 
 -- the status of a put that tells that there is nothing to serve, or that memory ran out
 module _ {O : Type 0} (o : out.Ghosts O) (old new : O) where
@@ -266,26 +265,26 @@ module _ {P O : Type 0} (m : port.Ghosts P) (o : out.Ghosts O) (script journal :
   ends_in : (r : Ran) → found ≡ r → EndsIn m came.0 r old new
   ends_in r is = subst (λ (x : Ran). EndsIn m came.0 x old new) is came.1
 
-  served_lines : (lines : List Line) (kept : Bool) → found ≡ ran.Served lines kept
-      → (answer : WriteAnswer) × IsServedBy m script journal lines answer desk new_desk old new × (kept ≡ is_written answer)
-  served_lines lines kept is =
-      let d = served_deed m old new came.0 lines kept (ends_in (ran.Served lines kept) is) in
+  served_rows : (rows : List Row) (kept : Bool) → found ≡ ran.Served rows kept
+      → (answer : WriteAnswer) × IsServedBy m script journal rows answer desk new_desk old new × (kept ≡ is_written answer)
+  served_rows rows kept is =
+      let d = served_deed m old new came.0 rows kept (ends_in (ran.Served rows kept) is) in
       (d.2, (d.0, d.1, d.4, deed_is (Kept d.0 d.1 d.2) d.3), d.5)
 
-  found_served : (lines : List Line) (kept : Bool) → telling.0 ≡ ran.Served lines kept → found ≡ ran.Served lines kept
-  found_served lines kept is = found_is found telling.0 (ran.Served lines kept) telling.2 is (λ e. let bad : ran.Memory ≡ ran.Served lines kept = e in cc)
+  found_served : (rows : List Row) (kept : Bool) → telling.0 ≡ ran.Served rows kept → found ≡ ran.Served rows kept
+  found_served rows kept is = found_is found telling.0 (ran.Served rows kept) telling.2 is (λ e. let bad : ran.Memory ≡ ran.Served rows kept = e in cc)
 
   text_put : (r : Ran) → telling.0 ≡ r → IsPut o (text_of r) telling.1 before after
   text_put r is = as_text o telling.0 r telling.1 before after is telling.4
 
-  reported : (known : Status) → (lines : List Line) × (telling.0 ≡ ran.Served lines true) × (served_status lines true ≡ known) × (telling.1 ≡ Ok tt)
+  reported : (known : Status) → (rows : List Row) × (telling.0 ≡ ran.Served rows true) × (served_status rows true ≡ known) × (telling.1 ≡ Ok tt)
       → IsReported m o script journal known desk new_desk old new before after
   reported known t =
-      let s = served_lines t.0 true (found_served t.0 true t.1) in (
+      let s = served_rows t.0 true (found_served t.0 true t.1) in (
         t.0,
         subst (λ (answer : WriteAnswer). IsServedBy m script journal t.0 answer desk new_desk old new) (written_is s.0 s.2) s.1,
         t.2,
-        gains o (lines_text 1 1 t.0) before after telling.1 t.3 (text_put (ran.Served t.0 true) t.1),
+        gains o (rows_text t.0) before after telling.1 t.3 (text_put (ran.Served t.0 true) t.1),
       )
 
   pub done : ended ≡ status.Done → IsReported m o script journal status.Done desk new_desk old new before after
@@ -314,28 +313,28 @@ module _ {P O : Type 0} (m : port.Ghosts P) (o : out.Ghosts O) (script journal :
       let d = unread_deed m old new came.0 (ends_in ran.Unread f) in
       (deed_is (Asked read.Failed) d.0, d.1, puts o (text_of ran.Unread) before after telling.1 (text_put ran.Unread is))
 
-  why : (lines : List Line) (kept : Bool) (answer : WriteAnswer) → kept ≡ is_written answer
-      → (((list_any is_fault lines || not kept) ≡ true) × (telling.1 ≡ Ok tt)) ⊎ (telling.1 ≡ Err writing.Failed)
-      → (list_any is_fault lines ≡ true) ⊎ ((answer ≡ write.Failed) ⊎ Rose (o.faults before) (o.faults after))
-  why lines kept answer is (inl t) =
-      ⊎_elim (λ (line : list_any is_fault lines ≡ true). inl line) (λ (lost : not kept ≡ true). inr (inl (failed_is answer (sym (ap not is) ∙ lost)))) (or_cases (list_any is_fault lines) (not kept) t.0)
-  why lines kept answer is (inr failed) = inr (inr (telling.4.cause failed))
+  why : (rows : List Row) (kept : Bool) (answer : WriteAnswer) → kept ≡ is_written answer
+      → (((has_fault rows || not kept) ≡ true) × (telling.1 ≡ Ok tt)) ⊎ (telling.1 ≡ Err writing.Failed)
+      → (has_fault rows ≡ true) ⊎ ((answer ≡ write.Failed) ⊎ Rose (o.faults before) (o.faults after))
+  why rows kept answer is (inl t) =
+      ⊎_elim (λ (line : has_fault rows ≡ true). inl line) (λ (lost : not kept ≡ true). inr (inl (failed_is answer (sym (ap not is) ∙ lost)))) (or_cases (has_fault rows) (not kept) t.0)
+  why rows kept answer is (inr failed) = inr (inr (telling.4.cause failed))
 
   pub fault : ended ≡ status.Fault → IsServedWithFault m o script journal desk new_desk old new before after ⊎ IsUnread m o script journal desk new_desk old new before after
   fault is = elim (told_at telling.0 telling.1 ended status.Fault telling.3 is) [
     | inl t ↦ inr (unread t.0)
     | inr t ↦
-        let s = served_lines t.0 t.1 (found_served t.0 t.1 t.2) in
-        inl (t.0, s.0, s.1, t.3, why t.0 t.1 s.0 s.2 t.4, puts o (lines_text 1 1 t.0) before after telling.1 (text_put (ran.Served t.0 t.1) t.2))
+        let s = served_rows t.0 t.1 (found_served t.0 t.1 t.2) in
+        inl (t.0, s.0, s.1, t.3, why t.0 t.1 s.0 s.2 t.4, puts o (rows_text t.0) before after telling.1 (text_put (ran.Served t.0 t.1) t.2))
   ]
 
-  rose_in : (lines : List Line) (answer : WriteAnswer) → IsServedBy m script journal lines answer desk new_desk old new
-      → (list_any is_fault lines ≡ true) ⊎ ((answer ≡ write.Failed) ⊎ Rose (o.faults before) (o.faults after))
+  rose_in : (rows : List Row) (answer : WriteAnswer) → IsServedBy m script journal rows answer desk new_desk old new
+      → (has_fault rows ≡ true) ⊎ ((answer ≡ write.Failed) ⊎ Rose (o.faults before) (o.faults after))
       → Rose (m.faults desk) (m.faults new_desk) ⊎ (SomeRose m old new ⊎ Rose (o.faults before) (o.faults after))
-  rose_in lines answer s (inl line) =
-      inr (inl (some_rose m _ s.2.history s.2.account.ends s.2.account.passes _ s.2.told old new s.2.account.actors (sym (ap (list_any is_fault) s.2.lines_are) ∙ line)))
-  rose_in lines answer s (inr (inl lost)) = inl ((subst (λ (a : WriteAnswer). IsDoneAt m script journal (Kept s.0 s.1 a) desk new_desk) lost s.3).cause tt)
-  rose_in lines answer s (inr (inr text)) = inr (inr text)
+  rose_in rows answer s (inl line) =
+      inr (inl (some_rose m _ s.2.history s.2.account.ends s.2.account.passes _ s.2.told old new s.2.account.actors (rows_pass is_fault phase_limit (map (λ (actor : List (List Line)). 1) s.2.told) s.2.told (sym (ap has_fault s.2.rows_are) ∙ line))))
+  rose_in rows answer s (inr (inl lost)) = inl ((subst (λ (a : WriteAnswer). IsDoneAt m script journal (Kept s.0 s.1 a) desk new_desk) lost s.3).cause tt)
+  rose_in rows answer s (inr (inr text)) = inr (inr text)
 
   pub cause : ended ≡ status.Fault → Rose (m.faults desk) (m.faults new_desk) ⊎ (SomeRose m old new ⊎ Rose (o.faults before) (o.faults after))
   cause is = elim (fault is) [
@@ -347,20 +346,20 @@ module _ {P O : Type 0} (m : port.Ghosts P) (o : out.Ghosts O) (script journal :
   cut_off_in Nothing ran.Memory h d = inl h
   cut_off_in Nothing ran.Unread h d = absurd h
   cut_off_in Nothing (ran.Refused line r) h d = absurd h
-  cut_off_in Nothing (ran.Served lines kept) h d = absurd h
+  cut_off_in Nothing (ran.Served rows kept) h d = absurd h
   cut_off_in (Asked read.Failed) ran.Unread h d = inl h
   cut_off_in (Asked read.Failed) ran.Memory h d = absurd h
   cut_off_in (Asked read.Failed) (ran.Refused line r) h d = absurd h
-  cut_off_in (Asked read.Failed) (ran.Served lines kept) h d = absurd h
+  cut_off_in (Asked read.Failed) (ran.Served rows kept) h d = absurd h
   cut_off_in (Asked (read.TooLong taken)) (ran.Refused line r) h d = inl h.2
   cut_off_in (Asked (read.TooLong taken)) ran.Memory h d = absurd h
   cut_off_in (Asked (read.TooLong taken)) ran.Unread h d = absurd h
-  cut_off_in (Asked (read.TooLong taken)) (ran.Served lines kept) h d = absurd h
+  cut_off_in (Asked (read.TooLong taken)) (ran.Served rows kept) h d = absurd h
   cut_off_in (Asked (read.Given bytes)) (ran.Refused line r) h d = inl h.1
   cut_off_in (Asked (read.Given bytes)) ran.Memory h d = elim h [ inl same ↦ inl same | inr served ↦ inr (inl (bytes, served, d)) ]
   cut_off_in (Asked (read.Given bytes)) ran.Unread h d = absurd h
-  cut_off_in (Asked (read.Given bytes)) (ran.Served lines kept) h d = absurd h
-  cut_off_in (Kept bytes text answer) (ran.Served lines kept) h d = inr (inr (lines, answer, (bytes, text, h.0, d)))
+  cut_off_in (Asked (read.Given bytes)) (ran.Served rows kept) h d = absurd h
+  cut_off_in (Kept bytes text answer) (ran.Served rows kept) h d = inr (inr (rows, answer, (bytes, text, h.0, d)))
   cut_off_in (Kept bytes text answer) ran.Memory h d = absurd h
   cut_off_in (Kept bytes text answer) ran.Unread h d = absurd h
   cut_off_in (Kept bytes text answer) (ran.Refused line r) h d = absurd h

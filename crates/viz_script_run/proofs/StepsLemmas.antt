@@ -1,66 +1,91 @@
--- The steps of a script over all ports, and the account of its bytes.
-use Rattle.std.proofs.Common.{◌≡◌, ℕ, ◌<◌, ◌≤◌, Bool, List, [], ◌∷◌, length, map, Result, Ok, refl, sym, ap, subst, ◌∙◌, inl, inr, arith}
-use Rattle.std.specs.Prelude.{slice_index_or, slice_set}
+-- The account of a script's bytes, from what serving its commands came to.
+use Rattle.std.proofs.Common.{◌≡◌, ℕ, List, [], ◌∷◌, map, Ok, refl, sym, subst, inl, inr}
+use Rattle.std.specs.List.{All}
 use Rattle.viz_base.specs.declared.port.Port as port
 use Rattle.viz_base.specs.declared.call.ReadAnswer.TheVariants as read
 use Rattle.viz_base.specs.declared.call.WriteAnswer.{WriteAnswer}
 use Rattle.viz_core.specs.declared.entry.Entry.{Entry}
-use Rattle.viz_journal.specs.declared.entry.JournalEntry.{JournalEntry}
-use Rattle.viz_journal.specs.Journal.{journal}
-use Rattle.viz_script.specs.declared.order.Step.{Step}
-use Rattle.viz_script.specs.Script.{Stepped, stepped, script_of}
+use Rattle.viz_script.specs.Orders.{Asked as Command}
+use Rattle.viz_script.specs.Script.{Stepped, script_of, phase_limit}
 use Rattle.viz_report.specs.declared.line.Line.{Line}
+use Rattle.viz_report.specs.declared.line.Row.{Row}
+use Rattle.viz_report.specs.Report.{report_rows}
+use Rattle.viz_account.specs.Account.{AreActors, IsAccountOf}
+use Rattle.viz_account.specs.Laws.{IsClosedLine, AuditLinesAreClosed}
 use Rattle.viz_script_run.specs.declared.ran.Ran.{Ran}
 use Rattle.viz_script_run.specs.declared.ran.Ran.TheVariants as ran
-use Rattle.viz_script_run.specs.Journals.{numbered, journal_of}
-use Rattle.viz_script_run.specs.Deeds.{Asked, Kept, EndsIn, IsAccounted, IsServed, actors_over, is_written}
-use Rattle.viz_script_run.specs.Serving.{IsAccount, IsServedFirst, AreOfScript, IsLeft, IsWrittenTo, IsServedWith, IsKept, IsRanBehind}
-use Rattle.viz_script_run.proofs.AccountLemmas.{account_of_one, account_of_none}
+use Rattle.viz_phases.specs.Groups.{by_actor, actors_over, history_limit}
+use Rattle.viz_script_run.specs.Journals.{journal_of}
+use Rattle.viz_phases.specs.Served.{IsServedScript}
+use Rattle.viz_script_run.specs.Numbering.{actors_of, TellsActor, AreOwn, IsJournalBy}
+use Rattle.viz_script_run.specs.Deeds.{Asked, Kept, EndsIn, IsAccounted, IsServed}
+use Rattle.viz_script_run.specs.Serving.{IsServedWith, IsKept, IsRanBehind}
+use Rattle.viz_script_run.proofs.RowLemmas.{rows_hold}
+use Rattle.viz_script_run.proofs.ActorLemmas.{Own, rows_tell}
 
--- ---- steps over ports
+-- ---- the passes of an account
 
-pub account_without : {P : Type 0} (m : port.Ghosts P) (steps : List Step) (lines : List Line) (history : List Entry) (ports : List P) → length ports < 1 → lines ≡ [] → history ≡ []
-    → IsAccount m (map stepped steps) lines history ports ports
-account_without m steps lines history [] none l h =
-    subst (λ (ls : List Line). IsAccount m (map stepped steps) ls history [] []) (sym l) (subst (λ (es : List Entry). IsAccount m (map stepped steps) [] es [] []) (sym h) (account_of_none m (map stepped steps)))
-account_without m steps lines history (p ∷ ps) none l h = absurd (omega (arith, none))
+module _ {P : Type 0} (m : port.Ghosts P) (limit : ℕ) (h : List Entry) (ends : List ℕ) where
+  own_of_actors : (passes : List (List ℕ)) (script : List (List (List Command))) (told : List (List (List Line))) (before after : List P)
+      → AreActors m limit h passes script told ends before after → Own h passes told
+  own_of_actors [] [] [] before after a = tt
+  own_of_actors [] [] (l ∷ told) before after a = absurd a
+  own_of_actors [] (s ∷ script) told before after a = absurd a
+  own_of_actors (p ∷ passes) [] told before after a = absurd a
+  own_of_actors (p ∷ passes) (s ∷ script) [] before after a = absurd a
+  own_of_actors (p ∷ passes) (s ∷ script) (l ∷ told) [] after a = absurd a
+  own_of_actors (p ∷ passes) (s ∷ script) (l ∷ told) (b ∷ before) [] a = absurd a
+  own_of_actors (p ∷ passes) (s ∷ script) (l ∷ told) (b ∷ before) (c ∷ after) a = (a.0.own, own_of_actors passes script told before after a.1)
 
-pub account_over : {P : Type 0} (m : port.Ghosts P) (steps : List Step) (lines : List Line) (history : List Entry) (ports : List P) (x q : P) → 1 ≤ length ports → AreOfScript steps ports
-    → IsServedFirst m steps lines history (slice_index_or ports 0 x) q → IsAccount m (map stepped steps) lines history ports (slice_set ports 0 q)
-account_over m steps lines history [] x q some script served = absurd (omega (arith, some))
-account_over m steps lines history (p ∷ ps) x q some script served =
-    account_of_one m script.0 steps lines history p q ps script.1 served.served served.legal served.within served.own served.accounted served.closed served.reported
+-- the passes belong to the actors of the rows
+are_own : {P : Type 0} (m : port.Ghosts P) (limit phases : ℕ) (script : List (List (List Command))) (rows : List Row) (h : List Entry) (told : List (List (List Line))) (before after : List P)
+    → (a : IsAccountOf m limit script h told before after) → rows ≡ report_rows phases told → AreOwn a.passes h rows
+are_own m limit phases script rows h told before after a rows_are = record {
+  apart = a.apart;
+  whole = a.whole;
+  told = subst (All (TellsActor (actors_of a.passes h))) (sym rows_are)
+      (rows_tell h a.passes told phases (map (λ (actor : List (List Line)). 1) told) a.apart (own_of_actors m limit h a.ends a.passes script told before after a.actors));
+}
+
+-- the rows of audits are closed
+are_closed : {P : Type 0} (m : port.Ghosts P) (limit phases : ℕ) (script : List (List (List Command))) (rows : List Row) (h : List Entry) (told : List (List (List Line))) (before after : List P)
+    → AuditLinesAreClosed m → IsAccountOf m limit script h told before after → rows ≡ report_rows phases told → All (λ (r : Row). IsClosedLine r.line) rows
+are_closed m limit phases script rows h told before after closed a rows_are =
+    subst (All (λ (r : Row). IsClosedLine r.line)) (sym rows_are) (rows_hold IsClosedLine phases (map (λ (actor : List (List Line)). 1) told) told (closed limit script h told before after a))
 
 -- ---- the account of bytes
 
-module _ {P : Type 0} (m : port.Ghosts P) (bytes name : List ℕ) (steps : List Step) (lines : List Line) (history : List Entry) (old new : List P) (came : Ran) (desk new_desk : P)
-    (reads : script_of (actors_over old) bytes ≡ Ok (map stepped steps))
-    (account : IsAccount m (map stepped steps) lines history old new) where
-  abbrev text : List ℕ
-  text = journal (numbered ((0 ∷ []) ∷ []) [] history)
+module _ {P : Type 0} (m : port.Ghosts P) (bytes name : List ℕ) (steps : List Stepped) (rows : List Row) (history : List Entry) (old new : List P) (came : Ran) (desk new_desk : P)
+    (reads : script_of (actors_over old) bytes ≡ Ok steps)
+    (closed : AuditLinesAreClosed m)
+    (s : IsServedScript m steps rows history old new) where
+  abbrev script : List (List (List Command))
+  script = by_actor (actors_over old) phase_limit steps
 
-  accounted : (ls : List Line) → ls ≡ lines → IsAccounted m bytes ls text old new
-  accounted ls is = subst (λ (x : List Line). IsAccounted m bytes x text old new) (sym is) (record {
-    steps = map stepped steps;
+  accounted : (all : List Row) (text : List ℕ) → all ≡ rows → text ≡ journal_of s.account.passes history → IsAccounted m bytes all text old new
+  accounted all text is journal = subst (λ (x : List Row). IsAccounted m bytes x text old new) (sym is) (record {
+    steps = steps;
     history = history;
-    told = account.told;
+    told = s.told;
     reads = reads;
-    account = account.account;
-    lines_are = account.lines_are;
-    closed = account.closed;
-    report_is = account.report_is;
-    journal = ap journal (sym account.numbers);
+    account = s.account;
+    rows_are = s.rows_are;
+    closed = are_closed m history_limit phase_limit script rows history s.told old new closed s.account s.rows_are;
+    journal = journal;
   })
 
   served : IsServed m bytes old new
-  served = (lines, text, accounted lines refl)
+  served = (rows, journal_of s.account.passes history, accounted rows (journal_of s.account.passes history) refl refl)
 
-  served_with : (r : Ran) (answer : WriteAnswer) → IsServedWith lines answer r → EndsIn m (Kept bytes text answer) r old new
-  served_with (ran.Served all kept) answer s = (accounted all s.0, s.1)
-  served_with ran.Unread answer s = absurd s
-  served_with (ran.Refused line why) answer s = absurd s
-  served_with ran.Memory answer s = absurd s
+  by_rows : (text : List ℕ) → IsJournalBy rows history text → text ≡ journal_of s.account.passes history
+  by_rows text journal = journal s.account.passes (are_own m history_limit phase_limit script rows history s.told old new s.account s.rows_are)
 
-  pub served_behind : IsKept m name lines history came desk new_desk → IsRanBehind m bytes name came desk new_desk old new
+  served_with : (r : Ran) (text : List ℕ) (answer : WriteAnswer) → IsJournalBy rows history text → IsServedWith rows answer r → EndsIn m (Kept bytes text answer) r old new
+  served_with (ran.Served all kept) text answer journal w = (accounted all text w.0 (by_rows text journal), w.1)
+  served_with ran.Unread text answer journal w = absurd w
+  served_with (ran.Refused line why) text answer journal w = absurd w
+  served_with ran.Memory text answer journal w = absurd w
+
+  pub served_behind : IsKept m name rows history came desk new_desk → IsRanBehind m bytes name came desk new_desk old new
   served_behind (inl memory) = inl (subst (λ (r : Ran). EndsIn m (Asked (read.Given bytes)) r old new) (sym memory.0) (inr served), memory.1)
-  served_behind (inr kept) = inr (text, kept.0, served_with came kept.0 kept.1, kept.2)
+  served_behind (inr kept) = inr (kept.0, kept.1, served_with came kept.0 kept.1 kept.2 kept.3, kept.4)

@@ -1,5 +1,5 @@
 -- What a run of a script did: at the desk, at the ports, and how it ended (docs/DEFINITIONS.md, "The account of a script").
-use Rattle.std.specs.Prelude.{◌≡◌, ℕ, ◌≤◌, Bool, true, false, List, [], ◌∷◌, ◌++◌, ◌⊎◌, flat_map, All, Option, Some, Result, Ok, Err, IsTrue}
+use Rattle.std.specs.Prelude.{◌≡◌, ℕ, ◌≤◌, Bool, true, false, List, [], ◌∷◌, ◌++◌, ◌⊎◌, All, Some, Ok, Err, IsTrue}
 use Rattle.viz_base.specs.Faults.{Rose}
 use Rattle.viz_base.specs.Files.{Files, SameFiles, SameOthers}
 use Rattle.viz_base.specs.declared.port.Port as port
@@ -12,15 +12,15 @@ use Rattle.viz_base.specs.declared.call.WriteAnswer.TheVariants as write
 use Rattle.viz_core.specs.declared.entry.Entry.{Entry}
 use Rattle.viz_once.specs.Account.{TellsFile, LeavesText}
 use Rattle.viz_script.specs.Script.{Stepped, script_of, phase_limit}
-use Rattle.viz_words.specs.declared.refusal.ScriptRefusal.{ScriptRefusal}
 use Rattle.viz_words.specs.declared.refusal.ScriptRefusal.TheVariants as refusal
 use Rattle.viz_report.specs.declared.line.Line.{Line}
-use Rattle.viz_report.specs.Report.{lines_text, report}
+use Rattle.viz_report.specs.declared.line.Row.{Row}
+use Rattle.viz_report.specs.Report.{report_rows}
 use Rattle.viz_account.specs.Account.{IsAccountOf}
 use Rattle.viz_account.specs.Laws.{IsClosedLine}
 use Rattle.viz_script_run.specs.declared.ran.Ran.{Ran}
 use Rattle.viz_script_run.specs.declared.ran.Ran.TheVariants as ran
-use Rattle.viz_script_run.specs.Groups.{by_actor}
+use Rattle.viz_phases.specs.Groups.{by_actor, actors_over, history_limit}
 use Rattle.viz_script_run.specs.Journals.{journal_of}
 
 -- ---- the desk
@@ -60,35 +60,24 @@ pub record IsDoneAt {P : Type 0} (m : port.Ghosts P) (script journal : List ℕ)
 
 -- ---- the ports
 
--- how many actors a script may have over these ports: one, where there is a port
-abbrev pub actors_over : {P : Type 0} → List P → ℕ
-actors_over [] = 0
-actors_over (p ∷ ps) = 1
-
--- the most entries of the history of a script
-abbrev pub history_limit : ℕ
-history_limit = 65536
-
--- the account of the script of these bytes: a history, whose journal is this text, and a line for each command, whose
--- report is that of these lines;
--- what their audits counted is closed up to the boundary
-pub record IsAccounted {P : Type 0} (m : port.Ghosts P) (bytes : List ℕ) (lines : List Line) (text : List ℕ)
+-- the account of the script of these bytes: a history, whose journal is this text, and a line for each command, of which
+-- these are the rows; what their audits counted is closed up to the boundary
+pub record IsAccounted {P : Type 0} (m : port.Ghosts P) (bytes : List ℕ) (rows : List Row) (text : List ℕ)
     (old new : List P) : Type 0 where
   pub steps : List Stepped
   pub history : List Entry
   pub told : List (List (List Line))
   pub reads : script_of (actors_over old) bytes ≡ Ok steps
   pub account : IsAccountOf m history_limit (by_actor (actors_over old) phase_limit steps) history told old new
-  pub lines_are : lines ≡ flat_map (λ phases. flat_map (λ ls. ls) phases) told
-  pub closed : All IsClosedLine lines
-  pub report_is : lines_text 1 1 lines ≡ report phase_limit told
+  pub rows_are : rows ≡ report_rows phase_limit told
+  pub closed : All (λ r. IsClosedLine r.line) rows
   pub journal : text ≡ journal_of account.passes history
 
 -- ---- how it ended
 
 -- the script of these bytes was served, though memory ran out then
 abbrev pub IsServed : {P : Type 0} → port.Ghosts P → List ℕ → List P → List P → Type 0
-IsServed m bytes old new = (lines : List Line) × (text : List ℕ) × IsAccounted m bytes lines text old new
+IsServed m bytes old new = (rows : List Row) × (text : List ℕ) × IsAccounted m bytes rows text old new
 
 -- whether a write was done
 abbrev pub is_written : WriteAnswer → Bool
@@ -102,7 +91,7 @@ EndsIn m (Asked read.Failed) ran.Unread old new = new ≡ old
 EndsIn m (Asked (read.TooLong taken)) (ran.Refused line r) old new = (line ≡ 0) × (r ≡ refusal.TooLong) × (new ≡ old)
 EndsIn m (Asked (read.Given bytes)) (ran.Refused line r) old new = (script_of (actors_over old) bytes ≡ Err (line, r)) × (new ≡ old)
 EndsIn m (Asked (read.Given bytes)) ran.Memory old new = (new ≡ old) ⊎ IsServed m bytes old new
-EndsIn m (Kept bytes text answer) (ran.Served lines kept) old new = IsAccounted m bytes lines text old new × (kept ≡ is_written answer)
+EndsIn m (Kept bytes text answer) (ran.Served rows kept) old new = IsAccounted m bytes rows text old new × (kept ≡ is_written answer)
 EndsIn m deed came old new = ⊥
 
 -- a run of a script over a desk and ports

@@ -1,6 +1,6 @@
-pub mod Groups
 pub mod Journals
 pub mod Deeds
 pub mod Told
 pub mod Promises
+pub mod Numbering
 pub mod Serving

@@ -1,6 +1,5 @@
 -- What a run of a script promises of its status, its text, its calls and the files (docs/FORMATS.md, "Report").
 use Rattle.std.specs.Prelude.{◌≡◌, ℕ, true, false, List, [], ◌∷◌, ◌++◌, ◌⊎◌, Err, IsTrue}
-use Rattle.std.specs.List.{list_any}
 use Rattle.viz_base.specs.Faults.{Rose}
 use Rattle.viz_base.specs.declared.port.Port as port
 use Rattle.viz_base.specs.declared.out.Out as out
@@ -16,10 +15,11 @@ use Rattle.viz_once.specs.declared.outcome.Status.TheVariants as status
 use Rattle.viz_script.specs.Script.{script_of}
 use Rattle.viz_words.specs.declared.refusal.ScriptRefusal.{ScriptRefusal}
 use Rattle.viz_words.specs.declared.refusal.ScriptRefusal.TheVariants as refusal
-use Rattle.viz_report.specs.declared.line.Line.{Line}
-use Rattle.viz_report.specs.Report.{lines_text}
-use Rattle.viz_script_run.specs.Deeds.{Asked, Kept, IsDoneAt, IsAccounted, IsServed, actors_over}
-use Rattle.viz_script_run.specs.Told.{refused_script, served_status, is_memory, is_fault}
+use Rattle.viz_report.specs.declared.line.Row.{Row}
+use Rattle.viz_report.specs.Report.{rows_text}
+use Rattle.viz_phases.specs.Groups.{actors_over}
+use Rattle.viz_script_run.specs.Deeds.{Asked, Kept, IsDoneAt, IsAccounted, IsServed}
+use Rattle.viz_script_run.specs.Told.{refused_script, served_status, has_memory, has_fault}
 
 -- ---- scripts that are refused
 
@@ -30,7 +30,8 @@ IsRefusal actors (read.Given bytes) line r = script_of actors bytes ≡ Err (lin
 IsRefusal actors read.Failed line r = ⊥
 
 -- a run that answers Script: the script was read, and is refused for this; no port was called
-abbrev pub IsScriptRefused : {P O : Type 0} → port.Ghosts P → out.Ghosts O → List ℕ → List ℕ → P → P → List P → List P → O → O → Type 0
+abbrev pub IsScriptRefused : {P O : Type 0} → port.Ghosts P → out.Ghosts O
+    → List ℕ → List ℕ → P → P → List P → List P → O → O → Type 0
 IsScriptRefused m o script journal desk new_desk old new before after =
     (answer : ReadAnswer) × (line : ℕ) × (r : ScriptRefusal) × IsRefusal (actors_over old) answer line r
     × IsDoneAt m script journal (Asked answer) desk new_desk × (new ≡ old) × PutsLine o (refused_script line r) before after
@@ -44,7 +45,8 @@ abbrev pub EndsInScript : {O : Type 0} → out.Ghosts O → List ℕ → O → O
 EndsInScript o line before after ended = ((ended ≡ status.Script) × PutsLine o line before after) ⊎ (ended ≡ status.Memory)
 
 -- where the script's read was answered so, and the desk was asked for nothing else, a refusal of it is told; no port was called
-abbrev pub TellsRefusals : {P O : Type 0} → port.Ghosts P → out.Ghosts O → List ℕ → P → P → List P → List P → O → O → Status → Type 0
+abbrev pub TellsRefusals : {P O : Type 0} → port.Ghosts P → out.Ghosts O
+    → List ℕ → P → P → List P → List P → O → O → Status → Type 0
 TellsRefusals m o script desk new_desk old new before after ended =
     (answer : ReadAnswer) (line : ℕ) (r : ScriptRefusal) → IsRefusal (actors_over old) answer line r → IsTrue m.tells_calls
     → DeskAnswered m script answer desk new_desk → (new ≡ old) × EndsInScript o (refused_script line r) before after ended
@@ -52,27 +54,31 @@ TellsRefusals m o script desk new_desk old new before after ended =
 -- ---- scripts that are served
 
 -- the script was read, its commands were served by this account, the journal's write was answered so, and it is the last call of the desk
-abbrev pub IsServedBy : {P : Type 0} → port.Ghosts P → List ℕ → List ℕ → List Line → WriteAnswer → P → P → List P → List P → Type 0
-IsServedBy m script journal lines answer desk new_desk old new =
-    (bytes : List ℕ) × (text : List ℕ) × IsAccounted m bytes lines text old new
+abbrev pub IsServedBy : {P : Type 0} → port.Ghosts P
+    → List ℕ → List ℕ → List Row → WriteAnswer → P → P → List P → List P → Type 0
+IsServedBy m script journal rows answer desk new_desk old new =
+    (bytes : List ℕ) × (text : List ℕ) × IsAccounted m bytes rows text old new
     × IsDoneAt m script journal (Kept bytes text answer) desk new_desk
 
--- a run that answers Done or Refused: the journal was written, and the report put; the lines have this status
-abbrev pub IsReported : {P O : Type 0} → port.Ghosts P → out.Ghosts O → List ℕ → List ℕ → Status → P → P → List P → List P → O → O → Type 0
+-- a run that answers Done or Refused: the journal was written, and the report put; its rows have this status
+abbrev pub IsReported : {P O : Type 0} → port.Ghosts P → out.Ghosts O
+    → List ℕ → List ℕ → Status → P → P → List P → List P → O → O → Type 0
 IsReported m o script journal ended desk new_desk old new before after =
-    (lines : List Line) × IsServedBy m script journal lines write.Written desk new_desk old new × (served_status lines true ≡ ended)
-    × GainsLine o (lines_text 1 1 lines) before after
+    (rows : List Row) × IsServedBy m script journal rows write.Written desk new_desk old new × (served_status rows true ≡ ended)
+    × GainsLine o (rows_text rows) before after
 
--- a served script whose run had a fault: at a line, at the journal, or at the report; no line tells of want of memory
-abbrev pub IsServedWithFault : {P O : Type 0} → port.Ghosts P → out.Ghosts O → List ℕ → List ℕ → P → P → List P → List P → O → O → Type 0
+-- a served script whose run had a fault: at a row, at the journal, or at the report; no row tells of want of memory
+abbrev pub IsServedWithFault : {P O : Type 0} → port.Ghosts P → out.Ghosts O
+    → List ℕ → List ℕ → P → P → List P → List P → O → O → Type 0
 IsServedWithFault m o script journal desk new_desk old new before after =
-    (lines : List Line) × (answer : WriteAnswer) × IsServedBy m script journal lines answer desk new_desk old new
-    × (list_any is_memory lines ≡ false)
-    × ((list_any is_fault lines ≡ true) ⊎ ((answer ≡ write.Failed) ⊎ Rose (o.faults before) (o.faults after)))
-    × PutsLine o (lines_text 1 1 lines) before after
+    (rows : List Row) × (answer : WriteAnswer) × IsServedBy m script journal rows answer desk new_desk old new
+    × (has_memory rows ≡ false)
+    × ((has_fault rows ≡ true) ⊎ ((answer ≡ write.Failed) ⊎ Rose (o.faults before) (o.faults after)))
+    × PutsLine o (rows_text rows) before after
 
 -- the script's read failed, no port was called, and that was told
-abbrev pub IsUnread : {P O : Type 0} → port.Ghosts P → out.Ghosts O → List ℕ → List ℕ → P → P → List P → List P → O → O → Type 0
+abbrev pub IsUnread : {P O : Type 0} → port.Ghosts P → out.Ghosts O
+    → List ℕ → List ℕ → P → P → List P → List P → O → O → Type 0
 IsUnread m o script journal desk new_desk old new before after =
     IsDoneAt m script journal (Asked read.Failed) desk new_desk × (new ≡ old) × PutsLine o read_fault_line before after
 
@@ -81,7 +87,7 @@ abbrev pub IsCutOff : {P : Type 0} → port.Ghosts P → List ℕ → List ℕ �
 IsCutOff m script journal desk new_desk old new =
     (new ≡ old)
     ⊎ (((bytes : List ℕ) × IsServed m bytes old new × IsDoneAt m script journal (Asked (read.Given bytes)) desk new_desk)
-    ⊎ ((lines : List Line) × (answer : WriteAnswer) × IsServedBy m script journal lines answer desk new_desk old new))
+    ⊎ ((rows : List Row) × (answer : WriteAnswer) × IsServedBy m script journal rows answer desk new_desk old new))
 
 -- ---- counts
 

@@ -14,7 +14,8 @@ use Rattle.viz_words.specs.declared.refusal.ScriptRefusal.{ScriptRefusal}
 use Rattle.viz_words.specs.declared.refusal.ScriptRefusal.TheVariants as refusal
 use Rattle.viz_report.specs.declared.line.Line.{Line}
 use Rattle.viz_report.specs.declared.line.Line.TheVariants as line
-use Rattle.viz_report.specs.Report.{lines_text}
+use Rattle.viz_report.specs.declared.line.Row.{Row}
+use Rattle.viz_report.specs.Report.{rows_text}
 use Rattle.viz_script_run.specs.declared.ran.Ran.{Ran}
 use Rattle.viz_script_run.specs.declared.ran.Ran.TheVariants as ran
 
@@ -39,7 +40,7 @@ refused_script line r = codes "script line " ++ decimal line ++ codes " " ++ ref
 abbrev pub text_of : Ran → List ℕ
 text_of ran.Unread = read_fault_line
 text_of (ran.Refused line r) = refused_script line r
-text_of (ran.Served lines kept) = lines_text 1 1 lines
+text_of (ran.Served rows kept) = rows_text rows
 text_of ran.Memory = memory_line
 
 -- ---- the status
@@ -57,24 +58,34 @@ abbrev pub is_refused : Line → Bool
 is_refused (line.Refused reason at) = true
 is_refused l = false
 
--- the status of lines, the whole of which was put, by whether the journal was written: want of memory comes first,
+-- whether a row tells of want of memory, of a fault, of a refusal
+abbrev pub has_memory : List Row → Bool
+has_memory rows = list_any (λ r. is_memory r.line) rows
+
+abbrev pub has_fault : List Row → Bool
+has_fault rows = list_any (λ r. is_fault r.line) rows
+
+abbrev pub has_refused : List Row → Bool
+has_refused rows = list_any (λ r. is_refused r.line) rows
+
+-- the status of rows, the whole of which was put, by whether the journal was written: want of memory comes first,
 -- then faults, then refusals
-abbrev pub served_status : List Line → Bool → Status
-served_status lines kept = cond (list_any is_memory lines) status.Memory
-    (cond (list_any is_fault lines || not kept) status.Fault (cond (list_any is_refused lines) status.Refused status.Done))
+abbrev pub served_status : List Row → Bool → Status
+served_status rows kept = cond (has_memory rows) status.Memory
+    (cond (has_fault rows || not kept) status.Fault (cond (has_refused rows) status.Refused status.Done))
 
 -- the status where the whole text was put
 abbrev pub status_of : Ran → Status
 status_of ran.Unread = status.Fault
 status_of (ran.Refused line r) = status.Script
-status_of (ran.Served lines kept) = served_status lines kept
+status_of (ran.Served rows kept) = served_status rows kept
 status_of ran.Memory = status.Memory
 
 -- the status where the put failed: a refused script and want of memory come first
 abbrev pub status_at_fault : Ran → Status
 status_at_fault ran.Unread = status.Fault
 status_at_fault (ran.Refused line r) = status.Script
-status_at_fault (ran.Served lines kept) = cond (list_any is_memory lines) status.Memory status.Fault
+status_at_fault (ran.Served rows kept) = cond (has_memory rows) status.Memory status.Fault
 status_at_fault ran.Memory = status.Memory
 
 -- the status of a run, by what the put of its text answered
@@ -88,7 +99,7 @@ status_after r (Err writing.Memory) = status.Memory
 -- a run whose text takes memory
 abbrev pub HasMadeText : Ran → Type 0
 HasMadeText (ran.Refused line r) = Unit {0}
-HasMadeText (ran.Served lines kept) = Unit {0}
+HasMadeText (ran.Served rows kept) = Unit {0}
 HasMadeText r = ⊥
 
 -- the run that is told: want of memory, where memory ran out at the making of its text

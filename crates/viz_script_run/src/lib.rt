@@ -5,6 +5,7 @@
 //! the files that it names; the rules are those of docs/FORMATS.md, "Scripts" and "Report".
 #![tactic(auto)]
 
+mod journal;
 mod ran;
 mod report;
 mod run;

@@ -1,7 +1,7 @@
 //! How a run of a script ended.
 
 use viz_base::Items;
-use viz_report::Line;
+use viz_report::Row;
 use viz_words::ScriptRefusal;
 
 /// How a run of a script ended, before its text is put.
@@ -11,8 +11,8 @@ pub enum Ran {
     Unread,
     /// The script is refused at a line, counted from 1; a script that is too long at line 0.
     Refused { line: u32, refusal: ScriptRefusal },
-    /// All commands were served: a line for each, and whether the journal was written.
-    Served { lines: Items<Line>, kept: bool },
+    /// All commands were served: a row for each, and whether the journal was written.
+    Served { rows: Items<Row>, kept: bool },
     /// Want of memory.
     Memory,
 }

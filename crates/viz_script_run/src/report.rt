@@ -1,17 +1,16 @@
 //! The text that a run of a script puts, and its status (docs/FORMATS.md, "Report").
 
 ghost use Rattle.std.specs.Prelude.{◌≡◌, ◌++◌, OnOk, IfOk, Result};
-ghost use Rattle.std.specs.List.{list_any};
 ghost use Rattle.viz_base.specs.declared.refusal.WriteRefusal.{WriteRefusal as Refusal};
 ghost use Rattle.viz_once.specs.Report.{memory_line, read_fault_line};
-ghost use Rattle.viz_script_run.specs.Told.{refusal_word, refused_script, text_of, is_memory, is_fault, is_refused, served_status, status_of, status_at_fault, status_after, HasMadeText, IsPut, IsTold};
+ghost use Rattle.viz_script_run.specs.Told.{refusal_word, refused_script, text_of, is_memory, is_fault, is_refused, has_memory, has_fault, has_refused, served_status, status_of, status_at_fault, status_after, HasMadeText, IsPut, IsTold};
 
 use crate::ran::Ran;
 use std::alloc::{AllocError, Global};
 use viz_base::{Out, WriteRefusal};
 use viz_lex::put_whole;
 use viz_once::Status;
-use viz_report::{Line, report_text};
+use viz_report::{Line, Row, report_text};
 use viz_words::ScriptRefusal;
 
 fn refusal_word(refusal: &ScriptRefusal) -> &'static str
@@ -64,32 +63,32 @@ fn is_refused(line: &Line) -> bool
     matches!(line, Line::Refused { .. })
 }
 
-fn has_memory(lines: &[Line]) -> bool
-    ensures { result ≡ list_any is_memory lines.now }
+fn has_memory(rows: &[Row]) -> bool
+    ensures { result ≡ has_memory rows.now }
 {
-    lines.iter().any(|line| is_memory(line))
+    rows.iter().any(|row| is_memory(&row.line))
 }
 
-fn has_fault(lines: &[Line]) -> bool
-    ensures { result ≡ list_any is_fault lines.now }
+fn has_fault(rows: &[Row]) -> bool
+    ensures { result ≡ has_fault rows.now }
 {
-    lines.iter().any(|line| is_fault(line))
+    rows.iter().any(|row| is_fault(&row.line))
 }
 
-fn has_refused(lines: &[Line]) -> bool
-    ensures { result ≡ list_any is_refused lines.now }
+fn has_refused(rows: &[Row]) -> bool
+    ensures { result ≡ has_refused rows.now }
 {
-    lines.iter().any(|line| is_refused(line))
+    rows.iter().any(|row| is_refused(&row.line))
 }
 
-fn served_status(lines: &[Line], kept: bool) -> Status
-    ensures { result ≡ served_status lines.now kept }
+fn served_status(rows: &[Row], kept: bool) -> Status
+    ensures { result ≡ served_status rows.now kept }
 {
-    if has_memory(lines) {
+    if has_memory(rows) {
         Status::Memory
-    } else if has_fault(lines) || !kept {
+    } else if has_fault(rows) || !kept {
         Status::Fault
-    } else if has_refused(lines) {
+    } else if has_refused(rows) {
         Status::Refused
     } else {
         Status::Done
@@ -103,7 +102,7 @@ fn status_of(ran: &Ran) -> Status
     match ran {
         Ran::Unread => Status::Fault,
         Ran::Refused { .. } => Status::Script,
-        Ran::Served { lines, kept } => served_status(lines.list(), *kept),
+        Ran::Served { rows, kept } => served_status(rows.list(), *kept),
         Ran::Memory => Status::Memory,
     }
 }
@@ -115,8 +114,8 @@ fn status_at_fault(ran: &Ran) -> Status
     match ran {
         Ran::Unread => Status::Fault,
         Ran::Refused { .. } => Status::Script,
-        Ran::Served { lines, .. } => {
-            if has_memory(lines.list()) {
+        Ran::Served { rows, .. } => {
+            if has_memory(rows.list()) {
                 Status::Memory
             } else {
                 Status::Fault
@@ -178,7 +177,7 @@ pub fn report<O: Out>(alloc: Global, out: &mut O, ran: &Ran) -> Status
             Ok(text) => put(alloc, out, ran, &text),
             Err(_) => put_memory(alloc, out, ran),
         },
-        Ran::Served { lines, .. } => match report_text(alloc, 1, lines.list()) {
+        Ran::Served { rows, .. } => match report_text(alloc, rows.list()) {
             Ok(text) => put(alloc, out, ran, text.list()),
             Err(_) => put_memory(alloc, out, ran),
         },

@@ -8,23 +8,27 @@ ghost use Rattle.viz_script_run.specs.Promises.{IsScriptRefused, TellsRefusals, 
 ghost use Rattle.viz_script_run.specs.Told.{IsTold};
 
 use crate::report::report;
-use crate::serving::serve_script;
+use crate::serving::serve;
 use std::alloc::Global;
-use viz_base::{Out, Port};
+use std::sync::Wait;
+use std::thread::Threads;
+use viz_base::{Gate, Out, Port};
 use viz_once::Status;
 
 /// Runs the script of this name: reads it from the desk, serves its commands by the ports, writes
 /// the journal of all accepted edits to the desk, and puts the report.
 ///
-/// `ports` are the actors' ports, the first one's first. The statuses and texts are those of
-/// docs/FORMATS.md, "Report".
-pub fn run_script<P: Port, O: Out>(
+/// `ports` are the actors' ports, the first one's first, and `gate` is what tasks pass. The statuses
+/// and texts are those of docs/FORMATS.md, "Report".
+pub fn run_script<R: Threads + Wait + Sync, P: Port + Send + Drop, O: Out, G: Gate + Sync>(
+    rt: &R,
     alloc: Global,
     script: &str,
     journal: &str,
     desk: &mut P,
     ports: &mut Vec<P>,
     out: &mut O,
+    gate: &G,
 ) -> Status
     // What the run was: how far it came, and the text put of it.
     ensures account { (ran : Came) × IsRan P.Port script.now journal.now ran desk.old desk.new
@@ -52,6 +56,6 @@ pub fn run_script<P: Port, O: Out>(
     ensures usage { result ≢ Status.Usage }
     ensures one_put { O.puts out.new ≡ one_more (O.puts out.old) }
 {
-    let ran = serve_script(alloc, script, journal, desk, ports);
+    let ran = serve(rt, alloc, script, journal, desk, ports, gate);
     report(alloc, out, &ran)
 }

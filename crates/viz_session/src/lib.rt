@@ -9,6 +9,7 @@ mod command;
 mod session;
 
 pub use session::run;
+pub use viz_actor::{Answer, AuditAnswer, audit_node, update};
 pub use viz_once::Status;
 
 #[cfg(test)]

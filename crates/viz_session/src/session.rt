@@ -24,13 +24,13 @@ use viz_script_run::run_script;
 /// `ports` are the actors' ports, the first one's first, `desk` the port of scripts and journals,
 /// and `gate` is what tasks pass. The statuses and texts are those of docs/FORMATS.md, "Report".
 pub fn run<R: Threads + Wait + Sync, P: Port + Send + Drop, O: Out, G: Gate + Sync>(
-    _rt: &R,
+    rt: &R,
     alloc: Global,
     words: &[Bytes],
     desk: &mut P,
     ports: &mut Vec<P>,
     out: &mut O,
-    _gate: &G,
+    gate: &G,
 ) -> Status
     // What the run was: the account of its command, and the text put of it.
     ensures account { IsRun P.Port O.Out words.now desk.old desk.new ports.old.items ports.new.items
@@ -65,7 +65,7 @@ pub fn run<R: Threads + Wait + Sync, P: Port + Send + Drop, O: Out, G: Gate + Sy
     runs_are_accounted::<P, O>();
     match read_command(words) {
         Some(Command::Script { script, journal }) => {
-            run_script(alloc, script, journal, desk, ports, out)
+            run_script(rt, alloc, script, journal, desk, ports, out, gate)
         }
         Some(Command::Scratch(replay)) => run_scratch(alloc, &replay, desk, ports, out),
         Some(Command::Make(make)) => run_make(alloc, &make, ports, out),

@@ -1,5 +1,7 @@
 //! Worked rows: scripts, their reports and journals, and prefixes of journals, over files in memory.
 
+mod actors;
+mod during;
 mod meshes;
 
 use crate::{Status, run};

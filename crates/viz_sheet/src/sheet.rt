@@ -124,4 +124,17 @@ impl Sheet {
     {
         &self.ranks
     }
+
+    /// All cells by ranks, taken out; the names and the points are given up.
+    pub fn into_ranks(self) -> Ranks
+        ensures value { by_names self.names (ranks_in result) ≡ self.cells }
+        ensures valid { AreRanks self.names self.points (ranks_in result) }
+    {
+        let Sheet {
+            leaves: _leaves,
+            places: _places,
+            ranks,
+        } = self;
+        ranks
+    }
 }

@@ -64,6 +64,7 @@ fn next(t: Tally, key: u64, sheet: &Sheet, whole: &Extent) -> Tally
     requires times { t.forth + t.back < 2 ^ 63 }
     requires names { All (IsEdgeName (count_of whole.now)) sheet.now.names }
     requires ranks { HasRanks (length sheet.now.names) t.side }
+    requires key { HasRanks (length sheet.now.names) (half key) }
     ensures sides { (rest : List ℕ)
         → result.sides + tallied any_side result.side result.forth result.back rest
         ≡ t.sides + tallied any_side t.side t.forth t.back (key ∷ rest) }

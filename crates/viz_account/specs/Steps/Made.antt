@@ -5,9 +5,8 @@ use Rattle.viz_network.specs.declared.fault.Stop.TheVariants as stop
 use Rattle.viz_network.specs.declared.node.Node.{Node}
 use Rattle.viz_network.specs.Network.{Network, named, name_of}
 use Rattle.viz_scratch.specs.Written.{IsFileOf}
-use Rattle.viz_report.specs.declared.line.Line.{Line}
-use Rattle.viz_report.specs.declared.line.Line.TheVariants as line
-use Rattle.viz_report.specs.declared.line.Reason.TheVariants as reason
+use Rattle.viz_account.specs.declared.answer.Missing.{Missing}
+use Rattle.viz_account.specs.declared.answer.Missing.TheVariants as missing
 use Rattle.viz_account.specs.declared.made.Made.{Made}
 use Rattle.viz_account.specs.Written.{IsWritten}
 
@@ -17,21 +16,20 @@ Makes net id (Ok m) = IsWritten net id m.text m.cells m.points m.ran
 Makes net id (Err (stop.Fault fault)) = IsFileOf net id (Err fault)
 Makes net id (Err stop.Memory) = Unit {0}
 
--- the line of number n of an update that wrote nothing
-abbrev pub IsStopped : Network → ℕ → List ℕ → Line → Type 0
-IsStopped net n node (line.Refused reason.Unknown at) = (at ≡ n) × (named net node ≡ None)
-IsStopped net n node (line.Refused (reason.Fault fault name) at) =
-    (at ≡ n) × ((x : Node) × (named net node ≡ Some x) × IsFileOf net x.id.0 (Err fault)) × (name_of net fault.node.0 ≡ Some name)
-IsStopped net n node line.Memory = Unit {0}
-IsStopped net n node l = ⊥
+-- why the node of this name has no file
+abbrev pub IsMissing : Network → List ℕ → Missing → Type 0
+IsMissing net node missing.Unknown = named net node ≡ None
+IsMissing net node (missing.Fault fault name) =
+    ((x : Node) × (named net node ≡ Some x) × IsFileOf net x.id.0 (Err fault)) × (name_of net fault.node.0 ≡ Some name)
+IsMissing net node missing.Memory = Unit {0}
 
--- the line of number n of a command that stopped so
-abbrev pub IsStop : Network → ℕ → Stop → Line → Type 0
-IsStop net n (stop.Fault fault) (line.Refused (reason.Fault f name) at) = (f ≡ fault) × (at ≡ n) × (name_of net fault.node.0 ≡ Some name)
-IsStop net n s line.Memory = Unit {0}
-IsStop net n s l = ⊥
+-- why a node that stopped so gives nothing
+abbrev pub IsStop : Network → Stop → Missing → Type 0
+IsStop net (stop.Fault fault) (missing.Fault f name) = (f ≡ fault) × (name_of net fault.node.0 ≡ Some name)
+IsStop net s missing.Memory = Unit {0}
+IsStop net s m = ⊥
 
--- the text of the file of the node of this name, with its numbers, or the line that says why there is none
-abbrev pub MakesNamed : Network → ℕ → List ℕ → Result Made Line → Type 0
-MakesNamed net n node (Ok m) = (x : Node) × (named net node ≡ Some x) × IsWritten net x.id.0 m.text m.cells m.points m.ran
-MakesNamed net n node (Err l) = IsStopped net n node l
+-- the text of the file of the node of this name, with its numbers, or why there is none
+abbrev pub MakesNamed : Network → List ℕ → Result Made Missing → Type 0
+MakesNamed net node (Ok m) = (x : Node) × (named net node ≡ Some x) × IsWritten net x.id.0 m.text m.cells m.points m.ran
+MakesNamed net node (Err m) = IsMissing net node m

@@ -1,15 +1,14 @@
 -- What one pass over the sheets writes.
-use Rattle.std.specs.Prelude.{ℕ, ◌+◌, ◌^◌, ◌<◌, ◌==◌, ◌≤◌, ℤ, pos, Bool, List, [], ◌∷◌, ◌++◌, length, map, All, if◌then◌else◌}
+use Rattle.std.specs.Prelude.{ℕ, ◌+◌, ◌^◌, ◌<◌, ◌==◌, ◌≤◌, ℤ, pos, Bool, List, [], ◌∷◌, ◌++◌, length, All, if◌then◌else◌}
 use Rattle.std.specs.List.{flat_map}
 use Rattle.std.specs.Fmt.{decimal}
 use Rattle.viz_fraction.specs.Points.{Point}
 use Rattle.viz_column.specs.declared.kind.Kind8.TheVariants.{I32, I64}
 use Rattle.viz_column.specs.Bytes.{bytes_of}
-use Rattle.viz_sheet.specs.Sheet.{SheetData}
-use Rattle.viz_sheet.specs.Ranked.{ranks_of}
 use Rattle.viz_mesh_write.specs.Cells.{moved}
 use Rattle.viz_mesh_write.specs.Rows.{row_of}
 use Rattle.viz_mesh_write.specs.MeshText.{cell_numbers, type_of}
+use Rattle.viz_mesh_write.specs.Steps.SheetCells.{CellsData}
 
 -- the written numbers of points, a row for each
 abbrev pub point_rows : (Point → List ℤ) → Bool → List Point → List ℕ
@@ -41,6 +40,6 @@ abbrev pub type_row : Bool → ℕ → List ℕ → List ℕ
 type_row binary first cell = row_of binary I32 (type_of (length cell) ∷ [])
 
 -- the rows of the cells of sheets, with so many points in front
-abbrev pub cell_rows : (ℕ → List ℕ → List ℕ) → ℕ → List SheetData → List ℕ
+abbrev pub cell_rows : (ℕ → List ℕ → List ℕ) → ℕ → List CellsData → List ℕ
 cell_rows row first [] = []
-cell_rows row first (s ∷ sheets) = flat_map (row first) (map (ranks_of s.names) s.cells) ++ cell_rows row (first + length s.points) sheets
+cell_rows row first (s ∷ sheets) = flat_map (row first) s.cells ++ cell_rows row (first + s.points) sheets

@@ -57,3 +57,13 @@ pub record IsReady (sheets : List SheetData) (t : Tally) : Type 0 where
   pub small : AreSmall t
   pub sections : SectionsFit t
   pub fits : FitCounts sheets
+
+-- cells by indices that may be written, and how many there are of each size
+pub record AreCounted (cells : List (List ℕ)) (t : Tally) : Type 0 where
+  pub sized : All IsSized cells
+  pub vertices : t.vertices ≡ length (of_size 1 cells)
+  pub lines : t.lines ≡ length (of_size 2 cells)
+  pub triangles : t.triangles ≡ length (of_size 3 cells)
+  pub tetrahedra : t.tetrahedra ≡ length (of_size 4 cells)
+  pub small : AreSmall t
+  pub sections : SectionsFit t

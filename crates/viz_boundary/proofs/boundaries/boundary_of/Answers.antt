@@ -3,23 +3,18 @@ use Rattle.std.specs.List.{flat_map}
 use Rattle.viz_sheet.specs.Kept.{kept}
 use Rattle.viz_mesh_meaning.specs.Facets.{facets_of}
 use Rattle.viz_sheet.specs.Arrays.{names_in, points_in, ranks_in}
-use Rattle.viz_boundary.proofs.MadeLemmas.{boundary-made, cells-for, facets-are, keys-indexed, marks-matched}
+use Rattle.viz_boundary.proofs.MadeLemmas.{boundary-made, cells-for, facets-are, marks-matched}
 use Rattle.viz_boundary.proofs.boundaries.boundary_of.Goals as goal
-
-pub lone_marks-requires : goal.lone_marks-requires
-lone_marks-requires c = record {
-  indexed = keys-indexed (ranks_in c.ranks-ranks.result.now) c.in_ok-keys.keys.items c.in_ok-keys.ensures.value c.in_ok-keys.ensures.few;
-}
 
 pub marked_facets-requires-clause-matched : goal.marked_facets-requires-clause-matched
 marked_facets-requires-clause-matched c =
-    marks-matched (ranks_in c.ranks-ranks.result.now) c.in_ok-keys.keys.items c.in_ok-marks.marks.items c.deref.result.now c.in_ok-keys.ensures.value c.in_ok-marks.ensures.value c.deref.ensures.value
+    marks-matched (ranks_in c.ranks-ranks.result.now) c.in_ok-marks.marks.items c.deref.result.now c.in_ok-marks.ensures.value c.deref.ensures.value
 
 pub compacted-requires : goal.compacted-requires
 compacted-requires c =
     let s = c.args.sheet.now in
     let cells = ranks_in c.ranks-ranks.result.now in
-    let is = facets-are s cells (ranks_in c.in_ok-facets.facets) c.in_ok-keys.keys.items c.in_ok-marks.marks.items c.ranks-ranks.ensures.valid c.in_ok-keys.ensures.few c.in_ok-keys.ensures.value c.in_ok-marks.ensures.value
+    let is = facets-are s cells (ranks_in c.in_ok-facets.facets) c.in_ok-marks.marks.items c.ranks-ranks.ensures.valid c.in_ok-marks.ensures.few c.in_ok-marks.ensures.value
     (c.in_ok-facets.ensures.value ∙ ap (λ ms. kept ms (flat_map facets_of cells)) c.deref.ensures.value) in
     record {
       cells =
@@ -31,7 +26,7 @@ pub returns : goal.returns
 returns c =
     let s = c.args.sheet.now in
     let cells = ranks_in c.ranks-ranks.result.now in
-    let is = facets-are s cells (ranks_in c.in_ok-facets.facets) c.in_ok-keys.keys.items c.in_ok-marks.marks.items c.ranks-ranks.ensures.valid c.in_ok-keys.ensures.few c.in_ok-keys.ensures.value c.in_ok-marks.ensures.value
+    let is = facets-are s cells (ranks_in c.in_ok-facets.facets) c.in_ok-marks.marks.items c.ranks-ranks.ensures.valid c.in_ok-marks.ensures.few c.in_ok-marks.ensures.value
     (c.in_ok-facets.ensures.value ∙ ap (λ ms. kept ms (flat_map facets_of cells)) c.deref.ensures.value) in
     record {
       value =

@@ -9,4 +9,4 @@ pub own-requires : goal.own-requires
 own-requires g c =
     let kind = g.T.Number.kind in
     let kept : to_z w128 (of_z w128 c.quotient.result) ≡ c.quotient.result = omega (arith, ints) in
-    ap (fits kind) (kept ∙ c.quotient.ensures) ∙ mean_fits kind c.args.sum.now c.args.count c.requires.some c.requires.range
+    ap (fits kind) (kept ∙ c.quotient.ensures) ∙ mean_fits kind c.args.sum.now c.args.count.now.number c.args.count.now.some c.requires

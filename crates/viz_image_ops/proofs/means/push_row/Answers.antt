@@ -1,51 +1,46 @@
-use Rattle.std.proofs.Common.{◌≡◌, ◌-◌, ◌*◌, ℕ, ℤ, pos, map, length, get_or, to_z, of_z, ap, ap₂, ◌∙◌, sym, subst, arith}
-use Rattle.std.specs.Int.{w128}
-use Rattle.std.proofs.lemmas.Int.{ints}
-use Rattle.viz_meaning.specs.ImageFilters.{sum_of, floor_of}
-use Rattle.viz_image_ops.specs.Sums.{IsWithin, reach_below, reach_above, row_mean, window_size}
-use Rattle.viz_image_ops.proofs.JoinedLemmas.{run_more}
-use Rattle.viz_image_ops.proofs.MeanLemmas.{room_of, less_room, row_sum_within, reach_of, behind_more}
+use Rattle.std.proofs.Common.{◌≡◌, ◌+◌, ◌-◌, ◌≤◌, ◌++◌, ℕ, ℤ, List, map, ap, ◌∙◌, arith}
+use Rattle.viz_extent.specs.Extent.{size_of}
+use Rattle.viz_image_ops.specs.Joined.{run_of}
+use Rattle.viz_image_ops.specs.Sums.{row_mean}
+use Rattle.viz_image_ops.proofs.JoinedLemmas.{run_on}
 use Rattle.viz_image_ops.proofs.means.push_row.Goals as goal
 
-pub moved-sum-requires-clause-room : goal.moved-sum-requires-clause-room
-moved-sum-requires-clause-room g c =
-    let row = c.args.row.now in
-    less_room row c.window-next.result.1 (length row) (room_of g.T.Number.kind row c.args.rows (length row) c.requires.range c.requires.few)
-    (omega (arith, c.window-next.ensures.places, c.requires.row))
+-- the means up to a last index, in two parts
+two : (f : ℕ → ℤ) (first before last : ℕ) (xs ys zs : List ℤ) → first ≤ before → before ≤ last → ys ≡ xs ++ run_of f first (size_of first before)
+    → zs ≡ ys ++ run_of f (before + 1) (last - before) → zs ≡ xs ++ run_of f first (last + 1 - first)
+two f first before last xs ys zs from to is more =
+    let one : size_of first before ≡ before + 1 - first = omega (arith, from) in
+    let all : before + 1 + (last - before) - first ≡ last + 1 - first = omega (arith, to) in
+    run_on f first (before + 1) (last - before) xs ys zs (omega (arith, from)) (is ∙ ap (λ (n : ℕ). xs ++ run_of f first n) one) more
+    ∙ ap (λ (n : ℕ). xs ++ run_of f first n) all
 
-pub mean-requires-clause-range : goal.mean-requires-clause-range
-mean-requires-clause-range g c =
-    let kind = g.T.Number.kind in
-    let row = c.args.row.now in
-    let first = c.window-next.result.0 in
-    let size = c.window-next.result.1 - first in
-    let kept : to_z w128 (of_z w128 c.moved-sum.result) ≡ c.moved-sum.result = omega (arith, ints) in
-    let is : to_z w128 (of_z w128 c.moved-sum.result) ≡ sum_of (λ p. get_or row p (pos 0)) first size = kept ∙ c.moved-sum.ensures in
-    subst (λ (z : ℤ). IsWithin (c.args.rows * size * reach_below kind) (c.args.rows * size * reach_above kind) z) (sym is)
-    (row_sum_within kind row c.args.rows first size c.requires.range (omega (arith, c.window-next.ensures.some, c.window-next.ensures.places, c.requires.row)))
-
-pub loop-i-preserved : goal.loop-i-preserved
-loop-i-preserved g c =
+pub returns-then-last-last_index : goal.returns-then-last-last_index
+returns-then-last-last_index g c =
     let value = g.T.Number.value in
-    let row = c.args.row.now in
-    let axis = c.args.axis.now in
-    let rows = c.args.rows in
-    let i = c.loop-i.i in
-    let first = c.window-next.result.0 in
-    let behind = c.window-next.result.1 in
-    let is_first = c.window-next.ensures.first in
-    let is_behind = c.window-next.ensures.behind in
-    let kept : to_z w128 (of_z w128 c.moved-sum.result) ≡ c.moved-sum.result = omega (arith, ints) in
-    let is : to_z w128 (of_z w128 c.moved-sum.result) ≡ sum_of (λ p. get_or row p (pos 0)) first (behind - first) = kept ∙ c.moved-sum.ensures in
-    let size : behind - first ≡ window_size axis i = ap₂ (λ (a b : ℕ). a - b) is_behind is_first in
-    let mean : value c.mean.result ≡ row_mean row rows axis i =
-    c.mean.ensures ∙ ap₂ floor_of (is ∙ ap₂ (sum_of (λ p. get_or row p (pos 0))) is_first size) (ap (λ (n : ℕ). rows * n) size) in
-    record {
-      means =
-          run_more value (row_mean row rows axis) c.args.first_index i (map value c.args.means.now.items) c.loop-i.means.items c.push.new.self.items
-          c.mean.result c.loop-i.auto.i c.loop-i.invariant.means c.in_ok-push.ensures.items mean;
-      sum = is;
-      window =
-          behind_more axis i first behind (reach_of axis c.args.first_index c.args.last_index i c.requires.reach c.loop-i.auto.i (omega (arith, c.loop-i-test.true)))
-          is_first is_behind;
-    }
+    let xs = map value c.args.means.now.items in
+    let f = row_mean c.args.row.now c.args.rows c.args.axis.now in
+    let first = c.args.first_index in
+    let before = c.max-before.result in
+    let last = c.min-last.result in
+    let from : first ≤ before = omega (arith, c.max-before.ensures) in
+    let to : before ≤ last = omega (arith, c.if-before-last.false) in
+    let size : last + 1 - first ≡ size_of first c.args.last_index = omega (arith, from, to, c.if-last-last_index.true) in
+    two f first before last xs (map value c.push_any-2.new.means.items) (map value c.push_whole.new.means.items) from to c.in_ok-push_any.ensures c.in_ok-push_whole.ensures
+    ∙ ap (λ (n : ℕ). xs ++ run_of f first n) size
+
+pub returns : goal.returns
+returns g c =
+    let value = g.T.Number.value in
+    let xs = map value c.args.means.now.items in
+    let f = row_mean c.args.row.now c.args.rows c.args.axis.now in
+    let first = c.args.first_index in
+    let before = c.max-before.result in
+    let last = c.min-last.result in
+    let from : first ≤ before = omega (arith, c.max-before.ensures) in
+    let to : before ≤ last = omega (arith, c.if-before-last.false) in
+    let end : last ≤ c.args.last_index = omega (arith, c.min-last.ensures) in
+    let size : last + 1 + size_of (last + 1) c.args.last_index - first ≡ size_of first c.args.last_index = omega (arith, from, to, end, c.if-last-last_index.false) in
+    let so_far = two f first before last xs (map value c.push_any-2.new.means.items) (map value c.push_whole.new.means.items) from to c.in_ok-push_any.ensures c.in_ok-push_whole.ensures in
+    run_on f first (last + 1) (size_of (last + 1) c.args.last_index) xs (map value c.push_whole.new.means.items) (map value c.push_any-3.new.means.items) (omega (arith, from, to))
+    so_far c.in_ok-push_any-2.ensures
+    ∙ ap (λ (n : ℕ). xs ++ run_of f first n) size

@@ -1,12 +1,13 @@
 use Rattle.std.proofs.Common.{◌≡◌, ℕ, List, ◌++◌, subst}
 use Rattle.std.specs.Prelude.{OnOk}
+use Rattle.viz_mesh_write.specs.Steps.SheetCells.{indices_by}
 use Rattle.viz_mesh_write.proofs.SectionLemmas.{cells_are_grid, cells_are_poly}
 use Rattle.viz_mesh_write.proofs.sections.put_cells_text.Goals as goal
 
 pub returns-then-tally-eq0 : goal.returns-then-tally-eq0
-returns-then-tally-eq0 c =
-    subst (λ (t : List ℕ). OnOk c.put_poly.result (c.put_poly.new.text.items ≡ c.args.text.now.items ++ t)) (cells_are_poly c.args.binary c.args.sheets.now c.args.tally.now c.requires.ready c.if-tally-eq0.true) c.put_poly.ensures
+returns-then-tally-eq0 g c =
+    subst (λ (t : List ℕ). OnOk c.put_poly.result (c.put_poly.new.text.items ≡ c.args.text.now.items ++ t)) (cells_are_poly c.args.binary (indices_by g.S.SheetCells.seen c.args.sheets.now) c.args.tally.now c.requires.ready c.if-tally-eq0.true) c.put_poly.ensures
 
 pub returns-else-tally-eq0 : goal.returns-else-tally-eq0
-returns-else-tally-eq0 c =
-    subst (λ (t : List ℕ). OnOk c.put_grid.result (c.put_grid.new.text.items ≡ c.args.text.now.items ++ t)) (cells_are_grid c.args.binary c.args.sheets.now c.args.tally.now c.requires.ready c.if-tally-eq0.false) c.put_grid.ensures
+returns-else-tally-eq0 g c =
+    subst (λ (t : List ℕ). OnOk c.put_grid.result (c.put_grid.new.text.items ≡ c.args.text.now.items ++ t)) (cells_are_grid c.args.binary (indices_by g.S.SheetCells.seen c.args.sheets.now) c.args.tally.now c.requires.ready c.if-tally-eq0.false) c.put_grid.ensures

@@ -6,7 +6,9 @@ pub returns-in-Err-Failed : goal.returns-in-Err-Failed
 returns-in-Err-Failed g c =
     let w = rw c.in-Err-Failed.field-0-is at c.in-Err-Failed.ensures in
     inr (
+      c.list.result.now,
       write.Failed,
+      search rules,
       search rules,
       record {
         calls = search rules;

@@ -1,8 +1,10 @@
-use Rattle.std.proofs.Common.{rules}
+use Rattle.std.proofs.Common.{rules, map}
+use Rattle.viz_script.specs.Script.{stepped}
 use Rattle.viz_script_run.proofs.StepsLemmas.{served_behind}
 use Rattle.viz_script_run.proofs.serving.serve_bytes.Goals as goal
 
 pub returns : goal.returns
 returns g c =
-    served_behind g.P.Port c.args.bytes.now c.args.journal.now c.deref.result.now c.in-Ok-serve_steps.lines.items c.in-Ok-serve_steps.history.items c.args.ports.now c.serve_steps.new.ports c.keep.result c.args.desk.now c.keep.new.desk
-    (search rules) c.in-Ok-serve_steps.ensures.ok c.keep.ensures
+    let served = c.in-Ok-serve_script.field-0 in
+    served_behind g.P.Port c.args.bytes.now c.args.journal.now (map stepped c.deref-2.result.now) served.rows.items served.history.items c.args.ports.now.items c.serve_script.new.ports.items c.keep.result c.args.desk.now c.keep.new.desk
+    (search rules) c.audit_lines_are_closed.ensures c.in-Ok-serve_script.ensures.ok c.keep.ensures

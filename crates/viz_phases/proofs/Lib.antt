@@ -1,0 +1,11 @@
+mod PhaseLemmas
+mod DoneLemmas
+mod RowLemmas
+mod WiderLemmas
+mod LaterLemmas
+mod ConsLemmas
+mod RunLemmas
+mod TaleLemmas
+mod ScriptLemmas
+mod GroupLemmas
+mod RoomLemmas

@@ -1,0 +1,4 @@
+pub mod Groups
+pub mod Served
+pub mod Places
+pub mod Runs
