@@ -8,10 +8,12 @@
 mod levels;
 mod part_sheet;
 mod request;
+mod stitching;
 mod stop;
 
 pub use part_sheet::PartSheet;
 pub use request::{Part, Request};
+pub use stitching::stitch;
 pub use stop::WorkStop;
 
 #[cfg(test)]

@@ -71,6 +71,14 @@ impl PartSheet {
         &self.sheet
     }
 
+    /// The sheet, taken out.
+    pub fn into_sheet(self) -> Sheet
+        ensures value { result ≡ self.sheet }
+    {
+        let PartSheet { sheet, .. } = self;
+        sheet
+    }
+
     /// The level of a cell.
     pub fn level(&self, cell: usize) -> u32
         requires below { cell < length self.now.sheet.cells }

@@ -1,8 +1,9 @@
 //! A part of two vertices, by hand.
 
-use crate::{Part, PartSheet, Request};
+use crate::{Part, PartSheet, Request, stitch};
 use std::alloc::Global;
 use std::test::Fail;
+use viz_dataset::Dataset;
 use viz_extent::Extent;
 use viz_fraction::point;
 use viz_sheet::{Leaves, Places, Ranks, Sheet, are_cells, sheet_of};
@@ -46,6 +47,28 @@ fn each_cell_has_its_level(rt: HostRuntime) -> Result<(), Fail> {
     }
     let parts = Part::Mesh(vec![in rt.alloc(); part]?);
     assert!(rt; matches!(parts, Part::Mesh(_)));
+    Ok(())
+}
+
+// The dataset of one part of a mesh: this sheet, as own cells.
+fn stitched(alloc: Global, sheet: Sheet) -> Result<Dataset, Fail> {
+    let mut sheets = Vec::new(alloc);
+    sheets.push(PartSheet::own(sheet))?;
+    let mut parts = Vec::new(alloc);
+    parts.push(Part::Mesh(sheets))?;
+    Ok(stitch(alloc, parts)?)
+}
+
+#[test]
+fn one_part_is_the_whole(rt: HostRuntime) -> Result<(), Fail> {
+    let alloc = rt.alloc();
+    let Dataset::Mesh(mesh) = stitched(alloc, vertices(alloc)?)? else {
+        return Err("a mesh")?;
+    };
+    assert_eq!(rt; mesh.sheets().len(), 1);
+    for sheet in mesh.sheets() {
+        assert_eq!(rt; (sheet.cell_count(), sheet.point_count()), (2, 2));
+    }
     Ok(())
 }
 
