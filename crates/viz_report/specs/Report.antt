@@ -1,5 +1,5 @@
 -- The rows of a report, and their text (docs/FORMATS.md, "Report").
-use Rattle.std.specs.Prelude.{ℕ, zero, suc, ◌+◌, List, [], ◌∷◌, ◌++◌, length, map, flat_map, codes}
+use Rattle.std.specs.Prelude.{◌≡◌, ℕ, zero, suc, ◌+◌, List, [], ◌∷◌, ◌++◌, length, map, flat_map, All, codes}
 use Rattle.std.specs.Fmt.{decimal}
 use Rattle.viz_report.specs.declared.line.Line.{Line}
 use Rattle.viz_report.specs.declared.line.Line.TheVariants as line
@@ -102,3 +102,12 @@ report_rows phases lines = phases_rows phases (map (λ actor. 1) lines) lines
 -- their text
 abbrev pub report : ℕ → List (List (List Line)) → List ℕ
 report phases lines = rows_text (report_rows phases lines)
+
+-- an actor's lines by phase are none
+abbrev pub HasNoLines : List (List Line) → Type 0
+HasNoLines phases = flat_map (λ ls. ls) phases ≡ []
+
+-- where all other actors have no lines, the rows are the first one's lines through all phases, numbered from 1
+abbrev pub OneActorIsInOrder : Type 0
+OneActorIsInOrder = (phases : List (List Line)) (others : List (List (List Line))) → All HasNoLines others
+    → report_rows (length phases) (phases ∷ others) ≡ rows_from 1 1 (flat_map (λ ls. ls) phases)
