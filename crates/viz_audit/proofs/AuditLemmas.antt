@@ -14,13 +14,13 @@ use Rattle.viz_network.specs.Cone.{cone_of}
 use Rattle.viz_surface_law.specs.declared.audits.Counts.{Counts}
 use Rattle.viz_surface_law.specs.Audit.{count_sides, count_two, count_lone, count_border}
 use Rattle.viz_surface_law.specs.Surfaces.{IsSurface}
-use Rattle.viz_surface_law.specs.Contours.{ContoursAreSurfaces, ContourSidesAddUp, LoneSidesAreBorders}
+use Rattle.viz_surface_law.specs.Contours.{ContoursAreSurfaces, ContoursAreClosed, ContourSidesAddUp, LoneSidesAreBorders}
 use Rattle.viz_scratch.specs.Scratch.{IsScratch}
 use Rattle.viz_scratch.specs.Laws.{ConesGiveOne}
 use Rattle.viz_audit.specs.Audited.{StandsOn, summed, AreSums, IsAudited, HasNoSurface, IsAuditOf}
-use Rattle.viz_audit.specs.Laws.{AuditsAreClosed, AuditsAreOne}
+use Rattle.viz_audit.specs.Laws.{AuditsAreClosed, AuditsAreOne, SurfacesAreClosed}
 use Rattle.viz_audit.specs.Steps.Ground.{IsGround}
-use Rattle.viz_audit.proofs.ContourLemmas.{contours_of, contours_given, stands_one, are_surfaces, lone_sum, sides_sum}
+use Rattle.viz_audit.proofs.ContourLemmas.{contours_of, contours_given, stands_one, are_surfaces, ClosedIn, are_closed, lone_sum, sides_sum}
 
 module _ (cones : ConesGiveOne) where
   -- the sheets of an audit are contours of its image
@@ -42,6 +42,12 @@ module _ (cones : ConesGiveOne) where
         sides = (let e : c.sides ≡ c.two + c.lone = omega (arith, add, borders, a.sums.sides, a.sums.two, a.sums.lone) in e);
         lone = a.sums.lone ∙ borders ∙ sym a.sums.border;
       }
+
+  -- each sheet by itself
+  pub surfaces_are_closed : ContoursAreClosed → SurfacesAreClosed
+  surfaces_are_closed law net id image sheets valid stands given =
+      let made = sheets_are net id image sheets stands given in
+      subst (All (ClosedIn image)) (sym made.1) (are_closed law made.0 image valid)
 
   -- an audit may take the sheets that a node gives
   pub may_audit : ContoursAreSurfaces → (net : Network) (id : ℕ) (whole : Bounds) (sheets : List SheetData) → IsGround net id (Some whole)

@@ -13,8 +13,9 @@ use Rattle.viz_kinds.specs.declared.settings.Settings.{Settings}
 use Rattle.viz_kinds.specs.declared.settings.Settings.TheVariants as settings
 use Rattle.viz_network.specs.Cone.{Cone, Tree, none, empty, fed}
 use Rattle.viz_surface_law.specs.Audit.{count_sides, count_two, count_lone, count_border}
-use Rattle.viz_surface_law.specs.Surfaces.{IsSurface}
-use Rattle.viz_surface_law.specs.Contours.{contour_of, triangles_of, ContoursAreSurfaces, ContourSidesAddUp, LoneSidesAreBorders}
+use Rattle.viz_surface_law.specs.Closed.{IsClosedUpToBoundary}
+use Rattle.viz_surface_law.specs.Surfaces.{IsSurface, by_edges}
+use Rattle.viz_surface_law.specs.Contours.{contour_of, triangles_of, ContoursAreSurfaces, ContoursAreClosed, ContourSidesAddUp, LoneSidesAreBorders}
 use Rattle.viz_node_rules.specs.Rules.{Inputs}
 use Rattle.viz_node_rules.specs.Data.{IsEvaluated}
 use Rattle.viz_scratch.specs.Scratch.{IsScratchOf}
@@ -80,6 +81,15 @@ pub are_surfaces : ContoursAreSurfaces → (levels : List ℤ) (image : ImageDat
 are_surfaces law [] image valid = All-nil (IsSurface image.extent)
 are_surfaces law (level ∷ levels) image valid =
     All-cons (IsSurface image.extent) (contour_of level image) (contours_of levels image) (law level image valid) (are_surfaces law levels image valid)
+
+-- a sheet is closed up to the boundary
+abbrev pub ClosedIn : ImageData → SheetData → Type 0
+ClosedIn image s = IsClosedUpToBoundary image.extent (by_edges s.cells)
+
+pub are_closed : ContoursAreClosed → (levels : List ℤ) (image : ImageData) → IsImage image → All (ClosedIn image) (contours_of levels image)
+are_closed law [] image valid = All-nil (ClosedIn image)
+are_closed law (level ∷ levels) image valid =
+    All-cons (ClosedIn image) (contour_of level image) (contours_of levels image) (law level image valid) (are_closed law levels image valid)
 
 pub lone_sum : LoneSidesAreBorders → (levels : List ℤ) (image : ImageData) → IsImage image
     → summed count_lone (contours_of levels image) ≡ summed (count_border image.extent) (contours_of levels image)

@@ -1,9 +1,16 @@
 -- What follows for audits (Doi and Koide 1991).
-use Rattle.std.specs.Prelude.{◌≡◌, ℕ, ◌+◌, Result, Ok}
+use Rattle.std.specs.Prelude.{◌≡◌, ℕ, ◌+◌, List, All, Result, Ok}
+use Rattle.viz_sheet.specs.Sheet.{SheetData}
+use Rattle.viz_dataset.specs.Images.{ImageData, IsImage}
+use Rattle.viz_dataset.specs.declared.dataset.Dataset.TheVariants.{Mesh}
 use Rattle.viz_surface_law.specs.declared.audits.Counts.{Counts}
+use Rattle.viz_surface_law.specs.Closed.{IsClosedUpToBoundary}
+use Rattle.viz_surface_law.specs.Surfaces.{by_edges}
 use Rattle.viz_network.specs.declared.fault.Fault.{Fault}
 use Rattle.viz_network.specs.Network.{Network}
-use Rattle.viz_audit.specs.Audited.{IsAuditOf}
+use Rattle.viz_network.specs.Cone.{cone_of}
+use Rattle.viz_scratch.specs.Scratch.{IsScratch}
+use Rattle.viz_audit.specs.Audited.{StandsOn, IsAuditOf}
 
 -- each side lies in two triangles or in one, and in one only on the boundary of the image's grid
 pub record IsClosed (c : Counts) : Type 0 where
@@ -13,6 +20,13 @@ pub record IsClosed (c : Counts) : Type 0 where
 -- whatever an audit counts is closed up to the boundary
 abbrev pub AuditsAreClosed : Type 0
 AuditsAreClosed = (net : Network) (id : ℕ) (c : Counts) → IsAuditOf net id (Ok c) → IsClosed c
+
+-- each sheet that a contour on an image gives is closed up to the boundary by itself
+abbrev pub SurfacesAreClosed : Type 0
+SurfacesAreClosed =
+    (net : Network) (id : ℕ) (image : ImageData) (sheets : List SheetData)
+    → IsImage image → StandsOn (cone_of net id) image → IsScratch net id (Ok (Mesh sheets))
+    → All (λ (s : SheetData). IsClosedUpToBoundary image.extent (by_edges s.cells)) sheets
 
 -- a node has one audit, or one fault of it
 abbrev pub AuditsAreOne : Type 0

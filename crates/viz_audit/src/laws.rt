@@ -1,14 +1,16 @@
 //! What audits keep. A law is a function that does nothing: its contract holds of the definitions
 //! alone.
 
-ghost use Rattle.viz_audit.specs.Laws.{AuditsAreClosed, AuditsAreOne};
+ghost use Rattle.viz_audit.specs.Laws.{AuditsAreClosed, AuditsAreOne, SurfacesAreClosed};
 
 use viz_scratch::scratch_is_one;
 use viz_surface_law::contours_are_closed;
 
-/// Whatever an audit counts is closed up to the boundary of the image's grid.
+/// Whatever an audit counts is closed up to the boundary of the image's grid, and so is each sheet
+/// by itself.
 pub fn audits_are_closed()
-    ensures { AuditsAreClosed }
+    ensures closed { AuditsAreClosed }
+    ensures surfaces { SurfacesAreClosed }
 {
     scratch_is_one();
     contours_are_closed();
@@ -16,7 +18,7 @@ pub fn audits_are_closed()
 
 /// A node has one audit, or one fault of it.
 pub fn audits_are_one()
-    ensures { AuditsAreOne }
+    ensures one { AuditsAreOne }
 {
     scratch_is_one();
 }

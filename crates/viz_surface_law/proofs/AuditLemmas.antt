@@ -1,13 +1,12 @@
 -- The counts of a sheet's sides by the keys of its ranks.
 use Rattle.std.proofs.Common.{◌≡◌, ℕ, ◌≤◌, ◌^◌, List, length, sym, ap, subst, ◌∙◌}
 use Rattle.std.specs.List.{All}
-use Rattle.std.proofs.lemmas.List.Elements.{All-get_or}
-use Rattle.viz_extent.specs.Extent.{Bounds, count_of}
+use Rattle.viz_extent.specs.Extent.{Bounds}
 use Rattle.viz_sheet.specs.Ranked.{AreRanks, by_names}
-use Rattle.viz_sheet.specs.Sheet.{SheetData, IsSheet}
+use Rattle.viz_sheet.specs.Sheet.{SheetData}
 use Rattle.viz_facets.proofs.FacetTable.{Each}
 use Rattle.viz_surface_law.specs.Audit.{count_sides, count_two, count_lone, count_border}
-use Rattle.viz_surface_law.specs.Surfaces.{by_edges, IsEdgeName, IsSurface}
+use Rattle.viz_surface_law.specs.Surfaces.{by_edges, IsSurface}
 use Rattle.viz_surface_law.specs.Steps.Keys.{half, keys_in, passing, any_side, in_two, in_one}
 use Rattle.viz_surface_law.specs.Steps.Ranked.{edges_by, in_border, IsTriangle, HasRanks}
 use Rattle.viz_surface_law.proofs.Ranks.{Sorted}

@@ -10,8 +10,7 @@ use Rattle.viz_kuhn.specs.Corners.{Corner, corner}
 use Rattle.viz_kuhn.specs.Kuhn.{Row, rows}
 use Rattle.viz_kuhn.specs.Places.{Place, place_of}
 use Rattle.viz_kuhn.specs.Cubes.{all_lowest, leaves_of}
-use Rattle.viz_surface_law.specs.Sides.{Side, side, same_side}
-use Rattle.viz_surface_law.proofs.Local.{diagonal}
+use Rattle.viz_surface_law.specs.Sides.{Side, same_side}
 use Rattle.viz_facets.proofs.ListCounts.{sum_by-same, by_test}
 use Rattle.viz_facets.proofs.CubeSums.{same_place, has_at, cubes_at}
 use Rattle.viz_facets.proofs.FacetTable.{facet, is_chain, same_corner, Each, Each_at}

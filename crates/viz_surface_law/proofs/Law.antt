@@ -1,7 +1,7 @@
 -- The surface law.
 use Rattle.viz_facets.proofs.GridFacets.{place_again, three, itself, chain_flipped}
 use Rattle.viz_facets.proofs.ListCounts.{positive}
-use Rattle.std.proofs.Common.{◌≡◌, ◌≢◌, ℕ, zero, suc, ◌+◌, ◌-◌, ◌<◌, ◌≤◌, ◌==◌, Bool, true, false, not, cond, ◌&&◌, ◌||◌, true≢false, inl, inr, List, [], ◌∷◌, map, length, get_or, refl, sym, ap, ◌∙◌, arith}
+use Rattle.std.proofs.Common.{◌≡◌, ◌≢◌, ℕ, zero, suc, ◌+◌, ◌<◌, ◌≤◌, ◌==◌, Bool, true, false, not, cond, ◌&&◌, ◌||◌, true≢false, inl, inr, List, [], ◌∷◌, map, length, get_or, refl, sym, ap, ◌∙◌, arith}
 use Rattle.std.specs.Prelude.{◌⊎◌, ◌↔◌, count_by, sum_by, IsTrue}
 use Rattle.std.specs.List.{All, flat_map, list_any}
 use Rattle.std.proofs.lemmas.Bool.{and_parts}

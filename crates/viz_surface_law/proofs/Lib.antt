@@ -10,7 +10,8 @@ pub mod Reordered
 pub mod Ranks
 pub mod RankCounts
 pub mod SheetLemmas
-pub mod ContourLemmas
+pub mod FormLemmas
+pub mod FormLaws
 pub mod BorderLemmas
 pub mod AuditLemmas
 mod StandardFacts

@@ -2,5 +2,6 @@ pub mod Sides
 pub mod Closed
 pub mod Audit
 pub mod Surfaces
+pub mod FormSections
 pub mod Contours
 pub mod Steps

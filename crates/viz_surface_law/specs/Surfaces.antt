@@ -12,10 +12,11 @@ edge_named name = record { low = slice_index name 0; high = slice_index name 1 }
 abbrev pub by_edges : List (List (List ℕ)) → List (List Edge)
 by_edges cells = map (map edge_named) cells
 
--- the name of an edge between two of so many points
+-- the name of an edge between two of so many points, the lesser leaf first
 pub record IsEdgeName (count : ℕ) (name : List ℕ) : Type 0 where
   pub two : length name ≡ 2
   pub below : All (λ leaf. leaf < count) name
+  pub apart : slice_index name 0 < slice_index name 1
 
 -- a sheet of triangles between edges of a grid
 pub record IsSurface (b : Bounds) (s : SheetData) : Type 0 where

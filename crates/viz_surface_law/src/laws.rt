@@ -3,6 +3,7 @@
 ghost use Rattle.viz_surface_law.specs.Audit.{AuditsAgree};
 ghost use Rattle.viz_surface_law.specs.Closed.{SectionsAreClosed};
 ghost use Rattle.viz_surface_law.specs.Contours.{ContourSidesAddUp, ContoursAreClosed, ContoursAreSurfaces, LoneSidesAreBorders};
+ghost use Rattle.viz_surface_law.specs.FormSections.{FormSectionsAreClosed, FormSectionsAreOfGrid, FormSectionsAreSurfaces, FormSidesAddUp, LoneFormSidesAreBorders};
 
 /// Whichever points are inside, each side of a triangle of the section lies in exactly two
 /// triangles that run through it in opposite directions, or in exactly one, and in one exactly
@@ -10,6 +11,16 @@ ghost use Rattle.viz_surface_law.specs.Contours.{ContourSidesAddUp, ContoursAreC
 pub fn sections_are_closed()
     ensures closed { SectionsAreClosed }
     ensures audit { AuditsAgree }
+{}
+
+/// So it is for the section of an image by each linear form, and its audit says so. A plane cut of
+/// an image is one, and so is a contour.
+pub fn form_sections_are_closed()
+    ensures closed { FormSectionsAreClosed }
+    ensures sides { FormSidesAddUp }
+    ensures lone { LoneFormSidesAreBorders }
+    ensures surface { FormSectionsAreSurfaces }
+    ensures grid { FormSectionsAreOfGrid }
 {}
 
 /// So it is for the contour of an image at each level, and its audit says so.

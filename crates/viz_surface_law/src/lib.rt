@@ -3,8 +3,8 @@
 //! Contract: whichever points are inside, each side of a triangle of the section lies in two
 //! triangles that run through it in opposite directions, or in one, and in one exactly where its
 //! facet lies on the boundary; `audit` counts the sides of any sheet of triangles between edges.
-//! Definitions: `specs/Sides.antt`, `specs/Closed.antt`, `specs/Audit.antt`, `specs/Surfaces.antt`
-//! and `specs/Contours.antt`.
+//! Definitions: `specs/Sides.antt`, `specs/Closed.antt`, `specs/Audit.antt`, `specs/Surfaces.antt`,
+//! `specs/FormSections.antt` and `specs/Contours.antt`.
 #![tactic(auto)]
 
 mod audits;
@@ -15,7 +15,7 @@ mod passes;
 mod surfaces;
 
 pub use audits::{Counts, audit};
-pub use laws::{contours_are_closed, sections_are_closed};
+pub use laws::{contours_are_closed, form_sections_are_closed, sections_are_closed};
 pub use surfaces::is_surface;
 
 #[cfg(test)]

@@ -7,7 +7,7 @@ use viz_extent::Extent;
 use viz_sheet::Sheet;
 
 /// Whether a sheet has triangles alone, and each name is that of an edge between two points of the
-/// grid. It is what `audit` needs.
+/// grid, the lesser leaf first. It is what `audit` needs.
 pub fn is_surface(sheet: &Sheet, whole: &Extent) -> bool
     ensures value { IsTrue result ↔ IsSurface whole.now sheet.now }
 {
@@ -26,11 +26,11 @@ fn are_edge_names(sheet: &Sheet, count: u64) -> bool
     true
 }
 
-/// A name is that of an edge between two of so many points.
+/// A name is that of an edge between two of so many points, the lesser leaf first.
 fn is_edge_name(name: &[u32], count: u64) -> bool
     ensures { IsTrue result ↔ IsEdgeName count name.now }
 {
-    name.len() == 2 && u64::from(name[0]) < count && u64::from(name[1]) < count
+    name.len() == 2 && u64::from(name[0]) < count && u64::from(name[1]) < count && name[0] < name[1]
 }
 
 /// Each cell has three names.

@@ -135,6 +135,11 @@ fn surfaces_are_triangles_between_edges(rt: HostRuntime) -> Result<(), Fail> {
     assert!(rt; is_surface(&sheet, &whole));
     // Leaves past the last point.
     assert!(rt; !is_surface(&sheet, &small));
+    // Leaves that descend, and a leaf twice.
+    for last in [[1, 0], [3, 3]] {
+        let sheet = sheet_of(rt.alloc(), &[[0, 1], [0, 2], last], &[[0, 2, 1]], 1)?;
+        assert!(rt; !is_surface(&sheet, &whole), "{last:?}");
+    }
     // Lines, and names of one leaf.
     let places = places(rt.alloc(), 7, 1)?;
     let lines = Ranks::Lines(vec![in rt.alloc(); [0, 1]]?);

@@ -1,5 +1,11 @@
-use Rattle.viz_audit.proofs.AuditLemmas.{audits_are_closed}
+use Rattle.viz_audit.proofs.AuditLemmas.{audits_are_closed, surfaces_are_closed}
 use Rattle.viz_audit.proofs.laws.audits_are_closed.Goals as goal
 
-pub returns : goal.returns
-returns c = audits_are_closed c.scratch_is_one.ensures.cones c.contours_are_closed.ensures.sides c.contours_are_closed.ensures.lone
+pub returns-clause-closed : goal.returns-clause-closed
+returns-clause-closed c =
+    let law = c.contours_are_closed.ensures in
+    audits_are_closed c.scratch_is_one.ensures.cones law.sides law.lone
+
+pub returns-clause-surfaces : goal.returns-clause-surfaces
+returns-clause-surfaces c =
+    surfaces_are_closed c.scratch_is_one.ensures.cones c.contours_are_closed.ensures.closed
