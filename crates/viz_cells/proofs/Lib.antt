@@ -7,3 +7,4 @@ pub mod NamedLemmas
 pub mod RankedLemmas
 pub mod FitLemmas
 pub mod MadeLemmas
+pub mod NameLemmas

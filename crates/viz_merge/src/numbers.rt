@@ -50,7 +50,8 @@ pub(crate) fn numbers(alloc: Global, marks: &[bool], leads: &[u32]) -> Result<Ve
 /// The number at each of these indices.
 fn looked_up(alloc: Global, numbers: &[u32], leads: &[u32]) -> Result<Vec<u32>, AllocError>
     requires { All (λ lead. lead < length numbers.now) leads.now }
-    ensures { IfOk result (λ v. v.items ≡ map (λ lead. slice_index_or numbers.now lead 0) leads.now) }
+    ensures { IfOk result (λ v.
+        v.items ≡ map (λ lead. slice_index_or numbers.now lead 0) leads.now) }
 {
     let mut found = Vec::with_capacity(alloc, leads.len())?;
     for lead in leads {

@@ -2,3 +2,4 @@ pub mod CellLemmas
 pub mod SelectLemmas
 pub mod FacetLemmas
 pub mod FitLemmas
+pub mod StandardFacts
