@@ -2,8 +2,8 @@
 //!
 //! Contract: a call gives the part `out` of what its filter makes of the whole image, from inputs
 //! that contain what `out` asks for, and refuses nothing but for want of memory.
-//! Definitions: `viz_meaning`'s `specs/ImageFilters.antt` and `specs/WholeImages.antt`; the rules are
-//! those of docs/FORMATS.md, "Filters".
+//! Definitions: `viz_meaning`'s `specs/ImageFilters.antt` and `specs/WholeImages.antt`; the rules
+//! are those of docs/FORMATS.md, "What a node gives".
 #![tactic(auto)]
 
 mod arithmetic;

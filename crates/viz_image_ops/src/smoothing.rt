@@ -17,7 +17,8 @@ use viz_extent::Extent;
 
 /// The numbers of a box mean on `out`: at each point the mean of the numbers at all points of the
 /// whole whose indices differ from its own by at most the radius along each axis, rounded down.
-/// The input contains `out.grow(radius, whole)`. What it costs doesn't grow with the radius.
+/// The input contains `out.grow(radius, whole)`. What it costs goes by the points of that extent:
+/// on the whole it doesn't grow with the radius, and on a part it does.
 pub fn smooth(
     alloc: Global,
     input: &Image,
