@@ -7,4 +7,5 @@ mod CountLemmas
 pub mod ScriptLemmas
 mod OnceLemmas
 mod NumberLemmas
+mod AloneLemmas
 mod AuditLemmas

@@ -1,5 +1,5 @@
 -- The numbers of one actor's lines are those of its edits.
-use Rattle.std.proofs.Common.{◌≡◌, ℕ, zero, suc, ◌+◌, ◌≤◌, Bool, true, false, cond, List, [], ◌∷◌, ◌++◌, append-nil, length, flat_map, refl, sym, ap, subst, ◌∙◌, arith}
+use Rattle.std.proofs.Common.{◌≡◌, ℕ, zero, suc, ◌+◌, ◌≤◌, Bool, true, false, cond, List, [], ◌∷◌, ◌++◌, length, flat_map, refl, sym, ap, subst, ◌∙◌, arith}
 use Rattle.viz_base.specs.declared.call.Call.{Call}
 use Rattle.viz_base.specs.declared.port.Port as port
 use Rattle.viz_network.specs.declared.edit.Edit.{Edit}
@@ -12,8 +12,8 @@ use Rattle.viz_report.specs.declared.line.Line.{Line}
 use Rattle.viz_report.specs.declared.line.Line.TheVariants as line
 use Rattle.viz_report.specs.declared.line.Reason.TheVariants as reason
 use Rattle.viz_account.specs.Lines.{network_at, TellsEdit, TellsLoad, TellsAudit, Tells}
-use Rattle.viz_account.specs.Account.{edited, AreTold, places_from, AreActors, IsAccountOf}
-use Rattle.viz_account.specs.Laws.{Shows, CountEdits, LinesCountEdits}
+use Rattle.viz_account.specs.Account.{edited, AreTold, places_from, IsActor}
+use Rattle.viz_account.specs.Laws.{Shows, CountEdits}
 use Rattle.viz_account.proofs.OnceLemmas.{few}
 use Rattle.viz_account.proofs.ScriptLemmas.{least_low, phases_flat, edited_flat}
 
@@ -148,17 +148,11 @@ module _ (limit : ℕ) (h : List Entry) (ps : List ℕ) where
   counted n c (o ∷ os) (line.WriteFault ∷ ls) calls last t e whole = let q = quiet n c o os line.WriteFault ls calls last t e whole in (q.2, subst (λ k. CountEdits k ls) (let z : n ≡ n + 0 = omega arith in z) (counted n c os ls q.3.0 last (subst (λ k. AreTold limit h ps k os ls q.3.0 last) (let z : n + 0 ≡ n = omega arith in z) q.3.1) e whole))
   counted n c (o ∷ os) (line.Memory ∷ ls) calls last t e whole = let q = quiet n c o os line.Memory ls calls last t e whole in (q.2, subst (λ k. CountEdits k ls) (let z : n ≡ n + 0 = omega arith in z) (counted n c os ls q.3.0 last (subst (λ k. AreTold limit h ps k os ls q.3.0 last) (let z : n + 0 ≡ n = omega arith in z) q.3.1) e whole))
 
-one_actor : {P : Type 0} (m : port.Ghosts P) (limit : ℕ) (h : List Entry) (passes : List (List ℕ)) (phases : List (List Asked)) (lines : List (List Line)) (ends : List ℕ) (before after : List P)
-    → AreActors m limit h passes (phases ∷ []) (lines ∷ []) ends before after → entries_of by_of (flat_map (λ ps. ps) passes) h ≡ h → CountEdits 0 (flat_map (λ ls. ls) lines)
-one_actor m limit h [] phases lines ends before after t whole = absurd t
-one_actor m limit h (ps ∷ passes) phases lines ends [] after t whole = absurd t
-one_actor m limit h (ps ∷ passes) phases lines ends (b ∷ before) [] t whole = absurd t
-one_actor m limit h (ps ∷ p ∷ passes) phases lines ends (b ∷ before) (a ∷ after) t whole = absurd t.1
-one_actor m limit h (ps ∷ []) phases lines ends (b ∷ before) (a ∷ after) t whole =
-    let r = phases_flat limit h ps 0 phases lines ends t.0.gained.0 t.0.gained.2 in
-    let all : entries_of by_of ps h ≡ h = subst (λ (l : List ℕ). entries_of by_of l h ≡ h) (append-nil ps) whole in
-    counted limit h ps 0 (length h) (flat_map (λ os. os) phases) (flat_map (λ ls. ls) lines) t.0.gained.0 r.0 r.1
-    (edited_flat lines ∙ sym t.0.own ∙ all_places ps 0 h all) (let e : 0 + length h ≡ length h = omega arith in e)
-
-pub lines_count : {P : Type 0} (m : port.Ghosts P) → LinesCountEdits m
-lines_count m limit phases h lines before after account = one_actor m limit h account.passes phases lines account.ends before after account.actors account.whole
+-- the lines of an actor whose passes made all entries
+pub own_counts : {P : Type 0} (m : port.Ghosts P) (limit : ℕ) (h : List Entry) (ps : List ℕ) (phases : List (List Asked))
+    (lines : List (List Line)) (ends : List ℕ) (before after : P) → IsActor m limit h ps phases lines ends before after
+    → entries_of by_of ps h ≡ h → CountEdits 0 (flat_map (λ ls. ls) lines)
+own_counts m limit h ps phases lines ends before after t whole =
+    let r = phases_flat limit h ps 0 phases lines ends t.gained.0 t.gained.2 in
+    counted limit h ps 0 (length h) (flat_map (λ os. os) phases) (flat_map (λ ls. ls) lines) t.gained.0 r.0 r.1
+    (edited_flat lines ∙ sym t.own ∙ all_places ps 0 h whole) (let e : 0 + length h ≡ length h = omega arith in e)

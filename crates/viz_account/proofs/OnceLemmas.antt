@@ -59,7 +59,7 @@ places_here ps a (suc k) (d ∷ h) e at =
 
 -- ---- passes of several actors
 
-has_both : (x : ℕ) (a b : List ℕ) → has x (a ++ b) ≡ (has x a || has x b)
+pub has_both : (x : ℕ) (a b : List ℕ) → has x (a ++ b) ≡ (has x a || has x b)
 has_both x [] b = refl
 has_both x (y ∷ a) b = by (x == y) (has_both x a b)
   where

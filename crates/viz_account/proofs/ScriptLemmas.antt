@@ -1,5 +1,5 @@
 -- The lines of one actor through all phases.
-use Rattle.std.proofs.Common.{◌≡◌, ℕ, ◌≤◌, List, [], ◌∷◌, ◌++◌, flat_map, refl, sym, ap, ◌∙◌, arith}
+use Rattle.std.proofs.Common.{◌≡◌, ℕ, ◌≤◌, List, [], ◌∷◌, ◌++◌, flat_map, refl, sym, ap, subst, ◌∙◌, arith}
 use Rattle.std.proofs.lemmas.Grind.{flat_map-append}
 use Rattle.viz_base.specs.declared.call.Call.{Call}
 use Rattle.viz_core.specs.declared.entry.Entry.{Entry}
@@ -34,3 +34,16 @@ phases_flat limit h ps low (os ∷ phases) (ls ∷ lines) (e ∷ ends) calls t =
 pub edited_flat : (lines : List (List Line)) → flat_map edited (flat_map (λ l. l) lines) ≡ flat_map (λ ls. flat_map edited ls) lines
 edited_flat [] = refl
 edited_flat (ls ∷ lines) = flat_map-append edited ls (flat_map (λ l. l) lines) ∙ ap (λ t. flat_map edited ls ++ t) (edited_flat lines)
+
+-- an actor without commands has no lines
+pub no_lines : (limit : ℕ) (h : List Entry) (ps : List ℕ) (phases : List (List Asked)) (lines : List (List Line))
+    (ends : List ℕ) (calls : List Call) → ArePhases limit h ps 0 phases lines ends calls → flat_map (λ os. os) phases ≡ []
+    → flat_map (λ ls. ls) lines ≡ []
+no_lines limit h ps phases lines ends calls t none =
+    let r = phases_flat limit h ps 0 phases lines ends calls t in
+    by (flat_map (λ ls. ls) lines) r.0
+    (subst (λ (os : List Asked). AreTold limit h ps 0 os (flat_map (λ ls. ls) lines) calls r.0) none r.1)
+  where
+    by : (ls : List Line) (last : ℕ) → AreTold limit h ps 0 [] ls calls last → ls ≡ []
+    by [] last s = refl
+    by (l ∷ ls) last s = absurd s

@@ -1,5 +1,5 @@
 -- What follows for accounts (docs/DEFINITIONS.md, "The account of a script").
-use Rattle.std.specs.Prelude.{◌≡◌, ℕ, ◌+◌, ◌<◌, ◌≤◌, nat_eq, if◌then◌else◌, List, [], ◌∷◌, ◌++◌, length, flat_map, All}
+use Rattle.std.specs.Prelude.{◌≡◌, ◌≢◌, ℕ, ◌+◌, ◌<◌, ◌≤◌, nat_eq, if◌then◌else◌, List, [], ◌∷◌, ◌++◌, length, flat_map, All, slice_get, Some}
 use Rattle.viz_base.specs.declared.call.Call.{Call}
 use Rattle.viz_base.specs.declared.port.Port as port
 use Rattle.viz_core.specs.declared.entry.Entry.{Entry}
@@ -41,10 +41,16 @@ abbrev pub CountEdits : ℕ → List Line → Type 0
 CountEdits n [] = Unit {0}
 CountEdits n (l ∷ ls) = Shows (n + length (edited l)) l × CountEdits (n + length (edited l)) ls
 
--- the lines of a script of one actor, in whatever phases, count its accepted edits
+-- no actor but the one at this place has a command, in any phase
+abbrev pub AsksAlone : ℕ → List (List (List Asked)) → Type 0
+AsksAlone i script = (j : ℕ) (phases : List (List Asked)) → slice_get script j ≡ Some phases → j ≢ i
+    → flat_map (λ os. os) phases ≡ []
+
+-- where one actor alone has commands, whatever other actors there are, its lines count the accepted edits
 abbrev pub LinesCountEdits : {P : Type 0} → port.Ghosts P → Type 0
-LinesCountEdits {P} m = (limit : ℕ) (phases : List (List Asked)) (h : List Entry) (lines : List (List Line)) (before after : List P)
-    → IsAccountOf m limit (phases ∷ []) h (lines ∷ []) before after → CountEdits 0 (flat_map (λ ls. ls) lines)
+LinesCountEdits {P} m = (limit : ℕ) (script : List (List (List Asked))) (h : List Entry) (lines : List (List (List Line)))
+    (before after : List P) → IsAccountOf m limit script h lines before after → (i : ℕ) → AsksAlone i script
+    → (mine : List (List Line)) → slice_get lines i ≡ Some mine → CountEdits 0 (flat_map (λ ls. ls) mine)
 
 -- what an audit's line tells is closed up to the boundary: each side lies in two triangles or in one, and in one only on the boundary
 abbrev pub IsClosedLine : Line → Type 0

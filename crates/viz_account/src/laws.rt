@@ -8,23 +8,24 @@ use viz_base::Port;
 
 /// Lines that tell of commands in a history tell of them in each longer one.
 pub fn accounts_hold_later()
-    ensures { HoldLater }
+    ensures later { HoldLater }
 {}
 
 /// Each entry of an account's history is told by just one line, that of its edit.
 pub fn entries_are_told_once<P: Port>()
-    ensures { EntriesAreToldOnce P.Port }
+    ensures once { EntriesAreToldOnce P.Port }
 {}
 
-/// The lines of a script of one actor show how many of its edits were accepted so far.
+/// Where one actor alone has commands, each of its lines shows how many edits were accepted so far,
+/// its own included.
 pub fn lines_count_edits<P: Port>()
-    ensures { LinesCountEdits P.Port }
+    ensures counts { LinesCountEdits P.Port }
 {}
 
 /// What the lines of audits tell is closed up to the boundary, in each account: `sides` is `two` and
 /// `open` together, and `open` is `border`.
 pub fn audit_lines_are_closed<P: Port>()
-    ensures { AuditLinesAreClosed P.Port }
+    ensures closed { AuditLinesAreClosed P.Port }
 {
     audits_are_closed();
 }

@@ -37,23 +37,27 @@ abbrev pub ToldBy : Came → Answer → Status → Type 0
 ToldBy c a status.Done = (at : ℕ) × (cells : ℕ) × (points : ℕ) × (ran : ℕ) × (c ≡ came.Updated (line.File at cells points ran)) × (a ≡ Ok tt)
 ToldBy c a status.Refused = (reason : Reason) × (at : ℕ) × (c ≡ came.Updated (line.Refused reason at)) × (a ≡ Ok tt)
 ToldBy c a status.Script = (c ≡ came.NoPort) ⊎ ((n : ℕ) × (r : ScriptRefusal) × (c ≡ came.Refused n r))
-ToldBy c a status.Fault = (c ≡ came.Unread) ⊎ ((c ≡ came.Updated line.WriteFault) ⊎ (a ≡ Err writing.Failed))
+ToldBy c a status.Fault =
+    (c ≡ came.Unread) ⊎ ((l : Line) × (c ≡ came.Updated l) × (update_status l ≢ status.Memory) × ((l ≡ line.WriteFault) ⊎ (a ≡ Err writing.Failed)))
 ToldBy c a status.Usage = ⊥
 ToldBy c a status.Memory = Unit {0}
 
 told_line : (l : Line) (a : Answer) → a ≡ Ok tt → ToldBy (came.Updated l) a (update_status l)
 told_line (line.File at cells points ran) a ok = (at, cells, points, ran, refl, ok)
 told_line (line.Refused reason at) a ok = (reason, at, refl, ok)
-told_line line.WriteFault a ok = inr (inl refl)
+told_line line.WriteFault a ok = inr (line.WriteFault, refl, (λ e. let bad : status.Fault ≡ status.Memory = e in cc), inl refl)
 told_line (line.Edit at) a ok = tt
 told_line (line.Audit at sides two lone border) a ok = tt
 told_line line.ReadFault a ok = tt
 told_line line.Memory a ok = tt
 
 failed_line : (l : Line) (a : Answer) → a ≡ Err writing.Failed → ToldBy (came.Updated l) a (fault_over (update_status l))
-failed_line (line.File at cells points ran) a failed = inr (inr failed)
-failed_line (line.Refused reason at) a failed = inr (inr failed)
-failed_line line.WriteFault a failed = inr (inr failed)
+failed_line (line.File at cells points ran) a failed =
+    inr (line.File at cells points ran, refl, (λ e. let bad : status.Done ≡ status.Memory = e in cc), inr failed)
+failed_line (line.Refused reason at) a failed =
+    inr (line.Refused reason at, refl, (λ e. let bad : status.Refused ≡ status.Memory = e in cc), inr failed)
+failed_line line.WriteFault a failed =
+    inr (line.WriteFault, refl, (λ e. let bad : status.Fault ≡ status.Memory = e in cc), inr failed)
 failed_line (line.Edit at) a failed = tt
 failed_line (line.Audit at sides two lone border) a failed = tt
 failed_line line.ReadFault a failed = tt
@@ -222,16 +226,24 @@ module _ {P O : Type 0} (m : port.Ghosts P) (o : out.Ghosts O) (c : Replay) (des
         (f.0, script_ends o before after (came.Refused line why) found telling.0 telling.1 ended refl f.1 telling.2 telling.3 telling.4);
   }
 
+  failure : (l : Line) → (l ≡ line.WriteFault) ⊎ (telling.1 ≡ Err writing.Failed)
+      → (l ≡ line.WriteFault) ⊎ Rose (o.faults before) (o.faults after)
+  failure l (inl is) = inl is
+  failure l (inr failed) = inr (telling.4.cause failed)
+
   pub fault : ended ≡ status.Fault → IsFault m o c desk new_desk old new before after
   fault is = elim (told_at telling.0 telling.1 ended status.Fault telling.3 is) [
     | inl e ↦
         let f = found_is found telling.0 came.Unread telling.2 e (λ bad. let b : came.Memory ≡ came.Unread = bad in cc) in
         let d = unread m c old new ran.0 (ends_in came.Unread f) in
         inl (asked_is (Some read.Failed) d.0, d.1, puts o (line_of came.Unread) before after telling.1 (line_put came.Unread e))
-    | inr t ↦ elim t [
-      | inl e ↦ inr (inl (updated_from line.WriteFault e, puts o (line_of (came.Updated line.WriteFault)) before after telling.1 (line_put (came.Updated line.WriteFault) e)))
-      | inr failed ↦ inr (inr (telling.4.cause failed))
-    ]
+    | inr t ↦ inr (
+      t.0,
+      updated_from t.0 t.1,
+      t.2,
+      failure t.0 t.3,
+      puts o (line_of (came.Updated t.0)) before after telling.1 (line_put (came.Updated t.0) t.1),
+    )
   ]
 
   first_rose : (entries : List JournalEntry) (before_ports after_ports : List P) → IsUpdated m c entries line.WriteFault before_ports after_ports → FirstRose m before_ports after_ports
@@ -242,8 +254,10 @@ module _ {P O : Type 0} (m : port.Ghosts P) (o : out.Ghosts O) (c : Replay) (des
   pub cause : ended ≡ status.Fault → Rose (m.faults desk) (m.faults new_desk) ⊎ (FirstRose m old new ⊎ Rose (o.faults before) (o.faults after))
   cause is = elim (fault is) [
     | inl read ↦ inl (read.0.cause refl)
-    | inr t ↦ elim t [
-      | inl written ↦ inr (inl (first_rose written.0.1 old new written.0.3))
+    | inr t ↦ elim t.3 [
+      | inl failed ↦
+          let u = subst (λ (l : Line). IsUpdatedFrom m c l desk new_desk old new) failed t.1 in
+          inr (inl (first_rose u.1 old new u.3))
       | inr put ↦ inr (inr put)
     ]
   ]

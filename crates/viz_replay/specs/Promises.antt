@@ -1,5 +1,5 @@
 -- What a run of a journal's prefix promises of its status, its line, its calls and the files (docs/FORMATS.md, "Report").
-use Rattle.std.specs.Prelude.{◌≡◌, ℕ, List, [], ◌⊎◌, None, Some, Ok, IsTrue}
+use Rattle.std.specs.Prelude.{◌≡◌, ◌≢◌, ℕ, List, [], ◌⊎◌, None, Some, Ok, IsTrue}
 use Rattle.viz_base.specs.Faults.{Rose}
 use Rattle.viz_base.specs.declared.port.Port as port
 use Rattle.viz_base.specs.declared.out.Out as out
@@ -8,8 +8,9 @@ use Rattle.viz_base.specs.declared.call.ReadAnswer.TheVariants as read
 use Rattle.viz_journal.specs.declared.entry.JournalEntry.{JournalEntry}
 use Rattle.viz_journal.specs.Reading.{journal_of}
 use Rattle.viz_once.specs.Promises.{GainsLine, PutsLine}
-use Rattle.viz_once.specs.Report.{no_port_line, read_fault_line, write_fault_line}
+use Rattle.viz_once.specs.Report.{no_port_line, read_fault_line}
 use Rattle.viz_once.specs.declared.outcome.Status.{Status}
+use Rattle.viz_once.specs.declared.outcome.Status.TheVariants as status
 use Rattle.viz_report.specs.declared.line.Line.{Line}
 use Rattle.viz_report.specs.declared.line.Line.TheVariants as line
 use Rattle.viz_report.specs.declared.line.Reason.{Reason}
@@ -17,7 +18,7 @@ use Rattle.viz_words.specs.declared.refusal.ScriptRefusal.{ScriptRefusal}
 use Rattle.viz_script_run.specs.Promises.{DeskAnswered, EndsInScript}
 use Rattle.viz_script_run.specs.Told.{refused_script}
 use Rattle.viz_replay.specs.Replay.{Replay, IsAsked, IsRefusal, IsUpdated}
-use Rattle.viz_replay.specs.Told.{file_line, refused_line}
+use Rattle.viz_replay.specs.Told.{file_line, refused_line, update_line, update_status}
 
 -- the journal was read, the sink was updated on the network of its first entries, with this line, and nothing else was done
 abbrev pub IsUpdatedFrom : {P : Type 0} → port.Ghosts P → Replay → Line → P → P → List P → List P → Type 0
@@ -52,9 +53,10 @@ pub record TellsRefusals {P O : Type 0} (m : port.Ghosts P) (o : out.Ghosts O) (
   pub journal : (answer : ReadAnswer) (line : ℕ) (r : ScriptRefusal) → IsRefusal answer line r → IsTrue m.tells_calls
       → DeskAnswered m c.journal answer desk new_desk → (new ≡ old) × EndsInScript o (refused_script line r) before after ended
 
--- a run that answers Fault: the read of the journal failed, or the write of the file, and that was told; or the put failed
+-- a run that answers Fault: the read of the journal failed, and that was told; or the sink was updated, and the write of its file
+-- failed, or the put of its line
 abbrev pub IsFault : {P O : Type 0} → port.Ghosts P → out.Ghosts O → Replay → P → P → List P → List P → O → O → Type 0
 IsFault m o c desk new_desk old new before after =
     (IsAsked m c.journal (Some read.Failed) desk new_desk × (new ≡ old) × PutsLine o read_fault_line before after)
-    ⊎ ((IsUpdatedFrom m c line.WriteFault desk new_desk old new × PutsLine o write_fault_line before after)
-    ⊎ Rose (o.faults before) (o.faults after))
+    ⊎ ((l : Line) × IsUpdatedFrom m c l desk new_desk old new × (update_status l ≢ status.Memory)
+    × ((l ≡ line.WriteFault) ⊎ Rose (o.faults before) (o.faults after)) × PutsLine o (update_line l) before after)

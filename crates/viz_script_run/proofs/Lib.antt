@@ -3,6 +3,8 @@ pub mod RowLemmas
 pub mod ActorLemmas
 pub mod FoundLemmas
 pub mod JournalLemmas
+pub mod IdleLemmas
+pub mod SoloLemmas
 pub mod StepsLemmas
 pub mod DeskLemmas
 pub mod RunLemmas

@@ -32,8 +32,9 @@ use Rattle.viz_script_run.specs.declared.ran.Ran.TheVariants as ran
 use Rattle.viz_phases.specs.Groups.{actors_over}
 use Rattle.viz_script_run.specs.Deeds.{Deed, Nothing, Asked, Kept, IsDoneAt, IsAccounted, IsServed, EndsIn, IsRan, calls_of, is_written}
 use Rattle.viz_script_run.specs.Told.{text_of, refused_script, is_fault, has_memory, has_fault, has_refused, served_status, status_after, Settles, IsPut, IsTold}
-use Rattle.viz_script_run.specs.Promises.{IsRefusal, IsScriptRefused, EndsInScript, TellsRefusals, IsServedBy, IsReported, IsServedWithFault, IsUnread, IsCutOff, SomeRose}
+use Rattle.viz_script_run.specs.Promises.{IsRefusal, IsScriptRefused, EndsInScript, TellsRefusals, IsServedBy, IsReported, IsServedWithFault, IsUnread, IsCutOff, IdleStay, SomeRose}
 use Rattle.viz_script_run.proofs.RowLemmas.{rows_pass}
+use Rattle.viz_script_run.proofs.IdleLemmas.{served_or_same, idle_ports}
 
 abbrev pub Answer : Type 0
 Answer = Result (Unit {0}) WriteRefusal
@@ -343,20 +344,20 @@ module _ {P O : Type 0} (m : port.Ghosts P) (o : out.Ghosts O) (script journal :
   ]
 
   cut_off_in : (deed : Deed) (r : Ran) → EndsIn m deed r old new → IsDoneAt m script journal deed desk new_desk → IsCutOff m script journal desk new_desk old new
-  cut_off_in Nothing ran.Memory h d = inl h
+  cut_off_in Nothing ran.Memory h d = inl (inl d, h)
   cut_off_in Nothing ran.Unread h d = absurd h
   cut_off_in Nothing (ran.Refused line r) h d = absurd h
   cut_off_in Nothing (ran.Served rows kept) h d = absurd h
-  cut_off_in (Asked read.Failed) ran.Unread h d = inl h
+  cut_off_in (Asked read.Failed) ran.Unread h d = inl (inr (read.Failed, d), h)
   cut_off_in (Asked read.Failed) ran.Memory h d = absurd h
   cut_off_in (Asked read.Failed) (ran.Refused line r) h d = absurd h
   cut_off_in (Asked read.Failed) (ran.Served rows kept) h d = absurd h
-  cut_off_in (Asked (read.TooLong taken)) (ran.Refused line r) h d = inl h.2
+  cut_off_in (Asked (read.TooLong taken)) (ran.Refused line r) h d = inl (inr (read.TooLong taken, d), h.2)
   cut_off_in (Asked (read.TooLong taken)) ran.Memory h d = absurd h
   cut_off_in (Asked (read.TooLong taken)) ran.Unread h d = absurd h
   cut_off_in (Asked (read.TooLong taken)) (ran.Served rows kept) h d = absurd h
-  cut_off_in (Asked (read.Given bytes)) (ran.Refused line r) h d = inl h.1
-  cut_off_in (Asked (read.Given bytes)) ran.Memory h d = elim h [ inl same ↦ inl same | inr served ↦ inr (inl (bytes, served, d)) ]
+  cut_off_in (Asked (read.Given bytes)) (ran.Refused line r) h d = inl (inr (read.Given bytes, d), h.1)
+  cut_off_in (Asked (read.Given bytes)) ran.Memory h d = elim h [ inl same ↦ inl (inr (read.Given bytes, d), same) | inr served ↦ inr (inl (bytes, served, d)) ]
   cut_off_in (Asked (read.Given bytes)) ran.Unread h d = absurd h
   cut_off_in (Asked (read.Given bytes)) (ran.Served rows kept) h d = absurd h
   cut_off_in (Kept bytes text answer) (ran.Served rows kept) h d = inr (inr (rows, answer, (bytes, text, h.0, d)))
@@ -366,6 +367,9 @@ module _ {P O : Type 0} (m : port.Ghosts P) (o : out.Ghosts O) (script journal :
 
   pub cut_off : IsCutOff m script journal desk new_desk old new
   cut_off = cut_off_in came.0 found came.1 came.2
+
+  pub idle_stay : IdleStay m script journal desk new_desk old new
+  idle_stay = (came.0, came.2, λ i none. idle_ports m old new came.0 (served_or_same m old new came.0 found came.1) i none)
 
   pub no_usage : ended ≢ status.Usage
   no_usage is = told_at telling.0 telling.1 ended status.Usage telling.3 is

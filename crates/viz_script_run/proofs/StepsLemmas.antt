@@ -11,7 +11,7 @@ use Rattle.viz_report.specs.declared.line.Line.{Line}
 use Rattle.viz_report.specs.declared.line.Row.{Row}
 use Rattle.viz_report.specs.Report.{report_rows}
 use Rattle.viz_account.specs.Account.{AreActors, IsAccountOf}
-use Rattle.viz_account.specs.Laws.{IsClosedLine, AuditLinesAreClosed}
+use Rattle.viz_account.specs.Laws.{IsClosedLine, AuditLinesAreClosed, LinesCountEdits}
 use Rattle.viz_script_run.specs.declared.ran.Ran.{Ran}
 use Rattle.viz_script_run.specs.declared.ran.Ran.TheVariants as ran
 use Rattle.viz_phases.specs.Groups.{by_actor, actors_over, history_limit}
@@ -21,6 +21,7 @@ use Rattle.viz_script_run.specs.Numbering.{actors_of, TellsActor, AreOwn, IsJour
 use Rattle.viz_script_run.specs.Deeds.{Asked, Kept, EndsIn, IsAccounted, IsServed}
 use Rattle.viz_script_run.specs.Serving.{IsServedWith, IsKept, IsRanBehind}
 use Rattle.viz_script_run.proofs.RowLemmas.{rows_hold}
+use Rattle.viz_script_run.proofs.SoloLemmas.{rows_count}
 use Rattle.viz_script_run.proofs.ActorLemmas.{Own, rows_tell}
 
 -- ---- the passes of an account
@@ -58,6 +59,7 @@ are_closed m limit phases script rows h told before after closed a rows_are =
 module _ {P : Type 0} (m : port.Ghosts P) (bytes name : List ℕ) (steps : List Stepped) (rows : List Row) (history : List Entry) (old new : List P) (came : Ran) (desk new_desk : P)
     (reads : script_of (actors_over old) bytes ≡ Ok steps)
     (closed : AuditLinesAreClosed m)
+    (counts : LinesCountEdits m)
     (s : IsServedScript m steps rows history old new) where
   abbrev script : List (List (List Command))
   script = by_actor (actors_over old) phase_limit steps
@@ -71,6 +73,7 @@ module _ {P : Type 0} (m : port.Ghosts P) (bytes name : List ℕ) (steps : List 
     account = s.account;
     rows_are = s.rows_are;
     closed = are_closed m history_limit phase_limit script rows history s.told old new closed s.account s.rows_are;
+    counted = λ actor one. rows_count m history_limit (actors_over old) phase_limit steps rows history s.told old new counts s.account s.rows_are actor one;
     journal = journal;
   })
 

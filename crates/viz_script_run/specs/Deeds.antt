@@ -1,5 +1,5 @@
 -- What a run of a script did: at the desk, at the ports, and how it ended (docs/DEFINITIONS.md, "The account of a script").
-use Rattle.std.specs.Prelude.{◌≡◌, ℕ, ◌≤◌, Bool, true, false, List, [], ◌∷◌, ◌++◌, ◌⊎◌, All, Some, Ok, Err, IsTrue}
+use Rattle.std.specs.Prelude.{◌≡◌, ℕ, ◌≤◌, Bool, true, false, List, [], ◌∷◌, ◌++◌, ◌⊎◌, All, map, Option, None, Some, Ok, Err, IsTrue}
 use Rattle.viz_base.specs.Faults.{Rose}
 use Rattle.viz_base.specs.Files.{Files, SameFiles, SameOthers}
 use Rattle.viz_base.specs.declared.port.Port as port
@@ -17,7 +17,7 @@ use Rattle.viz_report.specs.declared.line.Line.{Line}
 use Rattle.viz_report.specs.declared.line.Row.{Row}
 use Rattle.viz_report.specs.Report.{report_rows}
 use Rattle.viz_account.specs.Account.{IsAccountOf}
-use Rattle.viz_account.specs.Laws.{IsClosedLine}
+use Rattle.viz_account.specs.Laws.{CountEdits, IsClosedLine}
 use Rattle.viz_script_run.specs.declared.ran.Ran.{Ran}
 use Rattle.viz_script_run.specs.declared.ran.Ran.TheVariants as ran
 use Rattle.viz_phases.specs.Groups.{by_actor, actors_over, history_limit}
@@ -36,6 +36,12 @@ abbrev pub calls_of : List ℕ → List ℕ → Deed → List Call
 calls_of script journal Nothing = []
 calls_of script journal (Asked answer) = Read script answer ∷ []
 calls_of script journal (Kept bytes text answer) = Read script (read.Given bytes) ∷ Write journal text answer ∷ []
+
+-- the bytes that a deed read
+abbrev pub bytes_of : Deed → Option (List ℕ)
+bytes_of (Asked (read.Given bytes)) = Some bytes
+bytes_of (Kept bytes text answer) = Some bytes
+bytes_of deed = None
 
 -- the files around a deed: what was read stood there, what was written stands there, and all else is as before
 abbrev pub FilesAround : List ℕ → List ℕ → Deed → ℕ → Files → Files → Type 0
@@ -61,7 +67,8 @@ pub record IsDoneAt {P : Type 0} (m : port.Ghosts P) (script journal : List ℕ)
 -- ---- the ports
 
 -- the account of the script of these bytes: a history, whose journal is this text, and a line for each command, of which
--- these are the rows; what their audits counted is closed up to the boundary
+-- these are the rows; what their audits counted is closed up to the boundary, and where all commands are of one actor, each
+-- row shows how many edits were accepted up to it
 pub record IsAccounted {P : Type 0} (m : port.Ghosts P) (bytes : List ℕ) (rows : List Row) (text : List ℕ)
     (old new : List P) : Type 0 where
   pub steps : List Stepped
@@ -71,6 +78,7 @@ pub record IsAccounted {P : Type 0} (m : port.Ghosts P) (bytes : List ℕ) (rows
   pub account : IsAccountOf m history_limit (by_actor (actors_over old) phase_limit steps) history told old new
   pub rows_are : rows ≡ report_rows phase_limit told
   pub closed : All (λ r. IsClosedLine r.line) rows
+  pub counted : (actor : ℕ) → All (λ s. s.actor ≡ actor) steps → CountEdits 0 (map (λ r. r.line) rows)
   pub journal : text ≡ journal_of account.passes history
 
 -- ---- how it ended

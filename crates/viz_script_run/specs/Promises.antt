@@ -1,5 +1,5 @@
 -- What a run of a script promises of its status, its text, its calls and the files (docs/FORMATS.md, "Report").
-use Rattle.std.specs.Prelude.{◌≡◌, ℕ, true, false, List, [], ◌∷◌, ◌++◌, ◌⊎◌, Err, IsTrue}
+use Rattle.std.specs.Prelude.{◌≡◌, ◌≢◌, ℕ, ◌+◌, true, false, List, [], ◌∷◌, ◌++◌, ◌⊎◌, All, slice_get, Some, Ok, Err, IsTrue}
 use Rattle.viz_base.specs.Faults.{Rose}
 use Rattle.viz_base.specs.declared.port.Port as port
 use Rattle.viz_base.specs.declared.out.Out as out
@@ -12,13 +12,13 @@ use Rattle.viz_once.specs.Promises.{GainsLine, PutsLine}
 use Rattle.viz_once.specs.Report.{read_fault_line}
 use Rattle.viz_once.specs.declared.outcome.Status.{Status}
 use Rattle.viz_once.specs.declared.outcome.Status.TheVariants as status
-use Rattle.viz_script.specs.Script.{script_of}
+use Rattle.viz_script.specs.Script.{Stepped, script_of}
 use Rattle.viz_words.specs.declared.refusal.ScriptRefusal.{ScriptRefusal}
 use Rattle.viz_words.specs.declared.refusal.ScriptRefusal.TheVariants as refusal
 use Rattle.viz_report.specs.declared.line.Row.{Row}
 use Rattle.viz_report.specs.Report.{rows_text}
 use Rattle.viz_phases.specs.Groups.{actors_over}
-use Rattle.viz_script_run.specs.Deeds.{Asked, Kept, IsDoneAt, IsAccounted, IsServed}
+use Rattle.viz_script_run.specs.Deeds.{Deed, Nothing, Asked, Kept, bytes_of, IsDoneAt, IsAccounted, IsServed}
 use Rattle.viz_script_run.specs.Told.{refused_script, served_status, has_memory, has_fault}
 
 -- ---- scripts that are refused
@@ -82,12 +82,33 @@ abbrev pub IsUnread : {P O : Type 0} → port.Ghosts P → out.Ghosts O
 IsUnread m o script journal desk new_desk old new before after =
     IsDoneAt m script journal (Asked read.Failed) desk new_desk × (new ≡ old) × PutsLine o read_fault_line before after
 
--- a run that answers Memory: no port was called, or there is an account all the same, whose journal alone may have been written
+-- the desk was asked for nothing, or for the script alone
+abbrev pub AskedAtMost : {P : Type 0} → port.Ghosts P → List ℕ → List ℕ → P → P → Type 0
+AskedAtMost m script journal desk new_desk =
+    IsDoneAt m script journal Nothing desk new_desk
+    ⊎ ((answer : ReadAnswer) × IsDoneAt m script journal (Asked answer) desk new_desk)
+
+-- a run that answers Memory: the desk was asked at most for the script, and no port was called; or there is an account all the
+-- same, whose journal alone may have been written
 abbrev pub IsCutOff : {P : Type 0} → port.Ghosts P → List ℕ → List ℕ → P → P → List P → List P → Type 0
 IsCutOff m script journal desk new_desk old new =
-    (new ≡ old)
+    (AskedAtMost m script journal desk new_desk × (new ≡ old))
     ⊎ (((bytes : List ℕ) × IsServed m bytes old new × IsDoneAt m script journal (Asked (read.Given bytes)) desk new_desk)
     ⊎ ((rows : List Row) × (answer : WriteAnswer) × IsServedBy m script journal rows answer desk new_desk old new))
+
+-- ---- actors without commands
+
+-- what a deed read, where it is a script, has no command of this actor
+abbrev pub AsksNoneOf : ℕ → ℕ → Deed → Type 0
+AsksNoneOf actors actor deed = (bytes : List ℕ) (steps : List Stepped) → bytes_of deed ≡ Some bytes
+    → script_of actors bytes ≡ Ok steps → All (λ s. s.actor ≢ actor) steps
+
+-- a port whose actor has no command in the script isn't called, nor is any before there is a script: port i, from 0, is of
+-- actor i + 1
+abbrev pub IdleStay : {P : Type 0} → port.Ghosts P → List ℕ → List ℕ → P → P → List P → List P → Type 0
+IdleStay m script journal desk new_desk old new =
+    (deed : Deed) × IsDoneAt m script journal deed desk new_desk
+    × ((i : ℕ) → AsksNoneOf (actors_over old) (i + 1) deed → slice_get new i ≡ slice_get old i)
 
 -- ---- counts
 

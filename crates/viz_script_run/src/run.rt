@@ -4,7 +4,7 @@ ghost use Rattle.std.specs.Prelude.{◌≡◌, ◌≢◌, ◌⊎◌};
 ghost use Rattle.viz_base.specs.Faults.{Rose, one_more};
 ghost use Rattle.viz_script_run.specs.declared.ran.Ran.{Ran as Came};
 ghost use Rattle.viz_script_run.specs.Deeds.{IsRan};
-ghost use Rattle.viz_script_run.specs.Promises.{IsScriptRefused, TellsRefusals, IsReported, IsServedWithFault, IsUnread, IsCutOff, SomeRose};
+ghost use Rattle.viz_script_run.specs.Promises.{IsScriptRefused, TellsRefusals, IsReported, IsServedWithFault, IsUnread, IsCutOff, IdleStay, SomeRose};
 ghost use Rattle.viz_script_run.specs.Told.{IsTold};
 
 use crate::report::report;
@@ -54,6 +54,10 @@ pub fn run_script<R: Threads + Wait + Sync, P: Port + Send + Drop, O: Out, G: Ga
     ensures memory { result ≡ Status.Memory → IsCutOff P.Port script.now journal.now
         desk.old desk.new ports.old.items ports.new.items }
     ensures usage { result ≢ Status.Usage }
+
+    // What is called, whatever the status.
+    ensures idle { IdleStay P.Port script.now journal.now desk.old desk.new
+        ports.old.items ports.new.items }
     ensures one_put { O.puts out.new ≡ one_more (O.puts out.old) }
 {
     let ran = serve(rt, alloc, script, journal, desk, ports, gate);

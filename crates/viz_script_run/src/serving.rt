@@ -10,7 +10,7 @@ use crate::ran::Ran;
 use std::alloc::Global;
 use std::sync::Wait;
 use std::thread::Threads;
-use viz_account::audit_lines_are_closed;
+use viz_account::{audit_lines_are_closed, lines_count_edits};
 use viz_base::{ACTORS, Gate, Items, Port, ReadRefusal, WriteRefusal};
 use viz_core::Entry;
 use viz_journal::journal_text;
@@ -69,6 +69,7 @@ fn serve_bytes<R: Threads + Wait + Sync, P: Port + Send + Drop, G: Gate + Sync>(
         ports.new.items }
 {
     audit_lines_are_closed::<P>();
+    lines_count_edits::<P>();
     let script = match parse(alloc, bytes, actors(ports)) {
         Ok(script) => script,
         Err(ScriptStop::Refused { line, refusal }) => return Ran::Refused { line, refusal },

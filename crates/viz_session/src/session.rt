@@ -58,6 +58,8 @@ pub fn run<R: Threads + Wait + Sync, P: Port + Send + Drop, O: Out, G: Gate + Sy
         ⊎ Rose (O.faults out.old) (O.faults out.new)) }
 
     // What is called and changed, whatever the status.
+    ensures usage_stays { AreNone words.now
+        → (desk.new ≡ desk.old) × (ports.new.items ≡ ports.old.items) }
     ensures others { OthersStay P.Port O.Out words.now desk.old desk.new ports.old.items
         ports.new.items out.old out.new (command_of words.now) }
     ensures one_put { O.puts out.new ≡ one_more (O.puts out.old) }

@@ -1,5 +1,5 @@
-use Rattle.viz_account.proofs.NumberLemmas.{lines_count}
+use Rattle.viz_account.proofs.AloneLemmas.{lines_count}
 use Rattle.viz_account.proofs.laws.lines_count_edits.Goals as goal
 
 pub returns : goal.returns
-returns g c = lines_count g.P.Port
+returns g c = record { counts = lines_count g.P.Port }

@@ -1,4 +1,4 @@
-use Rattle.viz_script_run.proofs.RunLemmas.{done, refused, script_refused, tells_refusals, fault, cause, cut_off, no_usage}
+use Rattle.viz_script_run.proofs.RunLemmas.{done, refused, script_refused, tells_refusals, fault, cause, cut_off, idle_stay, no_usage}
 use Rattle.viz_script_run.proofs.run.run_script.Goals as goal
 
 pub returns-clause-script : goal.returns-clause-script
@@ -24,3 +24,6 @@ returns-clause-memory g c = λ is. cut_off g.P.Port g.O.Out _ _ _ _ _ _ _ _ _ _ 
 
 pub returns-clause-usage : goal.returns-clause-usage
 returns-clause-usage g c = no_usage g.P.Port g.O.Out _ _ _ _ _ _ _ _ _ _ c.serve-ran.ensures c.report.ensures
+
+pub returns-clause-idle : goal.returns-clause-idle
+returns-clause-idle g c = idle_stay g.P.Port g.O.Out _ _ _ _ _ _ _ _ _ _ c.serve-ran.ensures c.report.ensures

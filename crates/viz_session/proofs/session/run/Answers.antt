@@ -1,4 +1,6 @@
-use Rattle.std.proofs.Common.{Option, Some, subst, sym, inl, inr}
+use Rattle.std.proofs.Common.{Option, Some, List, ℕ, refl, subst, sym, inl, inr}
+use Rattle.viz_once.specs.Account.{Serves}
+use Rattle.viz_once.specs.Command as once
 use Rattle.viz_session.specs.Command.{Command}
 use Rattle.viz_session.specs.declared.command.Command.{Command as Words}
 use Rattle.viz_session.specs.Runs.{IsFault, command_view}
@@ -26,3 +28,8 @@ returns-in-Some-Make-clause-cause g c = λ is. elim (c.run_make.ensures.cause is
   | inl first ↦ inr (inl (some_of_first g.P.Port c.args.ports.now.items c.run_make.new.ports.items first))
   | inr put ↦ inr (inr put)
 ]
+
+pub returns-in-None-clause-usage_stays : goal.returns-in-None-clause-usage_stays
+returns-in-None-clause-usage_stays g c = λ none.
+    let run = c.run_once.ensures.account in
+    (refl, (subst (λ (w : Option once.Command). Serves g.P.Port w run.found c.args.ports.now.items c.run_once.new.ports.items) none.1 run.served).1)
