@@ -15,6 +15,9 @@ use viz_session::{Status, run};
 /// The program's name in front of the words that clap reads.
 const NAME: &str = "vizrun";
 
+/// The folder that vizrun is started in, which the empty text names too.
+const HERE: &str = ".";
+
 /// What is printed where the words can't be had.
 const USAGE: &[u8] = b"vizrun: usage\n";
 
@@ -106,7 +109,7 @@ fn asked_of(alloc: Global, words: &[String]) -> Result<Wanted, AllocError> {
     let line = line(alloc, words, front)?;
     match folder(alloc, &line) {
         Ok(folder) => Ok(Wanted::Run {
-            folder: String::from_str(alloc, folder)?,
+            folder: String::from_str(alloc, if folder.is_empty() { HERE } else { folder })?,
             words: bytes(alloc, words, front)?,
         }),
         Err(status) => Ok(Wanted::Ended(status)),

@@ -3,8 +3,8 @@
 //! Contract: `Extent::new` answers `None` exactly where the rule of an extent fails, `index_of` and
 //! `place_of` are inverse, with x fastest, and parts of an extent have just the points that their
 //! definitions say.
-//! Definitions: `specs/Extent.antt`, `specs/Numbering.antt` and `specs/Parts.antt`; the rule is
-//! that of docs/FORMATS.md, "Extents".
+//! Definitions: `specs/Extent.antt`, `specs/Numbering.antt` and `specs/Parts.antt`; the rule is that
+//! of docs/FORMATS.md, "Extents".
 #![tactic(auto)]
 
 mod bounds;
