@@ -1,8 +1,11 @@
-//! Worked rows: scripts, their reports and journals, and prefixes of journals, over files in memory.
+//! Worked rows over files in memory: scripts, reports and journals, and prefixes of journals.
 
 mod actors;
 mod during;
+mod failing;
 mod meshes;
+mod rough;
+mod rows;
 
 use crate::{Status, run};
 use std::alloc::Global;
@@ -111,10 +114,24 @@ fn run_over<R: Threads + Wait + Sync>(
     script: &[u8],
     first: MemoryPort,
 ) -> Result<Left, Fail> {
+    let desk = port(alloc, "s", script, FILE_LIMIT, Vec::new(alloc))?;
+    let out = MemoryOut::new(alloc, Vec::new(alloc));
+    run_with(rt, alloc, line, desk, first, out)
+}
+
+// Runs the line over a desk, a port and an output.
+fn run_with<R: Threads + Wait + Sync>(
+    rt: &R,
+    alloc: Global,
+    line: &str,
+    desk: MemoryPort,
+    first: MemoryPort,
+    out: MemoryOut,
+) -> Result<Left, Fail> {
     let words = words(alloc, line)?;
-    let mut desk = port(alloc, "s", script, FILE_LIMIT, Vec::new(alloc))?;
+    let mut desk = desk;
     let mut ports = vec![in alloc; first]?;
-    let mut out = MemoryOut::new(alloc, Vec::new(alloc));
+    let mut out = out;
     let status = run(
         rt, alloc, &words, &mut desk, &mut ports, &mut out, &OpenGate,
     );
@@ -180,21 +197,6 @@ fn replayed<R: Threads + Wait + Sync + Abort>(
         assert_eq!(rt; left.text.as_str(), want);
         assert!(rt; file(&left.ports, "o.vtk") == bytes);
     }
-    Ok(())
-}
-
-#[test]
-fn a_fault_of_a_port_is_one_line(rt: HostRuntime) -> Result<(), Fail> {
-    // write-fails-midway: the third call keeps 40 bytes
-    let alloc = rt.alloc();
-    let failing = vec![in alloc; FailAt { call: 3, kept: 40 }]?;
-    let first = corner(alloc, failing)?;
-    let left = run_over(&rt, alloc, "run s j", LEVELS.as_bytes(), first)?;
-    assert!(rt; left.status == Status::Fault, "{}", left.text);
-    let want = format!(in alloc; "{LEVELS_REPORT}fault 1 8 write\n")?;
-    assert_eq!(rt; left.text.as_str(), want.as_str());
-    assert!(rt; file(&left.ports, "two.vtk") == EMPTY.as_bytes().get(..40));
-    assert!(rt; left.desk.file("j").is_some());
     Ok(())
 }
 
