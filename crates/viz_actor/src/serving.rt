@@ -10,7 +10,6 @@ ghost use Rattle.viz_actor.specs.Serving.{commands_of, edit_line, AddsLines, Edi
 use crate::updating::{audit_node, update};
 use std::alloc::{AllocError, Global};
 use std::sync::Wait;
-use std::thread::Threads;
 use viz_account::file_name;
 use viz_base::{Bytes, Gate, Port, ReadRefusal, Shape, Shared, Word};
 use viz_core::EditAnswer;
@@ -142,7 +141,7 @@ fn load<R: Wait, P: Port>(
 }
 
 // Writes the file of a node.
-fn write<R: Threads + Wait + Sync, P: Port, G: Gate + Sync>(
+fn write<R: Wait, P: Port, G: Gate>(
     rt: &R,
     alloc: Global,
     hub: &Hub,
@@ -167,7 +166,7 @@ fn write<R: Threads + Wait + Sync, P: Port, G: Gate + Sync>(
 }
 
 // Audits a node.
-fn count<R: Threads + Wait + Sync, P: Port, G: Gate + Sync>(
+fn count<R: Wait, P: Port, G: Gate>(
     rt: &R,
     alloc: Global,
     hub: &Hub,
@@ -190,7 +189,7 @@ fn count<R: Threads + Wait + Sync, P: Port, G: Gate + Sync>(
 
 // Serves one command: an edit is an entry of the history, or is refused; a load reads its file
 // first; an update writes once; an audit calls nothing.
-fn serve<R: Threads + Wait + Sync, P: Port, G: Gate + Sync>(
+fn serve<R: Wait, P: Port, G: Gate>(
     rt: &R,
     alloc: Global,
     hub: &Hub,
@@ -222,7 +221,7 @@ fn serve<R: Threads + Wait + Sync, P: Port, G: Gate + Sync>(
 }
 
 // Serves the step, where it is the actor's, and adds its line.
-fn serve_step<R: Threads + Wait + Sync, P: Port, G: Gate + Sync>(
+fn serve_step<R: Wait, P: Port, G: Gate>(
     rt: &R,
     alloc: Global,
     hub: &Hub,
@@ -252,7 +251,7 @@ fn serve_step<R: Threads + Wait + Sync, P: Port, G: Gate + Sync>(
 
 /// Serves those of the steps that are the actor's, in order, each whatever became of those before
 /// it, and adds a line for each. There is room for the lines.
-pub fn serve_steps<R: Threads + Wait + Sync, P: Port, G: Gate + Sync>(
+pub fn serve_steps<R: Wait, P: Port, G: Gate>(
     rt: &R,
     alloc: Global,
     hub: &Hub,

@@ -9,7 +9,6 @@ ghost use Rattle.viz_account.specs.Served.{Updates};
 
 use std::alloc::Global;
 use std::sync::Wait;
-use std::thread::Threads;
 use viz_account::{Answer, AuditAnswer};
 use viz_base::{Gate, Port, Shape, Word};
 use viz_core::Pinned;
@@ -47,7 +46,7 @@ fn audit_pinned(alloc: Global, pinned: &Pinned, node: &Word) -> AuditAnswer
 ///
 /// `at` of the answer is the number of entries of that history, all of which the pass then has
 /// seen. The shape doesn't change the file.
-pub fn update<R: Threads + Wait + Sync, P: Port, G: Gate + Sync>(
+pub fn update<R: Wait, P: Port, G: Gate>(
     rt: &R,
     alloc: Global,
     hub: &Hub,
@@ -77,7 +76,7 @@ pub fn update<R: Threads + Wait + Sync, P: Port, G: Gate + Sync>(
 /// Counts the sides of the surface of a node in the network of the history up to now, as `update`
 /// has it. A node that is no contour on an image is refused as WrongInput(1), behind the faults of
 /// its evaluation.
-pub fn audit_node<R: Threads + Wait + Sync, G: Gate + Sync>(
+pub fn audit_node<R: Wait, G: Gate>(
     rt: &R,
     alloc: Global,
     hub: &Hub,
