@@ -2,8 +2,8 @@
 """A plain contour, beside the one that is proved: no flags, no ranks by search, fractions for points.
 
 It makes the surface of the image of 4 x 4 x 4 points in crates/viz_once/src/contour_texts.rt, and
-compares it with the text there; and it counts the contour of 32 x 32 x 32 points, whose numbers a
-test of viz_once wants.
+compares it with the text there; and it counts the contour of 32 x 32 x 32 points and the sides of
+its triangles, whose numbers tests of viz_once, viz_surface_law and viz_session want.
 """
 import os
 import re
@@ -26,7 +26,7 @@ CASES = {"0": "01 02 03", "1": "12 01 13", "2": "02 12 23", "3": "13 03 23",
 
 
 def contour(sizes, origin, spacing, values, level):
-    """The points in the order of their names, and the triangles by their numbers there."""
+    """The names in order, the point of each, and the triangles by the numbers of their names."""
     nx, ny, nz = sizes
 
     def leaf(i, j, k):
@@ -54,7 +54,27 @@ def contour(sizes, origin, spacing, values, level):
         part = Fraction(level - values[name[0]], values[name[1]] - values[name[0]])
         return [a + part * (b - a) for a, b in zip(p, q)]
 
-    return [point(name) for name in names], [[number[end] for end in cell] for cell in cells]
+    return names, [point(name) for name in names], [[number[end] for end in cell] for cell in cells]
+
+
+def audit(sizes, names, triangles):
+    """How many sides there are, in two triangles that run through them in opposite directions, in
+    one, and in one with a facet on the boundary of the grid."""
+    ways = {}
+    for a, b, c in triangles:
+        for tail, head in ((a, b), (b, c), (c, a)):
+            ways.setdefault((min(tail, head), max(tail, head)), []).append(tail < head)
+
+    def on_boundary(side):
+        leaves = {leaf for name in side for leaf in names[name]}
+        nx, ny, _ = sizes
+        places = [(leaf % nx, leaf // nx % ny, leaf // nx // ny) for leaf in leaves]
+        ends = [(axis, end) for axis in range(3) for end in (0, sizes[axis] - 1)]
+        return len(leaves) == 3 and any(all(it[axis] == end for it in places) for axis, end in ends)
+
+    lone = [side for side, found in ways.items() if len(found) == 1]
+    two = sum(sorted(found) == [False, True] for found in ways.values())
+    return len(ways), two, len(lone), sum(map(on_boundary, lone))
 
 
 def surface(points, triangles, level):
@@ -82,14 +102,17 @@ def main():
     sizes = numbers(image, "DIMENSIONS", 3)
     values = numbers(image, "LOOKUP_TABLE default", sizes[0] * sizes[1] * sizes[2])
     made = contour(sizes, numbers(image, "ORIGIN", 3), numbers(image, "SPACING", 3), values, 11)
-    if surface(*made, 11) != texts["MIXED_SURFACE"]:
+    if surface(*made[1:], 11) != texts["MIXED_SURFACE"]:
         sys.exit("contour: the surface of 4 x 4 x 4 points differs")
     large = [(7 * i + 11 * j + 13 * k) % 17
              for k in range(32) for j in range(32) for i in range(32)]
-    points, triangles = contour([32] * 3, [0] * 3, [1] * 3, large, 8)
+    names, points, triangles = contour([32] * 3, [0] * 3, [1] * 3, large, 8)
     if (len(triangles), len(points)) != (238328, 113799):
         sys.exit("contour: 32 x 32 x 32 points: %d triangles, %d points" % (len(triangles), len(points)))
-    print("contour: two surfaces are those of a plain program")
+    counts = audit([32] * 3, names, triangles)
+    if counts != (362579, 352405, 10174, 10174):
+        sys.exit("contour: 32 x 32 x 32 points: sides %d two %d open %d border %d" % counts)
+    print("contour: two surfaces, and the sides of one, are those of a plain program")
 
 
 main()
