@@ -94,6 +94,14 @@ fn put_usage<O: Out>(alloc: Global, out: &mut O) -> Status {
     Status::Usage
 }
 
+/// The folder of a name.
+fn folder_of(alloc: Global, name: &str) -> Result<String, AllocError> {
+    if name.is_empty() {
+        return String::from_str(alloc, HERE);
+    }
+    String::from_str(alloc, name)
+}
+
 /// What the command line asks for.
 #[derive(Drop)]
 enum Wanted {
@@ -109,7 +117,7 @@ fn asked_of(alloc: Global, words: &[String]) -> Result<Wanted, AllocError> {
     let line = line(alloc, words, front)?;
     match folder(alloc, &line) {
         Ok(folder) => Ok(Wanted::Run {
-            folder: String::from_str(alloc, if folder.is_empty() { HERE } else { folder })?,
+            folder: folder_of(alloc, folder)?,
             words: bytes(alloc, words, front)?,
         }),
         Err(status) => Ok(Wanted::Ended(status)),
