@@ -15,14 +15,14 @@ use Rattle.viz_once.specs.declared.outcome.Outcome.{Outcome}
 use Rattle.viz_once.specs.declared.outcome.Outcome.TheVariants as outcome
 use Rattle.viz_once.specs.declared.outcome.Status.{Status}
 use Rattle.viz_once.specs.declared.outcome.Status.TheVariants as status
-use Rattle.viz_once.specs.Account.{Deed, Nothing, Asked, Answered, calls_of, EndsUnwritten, EndsIn, Serves, IsPut, IsTold, HasFailed}
+use Rattle.viz_once.specs.Account.{Deed, Nothing, Asked, Answered, calls_of, EndsUnwritten, EndsIn, Serves, Settles, IsPut, IsTold, HasFailed}
 use Rattle.viz_once.specs.Causes.{IsCause}
 use Rattle.viz_once.specs.Command.{Command}
 use Rattle.viz_once.specs.Outputs.{cells_made, points_made}
-use Rattle.viz_once.specs.Promises.{IsDone, IsRefused, TellsCauses, IsFault, FirstDid, FirstAnswered, GainsLine, fault_line}
+use Rattle.viz_once.specs.Promises.{LacksPort, IsScript, IsDone, IsRefused, TellsCauses, IsFault, FirstDid, FirstAnswered, GainsLine, fault_line}
 use Rattle.viz_once.specs.Report.{line_of}
 use Rattle.viz_once.proofs.CauseLemmas.{one_cause}
-use Rattle.viz_once.proofs.EndLemmas.{Answer, told_at, found_is, refused_ends}
+use Rattle.viz_once.proofs.EndLemmas.{Answer, told_at, found_is, puts_or_breaks, portless_ends, refused_ends}
 
 -- the line of what was told, where the put was answered by Ok
 line_is : {O : Type 0} (m : out.Ghosts O) (told o : Outcome) (a : Answer) (old new : O) → IsPut m told a old new → told ≡ o → a ≡ Ok tt → GainsLine m (line_of o) old new
@@ -80,9 +80,33 @@ failed_deed c (Asked read.Failed) failed h = (tt, ap line_of h)
 failed_deed c (Answered bytes d write.Written) failed h = absurd (let e : outcome.Fault failed ≡ outcome.Written _ _ = h.1 in cc)
 failed_deed c (Answered bytes d write.Failed) failed h = (tt, ap line_of h.1)
 
+-- a served command has a port
+never_no_port : (c : Command) (deed : Deed) → EndsIn c deed outcome.NoPort → ⊥
+never_no_port c Nothing h = let e : (let o : Outcome = outcome.NoPort in o) ≡ outcome.Memory = h in cc
+never_no_port c (Asked (read.Given bytes)) h = elim h [
+  | inl e ↦ let bad : (let o : Outcome = outcome.NoPort in o) ≡ outcome.Memory = e in cc
+  | inr r ↦ let bad : (let o : Outcome = outcome.NoPort in o) ≡ outcome.Refused r.0 = r.2 in cc
+]
+never_no_port c (Asked (read.TooLong taken)) h = let e : (let o : Outcome = outcome.NoPort in o) ≡ outcome.Refused h.0 = h.2 in cc
+never_no_port c (Asked read.Failed) h = let e : (let o : Outcome = outcome.NoPort in o) ≡ outcome.Fault call.Read = h in cc
+never_no_port c (Answered bytes d write.Written) h = let e : (let o : Outcome = outcome.NoPort in o) ≡ outcome.Written _ _ = h.1 in cc
+never_no_port c (Answered bytes d write.Failed) h = let e : (let o : Outcome = outcome.NoPort in o) ≡ outcome.Fault call.Write = h.1 in cc
+
 -- ---- what a run did
 
 module _ {P : Type 0} (m : port.Ghosts P) where
+  -- a command without a port is just one that has that outcome
+  lacks : (words : Option Command) (old new : List P) → Serves m words outcome.NoPort old new → LacksPort words old
+  lacks None old new h = absurd (let bad : (let o : Outcome = outcome.NoPort in o) ≡ outcome.Usage = h.0 in cc)
+  lacks (Some c) [] new h = tt
+  lacks (Some c) (p ∷ ps) [] h = absurd h
+  lacks (Some c) (p ∷ ps) (q ∷ qs) h = absurd (never_no_port c h.0.0 h.0.1)
+
+  found_portless : (words : Option Command) (o : Outcome) (old new : List P) → LacksPort words old → Serves m words o old new → o ≡ outcome.NoPort
+  found_portless None o old new lack h = absurd lack
+  found_portless (Some c) o [] new lack h = h.0
+  found_portless (Some c) o (p ∷ ps) new lack h = absurd lack
+
   -- the first port served a command
   served : (words : Option Command) (o : Outcome) (old new : List P) → Serves m words o old new → (o ≡ outcome.Usage → ⊥) → (o ≡ outcome.NoPort → ⊥)
       → (c : Command) × (deed : Deed) × (words ≡ Some c) × EndsIn c deed o × FirstDid m c deed old new
@@ -95,6 +119,18 @@ module _ {P : Type 0} (m : port.Ghosts P) where
       (serves : Serves m words found old new) (told : IsTold l found ended before after) where
     told_as : (o : Outcome) → told.0 ≡ o → (outcome.Memory ≡ o → ⊥) → Serves m words o old new
     told_as o is apart = subst (λ (x : Outcome). Serves m words x old new) (found_is found told.0 o told.2 is apart) serves
+
+    pub script-Run : IsScript l words old before after ended
+    script-Run = record {
+      only = λ is.
+          let w = told_at told.0 told.1 ended status.Script told.3 is in
+          let o : Outcome = outcome.NoPort in
+          (lacks words old new (told_as o w.0 (λ e. let bad : (let x : Outcome = outcome.Memory in x) ≡ outcome.NoPort = e in cc)),
+          puts_or_breaks l before after o told.1 w.1 (subst (λ (x : Outcome). IsPut l x told.1 before after) w.0 told.4));
+      comes = λ lack.
+          portless_ends l before after told.0 told.1 ended
+          (subst (λ (x : Outcome). Settles x told.0) (found_portless words found old new lack serves) told.2) told.3 told.4;
+    }
 
     pub done-Run : ended ≡ status.Done → IsDone m l words old new before after
     done-Run is =

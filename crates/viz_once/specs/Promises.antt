@@ -15,7 +15,7 @@ use Rattle.viz_once.specs.Account.{Deed, Nothing, Asked, Answered, IsDoneAt, Has
 use Rattle.viz_once.specs.Causes.{IsCause}
 use Rattle.viz_once.specs.Command.{Command}
 use Rattle.viz_once.specs.Outputs.{cells_made, points_made}
-use Rattle.viz_once.specs.Report.{file_line, refused_line, read_fault_line, write_fault_line}
+use Rattle.viz_once.specs.Report.{file_line, refused_line, no_port_line, read_fault_line, write_fault_line}
 
 -- ---- of lists of ports
 
@@ -61,17 +61,29 @@ IsUnanswered m old new = (m.text new ≡ m.text old) × (m.answered new ≡ m.an
 abbrev pub PutsLine : {O : Type 0} → out.Ghosts O → List ℕ → O → O → Type 0
 PutsLine m line old new = IsTrue m.tells_text → (m.text new ≡ m.text old ++ line) ⊎ (IsBroken m line old new ⊎ IsUnanswered m old new)
 
+-- the line was put, where the text is told, unless the put failed
+abbrev pub PutsOrBreaks : {O : Type 0} → out.Ghosts O → List ℕ → O → O → Type 0
+PutsOrBreaks m line old new = IsTrue m.tells_text → (m.text new ≡ m.text old ++ line) ⊎ IsBroken m line old new
+
 -- ---- of the statuses
+
+-- the status where there is nothing to serve: Script, with this line, or Memory
+abbrev pub EndsInScript : {O : Type 0} → out.Ghosts O → List ℕ → O → O → Status → Type 0
+EndsInScript m line old new ended = ((ended ≡ status.Script) × PutsOrBreaks m line old new) ⊎ (ended ≡ status.Memory)
 
 -- a command without a port
 abbrev pub LacksPort : {P : Type 0} → Option Command → List P → Type 0
 LacksPort (Some c) [] = Unit {0}
 LacksPort words ports = ⊥
 
--- Script comes for a command without a port, unless memory ran out, and for nothing else
-pub record IsScript {P : Type 0} (words : Option Command) (ports : List P) (ended : Status) : Type 0 where
-  pub only : ended ≡ status.Script → LacksPort words ports
-  pub comes : LacksPort words ports → (ended ≡ status.Script) ⊎ (ended ≡ status.Memory)
+-- a command has no port, and that was told
+abbrev pub IsPortless : {P O : Type 0} → out.Ghosts O → Option Command → List P → O → O → Type 0
+IsPortless m words ports before after = LacksPort words ports × PutsOrBreaks m no_port_line before after
+
+-- Script comes for a command without a port, with its line, unless memory ran out, and for nothing else
+pub record IsScript {P O : Type 0} (m : out.Ghosts O) (words : Option Command) (ports : List P) (before after : O) (ended : Status) : Type 0 where
+  pub only : ended ≡ status.Script → IsPortless m words ports before after
+  pub comes : LacksPort words ports → EndsInScript m no_port_line before after ended
 
 -- a run that answers Done read a dataset that the filter accepts, wrote the text of what is made of it, and told its numbers
 abbrev pub IsDone : {P O : Type 0} → port.Ghosts P → out.Ghosts O → Option Command → List P → List P → O → O → Type 0

@@ -51,7 +51,7 @@ pub fn run_once<P: Port, O: Out>(
     // What follows of it for each status.
     ensures usage { (result ≡ Status.Usage) ↔ (command_of words.now ≡ None) }
     ensures usage_line { command_of words.now ≡ None → PutsLine O.Out usage_line out.old out.new }
-    ensures script { IsScript (command_of words.now) ports.old.items result }
+    ensures script { IsScript O.Out (command_of words.now) ports.old.items out.old out.new result }
     ensures done { result ≡ Status.Done → IsDone P.Port O.Out (command_of words.now)
         ports.old.items ports.new.items out.old out.new }
     ensures refused { result ≡ Status.Refused → IsRefused P.Port O.Out (command_of words.now)

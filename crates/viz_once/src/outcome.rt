@@ -9,7 +9,7 @@ pub enum Status {
     Done,
     /// The words are no command.
     Usage,
-    /// There is no port for the command.
+    /// The script or the journal is refused, or there is no port for the command.
     Script,
     /// The line put says `refused`.
     Refused,

@@ -1,5 +1,8 @@
-use Rattle.viz_once.proofs.RunLemmas.{done-Run, refused-Run, fault-Run, refuses-Run}
+use Rattle.viz_once.proofs.RunLemmas.{script-Run, done-Run, refused-Run, fault-Run, refuses-Run}
 use Rattle.viz_once.proofs.entry.run_once.Goals as goal
+
+pub returns-clause-script : goal.returns-clause-script
+returns-clause-script g c = script-Run g.P.Port g.O.Out _ _ _ _ _ _ _ c.serve_words-outcome.ensures c.report.ensures
 
 pub returns-clause-done : goal.returns-clause-done
 returns-clause-done g c = done-Run g.P.Port g.O.Out _ _ _ _ _ _ _ c.serve_words-outcome.ensures c.report.ensures
