@@ -1,5 +1,6 @@
 mod GivenLemmas
 mod ContourLemmas
+mod CutLemmas
 mod AuditLemmas
 mod StepLemmas
 mod GroundLemmas

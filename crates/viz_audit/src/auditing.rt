@@ -1,12 +1,14 @@
 //! The audit of a node.
 
-ghost use Rattle.std.specs.Prelude.{◌≡◌, IsSome};
+ghost use Rattle.std.specs.Prelude.{◌≡◌, IsSome, IfOk};
 ghost use Rattle.viz_network.specs.Network.{node_of};
 ghost use Rattle.viz_scratch.specs.Scratch.{Answers};
 ghost use Rattle.viz_audit.specs.Audited.{IsAuditOf};
+ghost use Rattle.viz_audit.specs.Laws.{IsClosed};
 ghost use Rattle.viz_audit.specs.Steps.Ground.{no_surface};
 
 use crate::ground::ground;
+use crate::laws::audits_are_closed;
 use crate::sums::audit_all;
 use std::alloc::Global;
 use viz_base::NodeId;
@@ -26,7 +28,8 @@ fn no_surface(node: NodeId) -> Stop
 }
 
 /// Counts the sides of the surface of a node, evaluated from scratch: of all its sheets together.
-/// What the node stands on is evaluated before it, to know the extent.
+/// What the node stands on is evaluated before it, to know the extent. The sides counted are those
+/// in two triangles and those on the boundary of the image's grid.
 ///
 /// # Errors
 ///
@@ -35,9 +38,11 @@ fn no_surface(node: NodeId) -> Stop
 pub fn audit_of(alloc: Global, net: &Net, node: NodeId) -> Result<Counts, Stop>
     requires there { IsSome (node_of net.now node.0) }
     ensures value { Answers (IsAuditOf net.now node.0) result }
+    ensures closed { IfOk result IsClosed }
 {
     scratch_is_one();
     contours_are_closed();
+    audits_are_closed();
     let whole = ground(alloc, net, node)?;
     let dataset = scratch(alloc, net, node)?;
     let Some(whole) = whole else {

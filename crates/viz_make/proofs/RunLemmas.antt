@@ -8,11 +8,12 @@ use Rattle.viz_base.specs.declared.call.WriteAnswer.{WriteAnswer}
 use Rattle.viz_base.specs.declared.call.WriteAnswer.TheVariants as write
 use Rattle.viz_base.specs.declared.refusal.WriteRefusal.{WriteRefusal}
 use Rattle.viz_base.specs.declared.refusal.WriteRefusal.TheVariants as writing
-use Rattle.viz_once.specs.Promises.{FirstRose, OthersStay}
+use Rattle.viz_once.specs.Promises.{FirstRose, OthersStay, EndsInScript}
+use Rattle.viz_once.specs.Report.{no_port_line}
 use Rattle.viz_once.specs.declared.outcome.Status.{Status}
 use Rattle.viz_once.specs.declared.outcome.Status.TheVariants as status
 use Rattle.viz_script_run.specs.Told.{IsPut}
-use Rattle.viz_script_run.proofs.RunLemmas.{gains, puts}
+use Rattle.viz_script_run.proofs.RunLemmas.{gains, puts, no_memory, failed_is_no_memory}
 use Rattle.viz_make.specs.declared.came.Came.{Came}
 use Rattle.viz_make.specs.declared.came.Came.TheVariants as came
 use Rattle.viz_make.specs.declared.made.Made.{Made}
@@ -50,22 +51,26 @@ told_by came.Memory (Err writing.Memory) = tt
 pub told_at : (c : Came) (a : Answer) (ended known : Status) → ended ≡ status_after c a → ended ≡ known → ToldBy c a known
 told_at c a ended known e is = subst (ToldBy c a) (sym e ∙ is) (told_by c a)
 
+-- a put that was answered for want of memory ends in that status
+pub unanswered : (c : Came) (a : Answer) (ended known : Status) → ended ≡ status_after c a → ended ≡ known → (status.Memory ≡ known → ⊥) → a ≡ Err writing.Memory → ⊥
+unanswered c a ended known e is no memory = no (sym (subst (λ (x : Answer). ended ≡ status_after c x) memory e) ∙ is)
+
 -- a run without a port, by what was told of it
-no_port_status : (told : Came) (a : Answer) → Settles came.NoPort told → (status_after told a ≡ status.Script) ⊎ (status_after told a ≡ status.Memory)
-no_port_status came.NoPort (Ok done) s = inl refl
-no_port_status came.NoPort (Err writing.Failed) s = inl refl
-no_port_status came.NoPort (Err writing.Memory) s = inr refl
-no_port_status (came.Written made) a s = elim s [
-  | inl same ↦ absurd (let bad : came.Written made ≡ came.NoPort = same in cc)
-  | inr memory ↦ absurd (let bad : came.Written made ≡ came.Memory = memory in cc)
-]
-no_port_status came.Unwritten a s = elim s [
-  | inl same ↦ absurd (let bad : (let x : Came = came.Unwritten in x) ≡ came.NoPort = same in cc)
-  | inr memory ↦ absurd (let bad : (let x : Came = came.Unwritten in x) ≡ came.Memory = memory in cc)
-]
-no_port_status came.Memory (Ok done) s = inr refl
-no_port_status came.Memory (Err writing.Failed) s = inr refl
-no_port_status came.Memory (Err writing.Memory) s = inr refl
+module _ {O : Type 0} (o : out.Ghosts O) (old new : O) where
+  by_answer : (a : Answer) (ended : Status) → ended ≡ status_after came.NoPort a → IsPut o (text_of came.NoPort) a old new → EndsInScript o no_port_line old new ended
+  by_answer (Ok done) ended e put = inl (e, puts o no_port_line old new (Ok done) no_memory put)
+  by_answer (Err writing.Failed) ended e put = inl (e, puts o no_port_line old new (Err writing.Failed) failed_is_no_memory put)
+  by_answer (Err writing.Memory) ended e put = inr e
+
+  memory_by : (a : Answer) (ended : Status) → ended ≡ status_after came.Memory a → EndsInScript o no_port_line old new ended
+  memory_by (Ok done) ended e = inr e
+  memory_by (Err writing.Failed) ended e = inr e
+  memory_by (Err writing.Memory) ended e = inr e
+
+  portless_ends : (told : Came) (a : Answer) (ended : Status) → Settles came.NoPort told → ended ≡ status_after told a → IsPut o (text_of told) a old new → EndsInScript o no_port_line old new ended
+  portless_ends told a ended (inl same) e put =
+      by_answer a ended (subst (λ (x : Came). ended ≡ status_after x a) same e) (subst (λ (x : Came). IsPut o (text_of x) a old new) same put)
+  portless_ends told a ended (inr memory) e put = memory_by a ended (subst (λ (x : Came). ended ≡ status_after x a) memory e)
 
 -- what is told was found, where it isn't want of memory
 found_is : (found told c : Came) → Settles found told → told ≡ c → (came.Memory ≡ c → ⊥) → found ≡ c
@@ -150,13 +155,12 @@ module _ {P O : Type 0} (m : port.Ghosts P) (o : out.Ghosts O) (c : Make) (old n
       let t = told_at telling.0 telling.1 ended status.Script telling.3 is in
       let r : Came = came.NoPort in
       let w = no_port m c old new (ran_as r (found_is found telling.0 r telling.2 t (λ e. let bad : (let x : Came = came.Memory in x) ≡ came.NoPort = e in cc))) in
-      (w.0, w.1, puts o (text_of r) before after telling.1 (text_put r t))
+      (w.0, w.1, puts o (text_of r) before after telling.1 (unanswered telling.0 telling.1 ended status.Script telling.3 is (λ e. let bad : status.Memory ≡ status.Script = e in cc)) (text_put r t))
 
-  pub refuses : TellsRefusals old ended
+  pub refuses : TellsRefusals o old before after ended
   refuses none =
       let is = without_port m c old new found none ran in
-      let s = no_port_status telling.0 telling.1 (subst (λ (x : Came). Settles x telling.0) is telling.2) in
-      subst (λ (x : Status). (x ≡ status.Script) ⊎ (x ≡ status.Memory)) (sym telling.3) s
+      portless_ends o before after telling.0 telling.1 ended (subst (λ (x : Came). Settles x telling.0) is telling.2) telling.3 telling.4
 
   failed_write : telling.0 ≡ came.Unwritten → FirstWrote m c write.Failed old new
   failed_write t =
@@ -165,7 +169,7 @@ module _ {P O : Type 0} (m : port.Ghosts P) (o : out.Ghosts O) (c : Make) (old n
 
   pub fault : ended ≡ status.Fault → IsFault m o c old new before after
   fault is = elim (told_at telling.0 telling.1 ended status.Fault telling.3 is) [
-    | inl unwritten ↦ inl (failed_write unwritten, puts o (text_of came.Unwritten) before after telling.1 (text_put came.Unwritten unwritten))
+    | inl unwritten ↦ inl (failed_write unwritten, puts o (text_of came.Unwritten) before after telling.1 (unanswered telling.0 telling.1 ended status.Fault telling.3 is (λ e. let bad : status.Memory ≡ status.Fault = e in cc)) (text_put came.Unwritten unwritten))
     | inr failed ↦ inr (telling.4.cause failed)
   ]
 

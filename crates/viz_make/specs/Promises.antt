@@ -5,7 +5,7 @@ use Rattle.viz_base.specs.declared.port.Port as port
 use Rattle.viz_base.specs.declared.out.Out as out
 use Rattle.viz_base.specs.declared.call.WriteAnswer.{WriteAnswer}
 use Rattle.viz_base.specs.declared.call.WriteAnswer.TheVariants as write
-use Rattle.viz_once.specs.Promises.{FirstOnly, GainsLine, PutsLine}
+use Rattle.viz_once.specs.Promises.{FirstOnly, GainsLine, PutsOrBreaks, EndsInScript}
 use Rattle.viz_once.specs.Report.{no_port_line, write_fault_line}
 use Rattle.viz_once.specs.declared.outcome.Status.{Status}
 use Rattle.viz_once.specs.declared.outcome.Status.TheVariants as status
@@ -26,13 +26,13 @@ IsDone m o c old new before after =
 
 -- a run that answers Script: there is no port
 abbrev pub IsScript : {P O : Type 0} → port.Ghosts P → out.Ghosts O → List P → List P → O → O → Type 0
-IsScript m o old new before after = (old ≡ []) × (new ≡ []) × PutsLine o no_port_line before after
+IsScript m o old new before after = (old ≡ []) × (new ≡ []) × PutsOrBreaks o no_port_line before after
 
--- where there is no port, Script comes, unless memory ran out
-abbrev pub TellsRefusals : {P : Type 0} → List P → Status → Type 0
-TellsRefusals old ended = old ≡ [] → (ended ≡ status.Script) ⊎ (ended ≡ status.Memory)
+-- where there is no port, Script comes, with its line, unless memory ran out
+abbrev pub TellsRefusals : {P O : Type 0} → out.Ghosts O → List P → O → O → Status → Type 0
+TellsRefusals o old before after ended = old ≡ [] → EndsInScript o no_port_line before after ended
 
 -- a run that answers Fault: the write of the volume failed, and that was told; or the put failed
 abbrev pub IsFault : {P O : Type 0} → port.Ghosts P → out.Ghosts O → Make → List P → List P → O → O → Type 0
 IsFault m o c old new before after =
-    (FirstWrote m c write.Failed old new × PutsLine o write_fault_line before after) ⊎ Rose (o.faults before) (o.faults after)
+    (FirstWrote m c write.Failed old new × PutsOrBreaks o write_fault_line before after) ⊎ Rose (o.faults before) (o.faults after)

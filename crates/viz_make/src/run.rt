@@ -32,7 +32,7 @@ pub fn run_make<P: Port, O: Out>(
     // What follows of it for each status.
     ensures script { result ≡ Status.Script → IsScript P.Port O.Out
         ports.old.items ports.new.items out.old out.new }
-    ensures refuses { TellsRefusals ports.old.items result }
+    ensures refuses { TellsRefusals O.Out ports.old.items out.old out.new result }
     ensures done { result ≡ Status.Done → IsDone P.Port O.Out (make_of command.now)
         ports.old.items ports.new.items out.old out.new }
     ensures fault { result ≡ Status.Fault → IsFault P.Port O.Out (make_of command.now)

@@ -12,16 +12,15 @@ use Rattle.viz_base.specs.declared.refusal.WriteRefusal.{WriteRefusal}
 use Rattle.viz_base.specs.declared.refusal.WriteRefusal.TheVariants as writing
 use Rattle.viz_journal.specs.declared.entry.JournalEntry.{JournalEntry}
 use Rattle.viz_journal.specs.Reading.{journal_of}
-use Rattle.viz_once.specs.Promises.{FirstRose, OthersStay}
+use Rattle.viz_once.specs.Promises.{FirstRose, OthersStay, EndsInScript}
 use Rattle.viz_once.specs.declared.outcome.Status.{Status}
 use Rattle.viz_once.specs.declared.outcome.Status.TheVariants as status
 use Rattle.viz_words.specs.declared.refusal.ScriptRefusal.{ScriptRefusal}
 use Rattle.viz_report.specs.declared.line.Line.{Line}
 use Rattle.viz_report.specs.declared.line.Line.TheVariants as line
 use Rattle.viz_report.specs.declared.line.Reason.{Reason}
-use Rattle.viz_script_run.specs.Promises.{EndsInScript}
 use Rattle.viz_script_run.specs.Told.{IsPut}
-use Rattle.viz_script_run.proofs.RunLemmas.{gains, puts, rose_by}
+use Rattle.viz_script_run.proofs.RunLemmas.{gains, puts, no_memory, failed_is_no_memory, rose_by}
 use Rattle.viz_replay.specs.declared.came.Came.{Came}
 use Rattle.viz_replay.specs.declared.came.Came.TheVariants as came
 use Rattle.viz_replay.specs.Replay.{Replay, asked, IsAsked, IsRefusal, IsUpdated, EndsIn, IsRan}
@@ -82,6 +81,10 @@ told_by came.Memory (Err writing.Memory) = tt
 
 told_at : (c : Came) (a : Answer) (ended known : Status) → ended ≡ status_after c a → ended ≡ known → ToldBy c a known
 told_at c a ended known e is = subst (ToldBy c a) (sym e ∙ is) (told_by c a)
+
+-- a put that was answered for want of memory ends in that status
+pub unanswered : (c : Came) (a : Answer) (ended known : Status) → ended ≡ status_after c a → ended ≡ known → (status.Memory ≡ known → ⊥) → a ≡ Err writing.Memory → ⊥
+unanswered c a ended known e is no memory = no (sym (subst (λ (x : Answer). ended ≡ status_after c x) memory e) ∙ is)
 
 -- what is told was found, where it isn't want of memory
 found_is : (found told c : Came) → Settles found told → told ≡ c → (came.Memory ≡ c → ⊥) → found ≡ c
@@ -155,8 +158,8 @@ module _ {P : Type 0} (m : port.Ghosts P) (c : Replay) (old new : List P) where
 module _ {O : Type 0} (o : out.Ghosts O) (old new : O) where
   -- the status of a put that tells this, or that memory ran out
   script_by : (c : Came) (a : Answer) (ended : Status) → status_of c ≡ status.Script → ended ≡ status_after c a → IsPut o (line_of c) a old new → EndsInScript o (line_of c) old new ended
-  script_by c (Ok done) ended is e put = inl (e ∙ is, puts o (line_of c) old new (Ok done) put)
-  script_by c (Err writing.Failed) ended is e put = inl (e ∙ ap fault_over is, puts o (line_of c) old new (Err writing.Failed) put)
+  script_by c (Ok done) ended is e put = inl (e ∙ is, puts o (line_of c) old new (Ok done) no_memory put)
+  script_by c (Err writing.Failed) ended is e put = inl (e ∙ ap fault_over is, puts o (line_of c) old new (Err writing.Failed) failed_is_no_memory put)
   script_by c (Err writing.Memory) ended is e put = inr e
 
   memory_by : (text : List ℕ) (a : Answer) (ended : Status) → ended ≡ status_after came.Memory a → EndsInScript o text old new ended
@@ -189,6 +192,15 @@ module _ {P O : Type 0} (m : port.Ghosts P) (o : out.Ghosts O) (c : Replay) (des
       let u = updated m c old new ran.0 l (ends_in (came.Updated l) (found_line l is)) in
       (u.0, u.2.0, u.2.1, u.2.2, asked_is (Some (read.Given u.0)) u.1)
 
+  put_answered : (known : Status) → ended ≡ known → (status.Memory ≡ known → ⊥) → telling.1 ≡ Err writing.Memory → ⊥
+  put_answered known is no = unanswered telling.0 telling.1 ended known telling.3 is no
+
+  is_no_script : status.Memory ≡ status.Script → ⊥
+  is_no_script e = let bad : status.Memory ≡ status.Script = e in cc
+
+  is_no_fault : status.Memory ≡ status.Fault → ⊥
+  is_no_fault e = let bad : status.Memory ≡ status.Fault = e in cc
+
   line_put : (r : Came) → telling.0 ≡ r → IsPut o (line_of r) telling.1 before after
   line_put r is = as_line o telling.0 r telling.1 before after is telling.4
 
@@ -209,11 +221,11 @@ module _ {P O : Type 0} (m : port.Ghosts P) (o : out.Ghosts O) (c : Replay) (des
     | inl e ↦
         let f = found_is found telling.0 came.NoPort telling.2 e (λ bad. let b : came.Memory ≡ came.NoPort = bad in cc) in
         let d = no_port m c old new ran.0 (ends_in came.NoPort f) in
-        inl (d.1.0, d.1.1, asked_is None d.0, puts o (line_of came.NoPort) before after telling.1 (line_put came.NoPort e))
+        inl (d.1.0, d.1.1, asked_is None d.0, puts o (line_of came.NoPort) before after telling.1 (put_answered status.Script is is_no_script) (line_put came.NoPort e))
     | inr t ↦
         let f = found_is found telling.0 (came.Refused t.0 t.1) telling.2 t.2 (λ bad. let b : came.Memory ≡ came.Refused t.0 t.1 = bad in cc) in
         let d = refused_journal m c old new ran.0 t.0 t.1 (ends_in (came.Refused t.0 t.1) f) in
-        inr (d.0, t.0, t.1, d.2, d.3, asked_is (Some d.0) d.1, puts o (line_of (came.Refused t.0 t.1)) before after telling.1 (line_put (came.Refused t.0 t.1) t.2))
+        inr (d.0, t.0, t.1, d.2, d.3, asked_is (Some d.0) d.1, puts o (line_of (came.Refused t.0 t.1)) before after telling.1 (put_answered status.Script is is_no_script) (line_put (came.Refused t.0 t.1) t.2))
   ]
 
   pub tells_refusals : (old ≡ [] → found ≡ came.NoPort) → TellsRefusals m o c desk new_desk old new before after ended
@@ -236,13 +248,13 @@ module _ {P O : Type 0} (m : port.Ghosts P) (o : out.Ghosts O) (c : Replay) (des
     | inl e ↦
         let f = found_is found telling.0 came.Unread telling.2 e (λ bad. let b : came.Memory ≡ came.Unread = bad in cc) in
         let d = unread m c old new ran.0 (ends_in came.Unread f) in
-        inl (asked_is (Some read.Failed) d.0, d.1, puts o (line_of came.Unread) before after telling.1 (line_put came.Unread e))
+        inl (asked_is (Some read.Failed) d.0, d.1, puts o (line_of came.Unread) before after telling.1 (put_answered status.Fault is is_no_fault) (line_put came.Unread e))
     | inr t ↦ inr (
       t.0,
       updated_from t.0 t.1,
       t.2,
       failure t.0 t.3,
-      puts o (line_of (came.Updated t.0)) before after telling.1 (line_put (came.Updated t.0) t.1),
+      puts o (line_of (came.Updated t.0)) before after telling.1 (put_answered status.Fault is is_no_fault) (line_put (came.Updated t.0) t.1),
     )
   ]
 

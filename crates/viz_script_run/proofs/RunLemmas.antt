@@ -16,7 +16,7 @@ use Rattle.viz_base.specs.declared.call.WriteAnswer.TheVariants as write
 use Rattle.viz_base.specs.declared.refusal.WriteRefusal.{WriteRefusal}
 use Rattle.viz_base.specs.declared.refusal.WriteRefusal.TheVariants as writing
 use Rattle.viz_core.specs.declared.entry.Entry.{Entry}
-use Rattle.viz_once.specs.Promises.{GainsLine, PutsLine}
+use Rattle.viz_once.specs.Promises.{GainsLine, PutsOrBreaks, EndsInScript}
 use Rattle.viz_once.specs.declared.outcome.Status.{Status}
 use Rattle.viz_once.specs.declared.outcome.Status.TheVariants as status
 use Rattle.viz_script.specs.Orders.{Asked as Command}
@@ -32,7 +32,7 @@ use Rattle.viz_script_run.specs.declared.ran.Ran.TheVariants as ran
 use Rattle.viz_phases.specs.Groups.{actors_over}
 use Rattle.viz_script_run.specs.Deeds.{Deed, Nothing, Asked, Kept, IsDoneAt, IsAccounted, IsServed, EndsIn, IsRan, calls_of, is_written}
 use Rattle.viz_script_run.specs.Told.{text_of, refused_script, is_fault, has_memory, has_fault, has_refused, served_status, status_after, Settles, IsPut, IsTold}
-use Rattle.viz_script_run.specs.Promises.{IsRefusal, IsScriptRefused, EndsInScript, TellsRefusals, IsServedBy, IsReported, IsServedWithFault, IsUnread, IsCutOff, IdleStay, SomeRose}
+use Rattle.viz_script_run.specs.Promises.{IsRefusal, IsScriptRefused, TellsRefusals, IsServedBy, IsReported, IsServedWithFault, IsUnread, IsCutOff, IdleStay, SomeRose}
 use Rattle.viz_script_run.proofs.RowLemmas.{rows_pass}
 use Rattle.viz_script_run.proofs.IdleLemmas.{served_or_same, idle_ports}
 
@@ -56,10 +56,10 @@ ToldBy r a status.Fault =
 ToldBy r a status.Usage = ⊥
 ToldBy r a status.Memory = Unit {0}
 
-no_memory : (let a : Answer = Ok tt in a) ≡ Err writing.Memory → ⊥
+pub no_memory : (let a : Answer = Ok tt in a) ≡ Err writing.Memory → ⊥
 no_memory e = let bad : (let a : Answer = Ok tt in a) ≡ Err writing.Memory = e in cc
 
-failed_is_no_memory : (let a : Answer = Err writing.Failed in a) ≡ Err writing.Memory → ⊥
+failed_is_pub no_memory : (let a : Answer = Err writing.Failed in a) ≡ Err writing.Memory → ⊥
 failed_is_no_memory e = let bad : (let a : Answer = Err writing.Failed in a) ≡ Err writing.Memory = e in cc
 
 kept_all : (fault kept : Bool) → (fault || not kept) ≡ false → kept ≡ true
@@ -156,10 +156,10 @@ module _ {O : Type 0} (m : out.Ghosts O) (text : List ℕ) (old new : O) where
   pub gains : (a : Answer) → a ≡ Ok tt → IsPut m text a old new → GainsLine m text old new
   gains a ok put = (subst (λ (b : Answer). IsPut m text b old new) ok put).text_after
 
-  pub puts : (a : Answer) → IsPut m text a old new → PutsLine m text old new
-  puts (Ok done) put = λ t. inl (put.text_after t)
-  puts (Err writing.Failed) put = λ t. inr (inl (put.cause refl, put.text_after t))
-  puts (Err writing.Memory) put = λ t. inr (inr (put.text_after t, put.answered))
+  pub puts : (a : Answer) → (a ≡ Err writing.Memory → ⊥) → IsPut m text a old new → PutsOrBreaks m text old new
+  puts (Ok done) apart put = λ t. inl (put.text_after t)
+  puts (Err writing.Failed) apart put = λ t. inr (put.cause refl, put.text_after t)
+  puts (Err writing.Memory) apart put = absurd (apart refl)
 
 as_text : {O : Type 0} (m : out.Ghosts O) (told o : Ran) (a : Answer) (old new : O) → told ≡ o → IsPut m (text_of told) a old new → IsPut m (text_of o) a old new
 as_text m told o a old new is put = subst (λ (x : Ran). IsPut m (text_of x) a old new) is put
@@ -202,8 +202,8 @@ module _ {P : Type 0} (m : port.Ghosts P) (old new : List P) where
 module _ {O : Type 0} (o : out.Ghosts O) (old new : O) where
   script_by : (line : ℕ) (why : ScriptRefusal) (a : Answer) (ended : Status) → ended ≡ status_after (ran.Refused line why) a → IsPut o (refused_script line why) a old new
       → EndsInScript o (refused_script line why) old new ended
-  script_by line why (Ok done) ended e put = inl (e, puts o (refused_script line why) old new (Ok done) put)
-  script_by line why (Err writing.Failed) ended e put = inl (e, puts o (refused_script line why) old new (Err writing.Failed) put)
+  script_by line why (Ok done) ended e put = inl (e, puts o (refused_script line why) old new (Ok done) no_memory put)
+  script_by line why (Err writing.Failed) ended e put = inl (e, puts o (refused_script line why) old new (Err writing.Failed) failed_is_no_memory put)
   script_by line why (Err writing.Memory) ended e put = inr e
 
   memory_by : (text : List ℕ) (a : Answer) (ended : Status) → ended ≡ status_after ran.Memory a → EndsInScript o text old new ended
@@ -299,7 +299,7 @@ module _ {P O : Type 0} (m : port.Ghosts P) (o : out.Ghosts O) (script journal :
       let t = told_at telling.0 telling.1 ended status.Script telling.3 is in
       let f = found_is found telling.0 (ran.Refused t.0 t.1) telling.2 t.2 (λ e. let bad : ran.Memory ≡ ran.Refused t.0 t.1 = e in cc) in
       let d = refused_deed m old new came.0 t.0 t.1 (ends_in (ran.Refused t.0 t.1) f) in
-      (d.0, t.0, t.1, d.2, deed_is (Asked d.0) d.1, d.3, puts o (refused_script t.0 t.1) before after telling.1 (text_put (ran.Refused t.0 t.1) t.2))
+      (d.0, t.0, t.1, d.2, deed_is (Asked d.0) d.1, d.3, puts o (refused_script t.0 t.1) before after telling.1 t.3 (text_put (ran.Refused t.0 t.1) t.2))
 
   pub tells_refusals : TellsRefusals m o script desk new_desk old new before after ended
   tells_refusals = λ answer line why is tells asked.
@@ -308,11 +308,11 @@ module _ {P O : Type 0} (m : port.Ghosts P) (o : out.Ghosts O) (script journal :
       let f = refused_or_memory m old new answer line why found is (subst (λ (d : Deed). EndsIn m d found old new) deed came.1) in
       (f.0, script_ends o before after line why found telling.0 telling.1 ended f.1 telling.2 telling.3 telling.4)
 
-  unread : telling.0 ≡ ran.Unread → IsUnread m o script journal desk new_desk old new before after
-  unread is =
+  unread : telling.0 ≡ ran.Unread → (telling.1 ≡ Err writing.Memory → ⊥) → IsUnread m o script journal desk new_desk old new before after
+  unread is apart =
       let f = found_is found telling.0 ran.Unread telling.2 is (λ e. let bad : ran.Memory ≡ ran.Unread = e in cc) in
       let d = unread_deed m old new came.0 (ends_in ran.Unread f) in
-      (deed_is (Asked read.Failed) d.0, d.1, puts o (text_of ran.Unread) before after telling.1 (text_put ran.Unread is))
+      (deed_is (Asked read.Failed) d.0, d.1, puts o (text_of ran.Unread) before after telling.1 apart (text_put ran.Unread is))
 
   why : (rows : List Row) (kept : Bool) (answer : WriteAnswer) → kept ≡ is_written answer
       → (((has_fault rows || not kept) ≡ true) × (telling.1 ≡ Ok tt)) ⊎ (telling.1 ≡ Err writing.Failed)
@@ -321,12 +321,17 @@ module _ {P O : Type 0} (m : port.Ghosts P) (o : out.Ghosts O) (script journal :
       ⊎_elim (λ (line : has_fault rows ≡ true). inl line) (λ (lost : not kept ≡ true). inr (inl (failed_is answer (sym (ap not is) ∙ lost)))) (or_cases (has_fault rows) (not kept) t.0)
   why rows kept answer is (inr failed) = inr (inr (telling.4.cause failed))
 
+  answered : (rows : List Row) (kept : Bool) → (((has_fault rows || not kept) ≡ true) × (telling.1 ≡ Ok tt)) ⊎ (telling.1 ≡ Err writing.Failed)
+      → telling.1 ≡ Err writing.Memory → ⊥
+  answered rows kept (inl t) memory = no_memory (sym t.1 ∙ memory)
+  answered rows kept (inr failed) memory = failed_is_no_memory (sym failed ∙ memory)
+
   pub fault : ended ≡ status.Fault → IsServedWithFault m o script journal desk new_desk old new before after ⊎ IsUnread m o script journal desk new_desk old new before after
   fault is = elim (told_at telling.0 telling.1 ended status.Fault telling.3 is) [
-    | inl t ↦ inr (unread t.0)
+    | inl t ↦ inr (unread t.0 t.1)
     | inr t ↦
         let s = served_rows t.0 t.1 (found_served t.0 t.1 t.2) in
-        inl (t.0, s.0, s.1, t.3, why t.0 t.1 s.0 s.2 t.4, puts o (rows_text t.0) before after telling.1 (text_put (ran.Served t.0 t.1) t.2))
+        inl (t.0, s.0, s.1, t.3, why t.0 t.1 s.0 s.2 t.4, puts o (rows_text t.0) before after telling.1 (answered t.0 t.1 t.4) (text_put (ran.Served t.0 t.1) t.2))
   ]
 
   rose_in : (rows : List Row) (answer : WriteAnswer) → IsServedBy m script journal rows answer desk new_desk old new

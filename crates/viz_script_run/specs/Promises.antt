@@ -8,7 +8,7 @@ use Rattle.viz_base.specs.declared.call.ReadAnswer.{ReadAnswer}
 use Rattle.viz_base.specs.declared.call.ReadAnswer.TheVariants as read
 use Rattle.viz_base.specs.declared.call.WriteAnswer.{WriteAnswer}
 use Rattle.viz_base.specs.declared.call.WriteAnswer.TheVariants as write
-use Rattle.viz_once.specs.Promises.{GainsLine, PutsLine}
+use Rattle.viz_once.specs.Promises.{GainsLine, PutsOrBreaks, EndsInScript}
 use Rattle.viz_once.specs.Report.{read_fault_line}
 use Rattle.viz_once.specs.declared.outcome.Status.{Status}
 use Rattle.viz_once.specs.declared.outcome.Status.TheVariants as status
@@ -34,15 +34,11 @@ abbrev pub IsScriptRefused : {P O : Type 0} → port.Ghosts P → out.Ghosts O
     → List ℕ → List ℕ → P → P → List P → List P → O → O → Type 0
 IsScriptRefused m o script journal desk new_desk old new before after =
     (answer : ReadAnswer) × (line : ℕ) × (r : ScriptRefusal) × IsRefusal (actors_over old) answer line r
-    × IsDoneAt m script journal (Asked answer) desk new_desk × (new ≡ old) × PutsLine o (refused_script line r) before after
+    × IsDoneAt m script journal (Asked answer) desk new_desk × (new ≡ old) × PutsOrBreaks o (refused_script line r) before after
 
 -- the desk was asked for this file alone, and answered so
 abbrev pub DeskAnswered : {P : Type 0} → port.Ghosts P → List ℕ → ReadAnswer → P → P → Type 0
 DeskAnswered m name answer desk new_desk = m.calls new_desk ≡ m.calls desk ++ Read name answer ∷ []
-
--- the status where there is nothing to serve: Script, with this line, or Memory
-abbrev pub EndsInScript : {O : Type 0} → out.Ghosts O → List ℕ → O → O → Status → Type 0
-EndsInScript o line before after ended = ((ended ≡ status.Script) × PutsLine o line before after) ⊎ (ended ≡ status.Memory)
 
 -- where the script's read was answered so, and the desk was asked for nothing else, a refusal of it is told; no port was called
 abbrev pub TellsRefusals : {P O : Type 0} → port.Ghosts P → out.Ghosts O
@@ -74,13 +70,13 @@ IsServedWithFault m o script journal desk new_desk old new before after =
     (rows : List Row) × (answer : WriteAnswer) × IsServedBy m script journal rows answer desk new_desk old new
     × (has_memory rows ≡ false)
     × ((has_fault rows ≡ true) ⊎ ((answer ≡ write.Failed) ⊎ Rose (o.faults before) (o.faults after)))
-    × PutsLine o (rows_text rows) before after
+    × PutsOrBreaks o (rows_text rows) before after
 
 -- the script's read failed, no port was called, and that was told
 abbrev pub IsUnread : {P O : Type 0} → port.Ghosts P → out.Ghosts O
     → List ℕ → List ℕ → P → P → List P → List P → O → O → Type 0
 IsUnread m o script journal desk new_desk old new before after =
-    IsDoneAt m script journal (Asked read.Failed) desk new_desk × (new ≡ old) × PutsLine o read_fault_line before after
+    IsDoneAt m script journal (Asked read.Failed) desk new_desk × (new ≡ old) × PutsOrBreaks o read_fault_line before after
 
 -- the desk was asked for nothing, or for the script alone
 abbrev pub AskedAtMost : {P : Type 0} → port.Ghosts P → List ℕ → List ℕ → P → P → Type 0

@@ -13,14 +13,21 @@ audit_all-requires c =
     (subst (IsGround net id) c.in-Some.is c.in_ok-whole.ensures)
     (subst (λ d. IsScratch net id (Ok d)) (sym c.get.ensures ∙ c.in-Mesh.is ∙ ap (λ s. Mesh s) (sym c.sheets.ensures.value)) c.in_ok-dataset.ensures.value)
 
-pub returns : goal.returns
-returns c =
+pub returns-clause-value : goal.returns-clause-value
+returns-clause-value c =
     let net = c.args.net.now in
     let id = c.args.node.0 in
-    record {
-      value =
-          is_audited c.scratch_is_one.ensures.cones net id c.in-Some.whole c.sheets.result.now c.in_ok-counts.counts
-          (subst (IsGround net id) c.in-Some.is c.in_ok-whole.ensures)
-          (subst (λ d. IsScratch net id (Ok d)) (sym c.get.ensures ∙ c.in-Mesh.is ∙ ap (λ s. Mesh s) (sym c.sheets.ensures.value)) c.in_ok-dataset.ensures.value)
-          c.in_ok-counts.ensures;
-    }
+    is_audited c.scratch_is_one.ensures.cones net id c.in-Some.whole c.sheets.result.now c.in_ok-counts.counts
+    (subst (IsGround net id) c.in-Some.is c.in_ok-whole.ensures)
+    (subst (λ d. IsScratch net id (Ok d)) (sym c.get.ensures ∙ c.in-Mesh.is ∙ ap (λ s. Mesh s) (sym c.sheets.ensures.value)) c.in_ok-dataset.ensures.value)
+    c.in_ok-counts.ensures
+
+pub returns-clause-closed : goal.returns-clause-closed
+returns-clause-closed c =
+    let net = c.args.net.now in
+    let id = c.args.node.0 in
+    c.audits_are_closed.ensures.closed net id c.in_ok-counts.counts
+    (is_audited c.scratch_is_one.ensures.cones net id c.in-Some.whole c.sheets.result.now c.in_ok-counts.counts
+    (subst (IsGround net id) c.in-Some.is c.in_ok-whole.ensures)
+    (subst (λ d. IsScratch net id (Ok d)) (sym c.get.ensures ∙ c.in-Mesh.is ∙ ap (λ s. Mesh s) (sym c.sheets.ensures.value)) c.in_ok-dataset.ensures.value)
+    c.in_ok-counts.ensures)

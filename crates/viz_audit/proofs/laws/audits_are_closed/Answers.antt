@@ -1,4 +1,5 @@
 use Rattle.viz_audit.proofs.AuditLemmas.{audits_are_closed, surfaces_are_closed}
+use Rattle.viz_audit.proofs.CutLemmas.{cuts_are_closed}
 use Rattle.viz_audit.proofs.laws.audits_are_closed.Goals as goal
 
 pub returns-clause-closed : goal.returns-clause-closed
@@ -9,3 +10,7 @@ returns-clause-closed c =
 pub returns-clause-surfaces : goal.returns-clause-surfaces
 returns-clause-surfaces c =
     surfaces_are_closed c.scratch_is_one.ensures.cones c.contours_are_closed.ensures.closed
+
+pub returns-clause-cuts : goal.returns-clause-cuts
+returns-clause-cuts c =
+    cuts_are_closed c.scratch_is_one.ensures.cones c.form_sections_are_closed.ensures.closed
