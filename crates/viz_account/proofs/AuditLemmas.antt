@@ -38,6 +38,12 @@ stopped_audit net n node x stop.Memory (missing.Fault g name) there made t = abs
 stopped_audit net n node x stop.Memory missing.Unknown there made t = absurd t
 stopped_audit net n node x stop.Memory missing.Memory there made t = tt
 
+-- a line without counts tells of no side
+pub without_closed : (m : Missing) (n : ℕ) → IsClosedLine (audit_line_of (audit_without m n))
+without_closed missing.Unknown n = tt
+without_closed (missing.Fault fault name) n = tt
+without_closed missing.Memory n = tt
+
 -- ---- closed up to the boundary
 
 module _ (law : AuditsAreClosed) where

@@ -4,12 +4,13 @@ ghost use Rattle.std.specs.Prelude.{◌≡◌, IfSome};
 ghost use Rattle.viz_scratch.specs.Scratch.{Answers};
 ghost use Rattle.viz_audit.specs.Audited.{IsAuditOf};
 ghost use Rattle.viz_account.specs.Answers.{audit_line_of, audit_at_of};
+ghost use Rattle.viz_account.specs.Laws.{IsClosedLine};
 ghost use Rattle.viz_account.specs.Lines.{TellsAudit};
 
 use crate::answer::{AuditAnswer, Missing};
 use crate::made::missing_of;
 use std::alloc::Global;
-use viz_audit::{Counts, audit_of};
+use viz_audit::{Counts, audit_of, audits_are_closed};
 use viz_base::{NodeId, Word};
 use viz_network::{Net, Stop};
 
@@ -24,11 +25,14 @@ fn audit_there(alloc: Global, net: &Net, node: NodeId) -> Result<Counts, Stop>
 }
 
 /// Counts the sides of the surface of a node of this network, which so many entries of a history
-/// made. The network may be that of a pin.
+/// made. The network may be that of a pin. The sides counted are those in two triangles and those
+/// on the boundary of the image's grid.
 pub fn audit(alloc: Global, net: &Net, at: u32, node: &Word) -> AuditAnswer
     ensures tells { TellsAudit net.now at node.now (audit_line_of result) }
+    ensures closed { IsClosedLine (audit_line_of result) }
     ensures at { IfSome (audit_at_of result) (λ n. n ≡ at) }
 {
+    audits_are_closed();
     let Some(id) = net.find(node) else {
         return AuditAnswer::without(Missing::Unknown, at);
     };

@@ -4,6 +4,7 @@ ghost use Rattle.std.specs.Prelude.{◌≡◌, IfSome, length};
 ghost use Rattle.viz_turn.specs.Known.{at_seen, GoesFurther};
 ghost use Rattle.viz_core.specs.History.{by_of, network_of};
 ghost use Rattle.viz_account.specs.Answers.{line_of, at_of, audit_line_of, audit_at_of};
+ghost use Rattle.viz_account.specs.Laws.{IsClosedLine};
 ghost use Rattle.viz_account.specs.Lines.{TellsAudit};
 ghost use Rattle.viz_account.specs.Served.{Updates};
 
@@ -35,6 +36,7 @@ fn update_pinned<P: Port>(
 // Counts the sides of the surface of a node of a pinned network.
 fn audit_pinned(alloc: Global, pinned: &Pinned, node: &Word) -> AuditAnswer
     ensures tells { TellsAudit pinned.now.net pinned.now.at node.now (audit_line_of result) }
+    ensures closed { IsClosedLine (audit_line_of result) }
     ensures at { IfSome (audit_at_of result) (λ n. n ≡ pinned.now.at) }
 {
     viz_account::audit(alloc, &pinned.net, pinned.at, node)
@@ -91,6 +93,7 @@ pub fn audit_node<R: Wait, G: Gate>(
     ensures at { IfSome (audit_at_of result.1) (λ n. n ≡ length result.0.seen) }
     ensures tells { TellsAudit (network_of result.0.seen) (length result.0.seen) node.now
         (audit_line_of result.1) }
+    ensures closed { IsClosedLine (audit_line_of result.1) }
 {
     let pin = match hub.pin(rt, alloc, pass) {
         Ok(pin) => pin,
