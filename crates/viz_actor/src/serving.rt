@@ -10,6 +10,7 @@ ghost use Rattle.viz_actor.specs.Serving.{commands_of, edit_line, AddsLines, Edi
 use crate::updating::{audit_node, update};
 use std::alloc::{AllocError, Global};
 use std::sync::Wait;
+use std::thread::Threads;
 use viz_account::file_name;
 use viz_base::{Bytes, Gate, Port, ReadRefusal, Shape, Shared, Word};
 use viz_core::EditAnswer;
@@ -141,7 +142,7 @@ fn load<R: Wait, P: Port>(
 }
 
 // Writes the file of a node.
-fn write<R: Wait, P: Port, G: Gate>(
+fn write<R: Threads + Wait + Sync, P: Port, G: Gate + Sync>(
     rt: &R,
     alloc: Global,
     hub: &Hub,
@@ -166,7 +167,7 @@ fn write<R: Wait, P: Port, G: Gate>(
 }
 
 // Audits a node.
-fn count<R: Wait, P: Port, G: Gate>(
+fn count<R: Threads + Wait + Sync, P: Port, G: Gate + Sync>(
     rt: &R,
     alloc: Global,
     hub: &Hub,
@@ -189,7 +190,7 @@ fn count<R: Wait, P: Port, G: Gate>(
 
 // Serves one command: an edit is an entry of the history, or is refused; a load reads its file
 // first; an update writes once; an audit calls nothing.
-fn serve<R: Wait, P: Port, G: Gate>(
+fn serve<R: Threads + Wait + Sync, P: Port, G: Gate + Sync>(
     rt: &R,
     alloc: Global,
     hub: &Hub,
@@ -221,7 +222,7 @@ fn serve<R: Wait, P: Port, G: Gate>(
 }
 
 // Serves the step, where it is the actor's, and adds its line.
-fn serve_step<R: Wait, P: Port, G: Gate>(
+fn serve_step<R: Threads + Wait + Sync, P: Port, G: Gate + Sync>(
     rt: &R,
     alloc: Global,
     hub: &Hub,
@@ -251,7 +252,7 @@ fn serve_step<R: Wait, P: Port, G: Gate>(
 
 /// Serves those of the steps that are the actor's, in order, each whatever became of those before
 /// it, and adds a line for each. There is room for the lines.
-pub fn serve_steps<R: Wait, P: Port, G: Gate>(
+pub fn serve_steps<R: Threads + Wait + Sync, P: Port, G: Gate + Sync>(
     rt: &R,
     alloc: Global,
     hub: &Hub,

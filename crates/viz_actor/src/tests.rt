@@ -7,6 +7,7 @@ use std::alloc::{AllocError, Global};
 use std::process::Abort;
 use std::sync::Wait;
 use std::test::Fail;
+use std::thread::Threads;
 use viz_base::{Bytes, FILE_LIMIT, MemoryPort, OpenGate, Shape, Shared, Word};
 use viz_core::EditAnswer;
 use viz_hub::{Hub, Pass};
@@ -50,7 +51,7 @@ fn split<R: Wait>(rt: &R, hub: &Hub, pass: Pass) -> (Pass, Pass)
     hub.split(rt, pass)
 }
 
-fn write<R: Wait>(
+fn write<R: Threads + Wait + Sync>(
     rt: &R,
     alloc: Global,
     hub: &Hub,
@@ -64,7 +65,13 @@ fn write<R: Wait>(
     update(rt, alloc, hub, pass, sink, "o.vtk", &WHOLE, port, &OpenGate)
 }
 
-fn count<R: Wait>(rt: &R, alloc: Global, hub: &Hub, pass: Pass, node: &Word) -> (Pass, AuditAnswer)
+fn count<R: Threads + Wait + Sync>(
+    rt: &R,
+    alloc: Global,
+    hub: &Hub,
+    pass: Pass,
+    node: &Word,
+) -> (Pass, AuditAnswer)
     requires belongs { pass.turn ≡ hub.now }
     ensures pass { result.0.turn ≡ hub.now }
 {

@@ -10,6 +10,7 @@ ghost use Rattle.viz_account.specs.Served.{Updates};
 
 use std::alloc::Global;
 use std::sync::Wait;
+use std::thread::Threads;
 use viz_account::{Answer, AuditAnswer};
 use viz_base::{Gate, Port, Shape, Word};
 use viz_core::Pinned;
@@ -48,7 +49,7 @@ fn audit_pinned(alloc: Global, pinned: &Pinned, node: &Word) -> AuditAnswer
 ///
 /// `at` of the answer is the number of entries of that history, all of which the pass then has
 /// seen. The shape doesn't change the file.
-pub fn update<R: Wait, P: Port, G: Gate>(
+pub fn update<R: Threads + Wait + Sync, P: Port, G: Gate + Sync>(
     rt: &R,
     alloc: Global,
     hub: &Hub,
@@ -78,7 +79,7 @@ pub fn update<R: Wait, P: Port, G: Gate>(
 /// Counts the sides of the surface of a node in the network of the history up to now, as `update`
 /// has it. A node that is no contour on an image is refused as WrongInput(1), behind the faults of
 /// its evaluation.
-pub fn audit_node<R: Wait, G: Gate>(
+pub fn audit_node<R: Threads + Wait + Sync, G: Gate + Sync>(
     rt: &R,
     alloc: Global,
     hub: &Hub,

@@ -17,7 +17,7 @@ use viz_report::Row;
 use viz_script::Step;
 
 // Serves the commands of one place.
-fn serve_place<R: Wait, P: Port, G: Gate>(
+fn serve_place<R: Threads + Wait + Sync, P: Port, G: Gate + Sync>(
     rt: &R,
     alloc: Global,
     hub: &Hub,
