@@ -1,29 +1,25 @@
 -- What the lines of audits tell, and that it is closed up to the boundary.
-use Rattle.std.proofs.Common.{◌≡◌, ℕ, ◌+◌, ◌≤◌, List, [], ◌∷◌, ◌++◌, length, append-nil, flat_map, Option, Some, Result, Ok, Err, refl, sym, ap, subst, ◌∙◌, arith}
+use Rattle.std.proofs.Common.{◌≡◌, ℕ, List, [], ◌∷◌, flat_map, Some, Err, refl, sym, ap, subst, ◌∙◌}
 use Rattle.std.specs.List.{All}
 use Rattle.std.proofs.lemmas.List.Elements.{All-nil, All-cons, All-append}
 use Rattle.viz_base.specs.declared.call.Call.{Call}
 use Rattle.viz_base.specs.declared.port.Port as port
-use Rattle.viz_network.specs.declared.edit.Edit.{Edit}
-use Rattle.viz_network.specs.declared.fault.Fault.{Fault}
 use Rattle.viz_network.specs.declared.fault.Stop.{Stop}
 use Rattle.viz_network.specs.declared.fault.Stop.TheVariants as stop
 use Rattle.viz_network.specs.declared.node.Node.{Node}
 use Rattle.viz_network.specs.Network.{Network, named, name_of}
 use Rattle.viz_core.specs.declared.entry.Entry.{Entry}
-use Rattle.viz_core.specs.History.{network_of}
 use Rattle.viz_script.specs.Orders.{Asked, edit, load, update, audit}
 use Rattle.viz_scratch.specs.Scratch.{Answers}
 use Rattle.viz_audit.specs.Audited.{IsAuditOf}
 use Rattle.viz_audit.specs.Laws.{AuditsAreClosed}
 use Rattle.viz_report.specs.declared.line.Line.{Line}
 use Rattle.viz_report.specs.declared.line.Line.TheVariants as line
-use Rattle.viz_report.specs.declared.line.Reason.TheVariants as reason
 use Rattle.viz_account.specs.declared.answer.Missing.{Missing}
 use Rattle.viz_account.specs.declared.answer.Missing.TheVariants as missing
 use Rattle.viz_account.specs.Answers.{audit_line_of, audit_without}
-use Rattle.viz_account.specs.Lines.{network_at, TellsEdit, TellsLoad, TellsUpdate, TellsAudit, Tells}
-use Rattle.viz_account.specs.Account.{edited, least, places, AreTold, ArePhases, faults_told, RoseBy, IsActor, AreActors, IsAccountOf}
+use Rattle.viz_account.specs.Lines.{network_at, TellsAudit, Tells}
+use Rattle.viz_account.specs.Account.{AreTold, ArePhases, AreActors}
 use Rattle.viz_account.specs.Laws.{IsClosedLine, AuditLinesAreClosed}
 use Rattle.viz_account.specs.Steps.Made.{IsStop}
 

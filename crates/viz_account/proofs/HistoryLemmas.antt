@@ -1,5 +1,5 @@
 -- A history and the places of a pass's entries, with more entries.
-use Rattle.std.proofs.Common.{◌≡◌, ℕ, ◌+◌, ◌≤◌, Bool, true, false, cond, List, [], ◌∷◌, ◌++◌, length, length-append, take, slice_get, append_assoc, append-nil, Some, Err, refl, sym, ap, subst, ◌∙◌, arith}
+use Rattle.std.proofs.Common.{◌≡◌, ℕ, ◌+◌, Bool, true, false, cond, List, [], ◌∷◌, ◌++◌, length, take, slice_get, Some, refl, ap, ◌∙◌, arith}
 use Rattle.viz_turn.specs.Tales.{has}
 use Rattle.viz_core.specs.declared.entry.Entry.{Entry}
 use Rattle.viz_account.specs.Account.{places_from, places}

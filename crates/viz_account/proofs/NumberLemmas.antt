@@ -1,5 +1,5 @@
 -- The numbers of one actor's lines are those of its edits.
-use Rattle.std.proofs.Common.{◌≡◌, ℕ, zero, suc, ◌+◌, ◌≤◌, Bool, true, false, cond, List, [], ◌∷◌, ◌++◌, length, flat_map, refl, sym, ap, subst, ◌∙◌, arith}
+use Rattle.std.proofs.Common.{◌≡◌, ℕ, zero, suc, ◌+◌, ◌≤◌, Bool, true, false, cond, List, [], ◌∷◌, length, flat_map, refl, sym, ap, subst, ◌∙◌, arith}
 use Rattle.viz_base.specs.declared.call.Call.{Call}
 use Rattle.viz_base.specs.declared.port.Port as port
 use Rattle.viz_network.specs.declared.edit.Edit.{Edit}

@@ -1,5 +1,5 @@
 -- The lines of one actor through all phases.
-use Rattle.std.proofs.Common.{◌≡◌, ℕ, ◌≤◌, List, [], ◌∷◌, ◌++◌, flat_map, refl, sym, ap, subst, ◌∙◌, arith}
+use Rattle.std.proofs.Common.{◌≡◌, ℕ, ◌≤◌, List, [], ◌∷◌, ◌++◌, flat_map, refl, ap, subst, ◌∙◌, arith}
 use Rattle.std.proofs.lemmas.Grind.{flat_map-append}
 use Rattle.viz_base.specs.declared.call.Call.{Call}
 use Rattle.viz_core.specs.declared.entry.Entry.{Entry}

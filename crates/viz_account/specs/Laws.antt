@@ -1,5 +1,5 @@
 -- What follows for accounts (docs/DEFINITIONS.md, "The account of a script").
-use Rattle.std.specs.Prelude.{◌≡◌, ◌≢◌, ℕ, ◌+◌, ◌<◌, ◌≤◌, nat_eq, if◌then◌else◌, List, [], ◌∷◌, ◌++◌, length, flat_map, All, slice_get, Some}
+use Rattle.std.specs.Prelude.{◌≡◌, ◌≢◌, ℕ, ◌+◌, ◌<◌, nat_eq, if◌then◌else◌, List, [], ◌∷◌, ◌++◌, length, flat_map, All, slice_get, Some}
 use Rattle.viz_base.specs.declared.call.Call.{Call}
 use Rattle.viz_base.specs.declared.port.Port as port
 use Rattle.viz_core.specs.declared.entry.Entry.{Entry}

@@ -1,5 +1,5 @@
 -- Lines of commands, between the entries that a pass had seen and has seen then.
-use Rattle.std.proofs.Common.{◌≡◌, ℕ, suc, ◌+◌, ◌≤◌, ⊎_elim, Bool, IsTrue, eq-eqb, true, false, true≢false, not, cond, List, [], ◌∷◌, ◌++◌, length, length-append, take, drop, slice_get, append_assoc, append-nil, Some, Err, refl, sym, ap, subst, ◌∙◌, arith, ◌==◌}
+use Rattle.std.proofs.Common.{◌≡◌, ℕ, suc, ◌+◌, ◌≤◌, ⊎_elim, Bool, IsTrue, eq-eqb, true, false, true≢false, not, cond, List, [], ◌∷◌, ◌++◌, length, length-append, take, drop, slice_get, append_assoc, append-nil, Err, refl, sym, ap, subst, ◌∙◌, arith, ◌==◌}
 use Rattle.std.proofs.lemmas.Bool.{and_parts, not-true, ne_eqb}
 use Rattle.std.proofs.lemmas.List.{take-append-drop}
 use Rattle.viz_base.specs.declared.call.Call.{Call}

@@ -1,4 +1,4 @@
-use Rattle.std.proofs.Common.{◌≡◌, ℕ, List, [], ◌∷◌, ◌++◌, append-nil, refl, sym, subst}
+use Rattle.std.proofs.Common.{◌≡◌, ℕ, List, [], ◌∷◌, append-nil, refl, sym, subst}
 use Rattle.viz_base.specs.declared.port.Port as port
 use Rattle.viz_network.specs.Network.{Network}
 use Rattle.viz_account.specs.declared.answer.Missing.{Missing}

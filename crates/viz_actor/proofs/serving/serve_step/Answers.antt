@@ -1,4 +1,3 @@
-use Rattle.std.proofs.Common.{sym, subst}
 use Rattle.viz_script.specs.Orders.{seen}
 use Rattle.viz_actor.proofs.ServeLemmas.{commands_mine, commands_others, adds_one, adds_none}
 use Rattle.viz_actor.proofs.serving.serve_step.Goals as goal

@@ -13,10 +13,10 @@ loop-step-init g c = record {
 }
 
 pub serve_step-pass-requires-clause-belongs : goal.serve_step-pass-requires-clause-belongs
-serve_step-pass-requires-clause-belongs g c = ap (λ p. p.turn) c.loop-step.invariant.same ∙ c.requires.belongs
+serve_step-pass-requires-clause-belongs g c = λ κs lives. ap (λ p. p.turn) c.loop-step.invariant.same ∙ c.requires.belongs
 
 pub serve_step-pass-requires-clause-room : goal.serve_step-pass-requires-clause-room
-serve_step-pass-requires-clause-room g c =
+serve_step-pass-requires-clause-room g c = λ κs lives.
     let i = c.loop-step.step-index in
     let steps = c.args.steps.now in
     let actor = c.args.actor in
