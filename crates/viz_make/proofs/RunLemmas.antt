@@ -53,7 +53,7 @@ told_at c a ended known e is = subst (ToldBy c a) (sym e ∙ is) (told_by c a)
 
 -- a put that was answered for want of memory ends in that status
 pub unanswered : (c : Came) (a : Answer) (ended known : Status) → ended ≡ status_after c a → ended ≡ known → (status.Memory ≡ known → ⊥) → a ≡ Err writing.Memory → ⊥
-unanswered c a ended known e is no memory = no (sym (subst (λ (x : Answer). ended ≡ status_after c x) memory e) ∙ is)
+unanswered c a ended known e is apart memory = apart (sym (subst (λ (x : Answer). ended ≡ status_after c x) memory e) ∙ is)
 
 -- a run without a port, by what was told of it
 module _ {O : Type 0} (o : out.Ghosts O) (old new : O) where

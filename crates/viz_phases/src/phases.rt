@@ -64,7 +64,9 @@ fn serve_places<R: Threads + Wait + Sync, P: Port + Send, G: Gate + Sync>(
         rt,
         places,
         threads,
-        &|_, place| serve_place(rt, alloc, hub, gate, steps, place),
+        &|_, place|
+            requires ready { IsReady hub.now steps.now place.old }
+        { serve_place(rt, alloc, hub, gate, steps, place) },
     );
 }
 

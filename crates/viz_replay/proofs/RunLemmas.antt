@@ -84,7 +84,7 @@ told_at c a ended known e is = subst (ToldBy c a) (sym e ∙ is) (told_by c a)
 
 -- a put that was answered for want of memory ends in that status
 pub unanswered : (c : Came) (a : Answer) (ended known : Status) → ended ≡ status_after c a → ended ≡ known → (status.Memory ≡ known → ⊥) → a ≡ Err writing.Memory → ⊥
-unanswered c a ended known e is no memory = no (sym (subst (λ (x : Answer). ended ≡ status_after c x) memory e) ∙ is)
+unanswered c a ended known e is apart memory = apart (sym (subst (λ (x : Answer). ended ≡ status_after c x) memory e) ∙ is)
 
 -- what is told was found, where it isn't want of memory
 found_is : (found told c : Came) → Settles found told → told ≡ c → (came.Memory ≡ c → ⊥) → found ≡ c
@@ -193,7 +193,7 @@ module _ {P O : Type 0} (m : port.Ghosts P) (o : out.Ghosts O) (c : Replay) (des
       (u.0, u.2.0, u.2.1, u.2.2, asked_is (Some (read.Given u.0)) u.1)
 
   put_answered : (known : Status) → ended ≡ known → (status.Memory ≡ known → ⊥) → telling.1 ≡ Err writing.Memory → ⊥
-  put_answered known is no = unanswered telling.0 telling.1 ended known telling.3 is no
+  put_answered known is apart = unanswered telling.0 telling.1 ended known telling.3 is apart
 
   is_no_script : status.Memory ≡ status.Script → ⊥
   is_no_script e = let bad : status.Memory ≡ status.Script = e in cc

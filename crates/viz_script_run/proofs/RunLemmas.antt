@@ -59,7 +59,7 @@ ToldBy r a status.Memory = Unit {0}
 pub no_memory : (let a : Answer = Ok tt in a) ≡ Err writing.Memory → ⊥
 no_memory e = let bad : (let a : Answer = Ok tt in a) ≡ Err writing.Memory = e in cc
 
-failed_is_pub no_memory : (let a : Answer = Err writing.Failed in a) ≡ Err writing.Memory → ⊥
+pub failed_is_no_memory : (let a : Answer = Err writing.Failed in a) ≡ Err writing.Memory → ⊥
 failed_is_no_memory e = let bad : (let a : Answer = Err writing.Failed in a) ≡ Err writing.Memory = e in cc
 
 kept_all : (fault kept : Bool) → (fault || not kept) ≡ false → kept ≡ true

@@ -5,6 +5,7 @@ use Rattle.viz_base.specs.declared.out.Out as out
 use Rattle.viz_once.specs.Account as once_account
 use Rattle.viz_once.specs.Command as once
 use Rattle.viz_once.specs.Promises as once_promises
+use Rattle.viz_once.specs.Report.{no_port_line}
 use Rattle.viz_once.specs.declared.outcome.Status.{Status}
 use Rattle.viz_once.specs.declared.outcome.Status.TheVariants as status
 use Rattle.viz_make.specs.declared.came.Came.{Came as MakeCame}
@@ -63,19 +64,21 @@ module _ {P O : Type 0} (m : port.Ghosts P) (o : out.Ghosts O) (words : List (Li
   IsRefused (Some (Make c)) = ⊥
   IsRefused None = once_promises.IsRefused m o (once.command_of words) old new before after
 
-  -- where a cause of a refusal holds, of a script, a journal or a file, it is told
+  -- where a cause of a refusal holds, of a script, a journal or a file, or there is no port, it is told
   abbrev pub Refuses : Option Command → Status → Type 0
   Refuses (Some (Script script journal)) ended = script_promises.TellsRefusals m o script desk new_desk old new before after ended
   Refuses (Some (Scratch c)) ended = replay_promises.TellsRefusals m o c desk new_desk old new before after ended
-  Refuses (Some (Make c)) ended = make_promises.TellsRefusals old ended
-  Refuses None ended = once_promises.TellsCauses m o (once.command_of words) old new before after ended
+  Refuses (Some (Make c)) ended = make_promises.TellsRefusals o old before after ended
+  Refuses None ended =
+      once_promises.TellsCauses m o (once.command_of words) old new before after ended
+      × (once_promises.LacksPort (once.command_of words) old → once_promises.EndsInScript o no_port_line before after ended)
 
   -- a run that answers Script: the script or journal is refused, or there is no port
   abbrev pub IsScript : Option Command → Type 0
   IsScript (Some (Script script journal)) = script_promises.IsScriptRefused m o script journal desk new_desk old new before after
   IsScript (Some (Scratch c)) = replay_promises.IsScript m o c desk new_desk old new before after
   IsScript (Some (Make c)) = make_promises.IsScript m o old new before after
-  IsScript None = once_promises.LacksPort (once.command_of words) old
+  IsScript None = once_promises.IsPortless o (once.command_of words) old before after
 
   -- a run that answers Fault: what failed, and what was told of it
   abbrev pub IsFault : Option Command → Type 0
@@ -91,9 +94,10 @@ module _ {P O : Type 0} (m : port.Ghosts P) (o : out.Ghosts O) (words : List (Li
   IsCutOff (Some (Script script journal)) = script_promises.IsCutOff m script journal desk new_desk old new
   IsCutOff c = Unit {0}
 
-  -- where the words aren't of a script, all ports but the first are as before, and where they use no desk the desk is
+  -- of a script a port whose actor has no command is as before; of other words all ports but the first are, and where they use
+  -- no desk the desk is
   abbrev pub OthersStay : Option Command → Type 0
-  OthersStay (Some (Script script journal)) = Unit {0}
+  OthersStay (Some (Script script journal)) = script_promises.IdleStay m script journal desk new_desk old new
   OthersStay (Some (Scratch c)) = once_promises.OthersStay old new
   OthersStay (Some (Make c)) = once_promises.OthersStay old new × (new_desk ≡ desk)
   OthersStay None = once_promises.OthersStay old new × (new_desk ≡ desk)
