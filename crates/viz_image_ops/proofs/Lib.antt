@@ -1,3 +1,4 @@
+mod StandardFacts
 pub mod JoinedLemmas
 pub mod PartLemmas
 pub mod RangeLemmas

@@ -12,10 +12,10 @@ use Rattle.viz_dataset.specs.Images.{Vector, ImageData, IsImage, IsRestricted}
 use Rattle.viz_meaning.specs.ImageFilters.{crop_of, threshold_of}
 use Rattle.viz_meaning.specs.Threshold.{kept_value, thresholded}
 use Rattle.viz_meaning.specs.WholeImages.{WholeImage, whole_of, IsOn, GivesOn}
-use Rattle.viz_image_ops.specs.Determined.{PartIsDetermined, WholeThreshold}
+use Rattle.viz_image_ops.specs.Determined.{ImagesAreWholes, PartIsDetermined, WholeThreshold}
 
 -- an image is that of itself as a whole
-pub on_itself : (image : ImageData) → IsImage image → IsOn (whole_of image) image.extent image
+pub on_itself : ImagesAreWholes
 on_itself image valid =
     record {
       extent = refl;

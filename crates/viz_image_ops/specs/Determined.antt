@@ -1,11 +1,15 @@
--- A part of a whole image is one image (VTK User's Guide, "Image data").
+-- Images and the whole images that they are parts of (VTK User's Guide, "Image data").
 use Rattle.std.specs.Prelude.{◌≡◌, ℤ}
 use Rattle.viz_extent.specs.Extent.{Bounds}
 use Rattle.viz_extent.specs.Parts.{IsPart, Rate, IsRate, sampled, spread}
 use Rattle.viz_dataset.specs.Images.{ImageData, IsImage}
 use Rattle.viz_meaning.specs.ImageFilters.{threshold_of}
 use Rattle.viz_meaning.specs.Threshold.{thresholded}
-use Rattle.viz_meaning.specs.WholeImages.{WholeImage, IsOn, GivesOn}
+use Rattle.viz_meaning.specs.WholeImages.{WholeImage, whole_of, IsOn, GivesOn}
+
+-- an image is the part of a whole image on its own extent: of itself
+abbrev pub ImagesAreWholes : Type 0
+ImagesAreWholes = (image : ImageData) → IsImage image → IsOn (whole_of image) image.extent image
 
 -- two images of one whole on one part are the same
 abbrev pub PartIsDetermined : Type 0

@@ -7,9 +7,9 @@
 #![tactic(auto)]
 
 mod arithmetic;
+mod bounded;
 mod cropping;
 mod divisor;
-mod lane;
 mod laws;
 mod means;
 mod sampling;
@@ -20,10 +20,14 @@ mod window;
 
 pub use arithmetic::arith;
 pub use cropping::crop;
-pub use laws::{parts_are_determined, samples_ask_within_the_whole, whole_thresholds_keep_each};
+pub use laws::{
+    images_are_wholes, parts_are_determined, samples_ask_within_the_whole,
+    whole_thresholds_keep_each,
+};
 pub use sampling::sample;
 pub use smoothing::smooth;
 pub use thresholding::threshold;
+pub use viz_meaning::Op;
 
 #[cfg(test)]
 mod smooth_tests;
@@ -31,3 +35,5 @@ mod smooth_tests;
 mod test_images;
 #[cfg(test)]
 mod tests;
+#[cfg(test)]
+mod window_tests;

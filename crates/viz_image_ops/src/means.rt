@@ -6,8 +6,8 @@ ghost use Rattle.viz_meaning.specs.ImageFilters.{sum_of, floor_of};
 ghost use Rattle.viz_image_ops.specs.Joined.{joined, run_of, values_on};
 ghost use Rattle.viz_image_ops.specs.Sums.{AreReaches, AreSumsOf, HasRoom, IsReach, IsWithin, place_mean, plane_mean, reach_above, reach_below, row_mean};
 
+use crate::bounded::own;
 use crate::divisor::Divisor;
-use crate::lane::own;
 use crate::sums::{move_numbers, move_terms};
 use crate::window::{Axes, Axis};
 use std::alloc::AllocError;

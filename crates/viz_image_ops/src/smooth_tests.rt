@@ -9,8 +9,8 @@ use viz_column::Kind8;
 use viz_dataset::Image;
 use viz_extent::Extent;
 
-// A box mean, where the whole has the part and the image what it asks for.
-fn smoothed(
+/// A box mean, where the whole has the part and the image what it asks for.
+pub(crate) fn smoothed(
     alloc: Global,
     image: &Image,
     radius: u32,

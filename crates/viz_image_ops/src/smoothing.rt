@@ -17,8 +17,8 @@ use viz_extent::Extent;
 
 /// The numbers of a box mean on `out`: at each point the mean of the numbers at all points of the
 /// whole whose indices differ from its own by at most the radius along each axis, rounded down.
-/// The input contains `out.grow(radius, whole)`. What it costs goes by the points of that extent:
-/// on the whole it doesn't grow with the radius, and on a part it does.
+/// The input contains `out.grow(radius, whole)`. What it costs goes by the points of that extent,
+/// which on a part grows with the radius; on the whole it hardly grows with it.
 pub fn smooth(
     alloc: Global,
     input: &Image,

@@ -7,14 +7,13 @@ ghost use Rattle.viz_meaning.specs.ImageFilters.{wider_steps};
 
 use crate::sampling::wider;
 use crate::test_images::{image_of, is_image, is_part};
-use crate::{arith, crop, sample, samples_ask_within_the_whole, threshold};
+use crate::{Op, arith, crop, sample, samples_ask_within_the_whole, threshold};
 use std::alloc::Global;
 use std::process::Abort;
 use std::test::Fail;
 use viz_column::Kind8;
 use viz_dataset::{Image, is_spacing};
 use viz_extent::Extent;
-use viz_meaning::Op;
 
 // Two by two by two points with the numbers 0 to 7, the lowest corner at 1, 5, 2.
 const BLOCK: [u32; 6] = [1, 2, 5, 6, 2, 3];
@@ -99,90 +98,80 @@ fn a_threshold_keeps_numbers_between_its_bounds(rt: HostRuntime) -> Result<(), F
     Ok(())
 }
 
+// One past the end of a type selects nothing, where the remainder by 2^8 would select.
 #[test]
-fn bounds_are_brought_to_the_ends_of_a_type(rt: HostRuntime) -> Result<(), Fail> {
+fn bounds_are_brought_to_the_ends_of_eight_bits(rt: HostRuntime) -> Result<(), Fail> {
     let alloc = rt.alloc();
-    let low = [-128, -1, 5, 127];
-    keeps(&rt, alloc, Kind8::I8, [-200, 5], low, [-128, -1, 5, 0])?;
-    // One below the type's end selects nothing, where the end cut to 8 bits would select 127.
-    keeps(&rt, alloc, Kind8::I8, [-300, -129], low, [0, 0, 0, 0])?;
+    let xs = [-128, -1, 5, 127];
+    keeps(&rt, alloc, Kind8::I8, [-200, 5], xs, [-128, -1, 5, 0])?;
+    keeps(&rt, alloc, Kind8::I8, [5, 200], xs, [0, 0, 5, 127])?;
+    keeps(&rt, alloc, Kind8::I8, [-300, -129], xs, [0, 0, 0, 0])?;
+    let xs = [0, 1, 44, 255];
+    keeps(&rt, alloc, Kind8::U8, [-9, 1], xs, [0, 1, 0, 0])?;
+    keeps(&rt, alloc, Kind8::U8, [255, 300], xs, [0, 0, 0, 255])?;
+    keeps(&rt, alloc, Kind8::U8, [256, 300], xs, [0, 0, 0, 0])?;
+    Ok(())
+}
+
+#[test]
+fn bounds_are_brought_to_the_ends_of_sixteen_bits(rt: HostRuntime) -> Result<(), Fail> {
+    let alloc = rt.alloc();
+    let (low, high, most) = (-32_768, 32_767, 65_535);
+    let xs = [low, -1, 1, high];
     keeps(
         &rt,
         alloc,
-        Kind8::U8,
-        [255, 300],
-        [0, 1, 254, 255],
-        [0, 0, 0, 255],
-    )?;
-    // The remainder of 256 by 2^8 is 0, and that of 300 is 44.
-    keeps(
-        &rt,
-        alloc,
-        Kind8::U8,
-        [256, 300],
-        [0, 1, 44, 255],
-        [0, 0, 0, 0],
-    )?;
-    keeps(
-        &rt,
-        alloc,
-        Kind8::U16,
-        [-9, 1],
-        [0, 1, 2, 65_535],
-        [0, 1, 0, 0],
+        Kind8::I16,
+        [-40_000, -32_768],
+        xs,
+        [low, 0, 0, 0],
     )?;
     keeps(
         &rt,
         alloc,
         Kind8::I16,
         [32_767, 40_000],
-        [-32_768, 0, 1, 32_767],
-        [0, 0, 0, 32_767],
+        xs,
+        [0, 0, 0, high],
+    )?;
+    let xs = [0, 1, 2, most];
+    keeps(&rt, alloc, Kind8::U16, [-9, 1], xs, [0, 1, 0, 0])?;
+    keeps(
+        &rt,
+        alloc,
+        Kind8::U16,
+        [65_535, 70_000],
+        xs,
+        [0, 0, 0, most],
     )?;
     Ok(())
 }
 
 #[test]
-fn the_ends_of_wide_types_are_kept(rt: HostRuntime) -> Result<(), Fail> {
+fn bounds_are_brought_to_the_ends_of_thirty_two_bits(rt: HostRuntime) -> Result<(), Fail> {
     let alloc = rt.alloc();
-    let high = i128::from(i64::MAX);
-    let low = i128::from(i64::MIN);
-    let most = i128::from(u64::MAX);
-    let most_32 = i128::from(u32::MAX);
-    let (low_32, high_32) = (i128::from(i32::MIN), i128::from(i32::MAX));
-    keeps(
-        &rt,
-        alloc,
-        Kind8::I32,
-        [i64::MIN, -1],
-        [low_32, -1, 1, high_32],
-        [low_32, -1, 0, 0],
-    )?;
-    keeps(
-        &rt,
-        alloc,
-        Kind8::U32,
-        [2, i64::MAX],
-        [0, 1, 2, most_32],
-        [0, 0, 2, most_32],
-    )?;
-    keeps(
-        &rt,
-        alloc,
-        Kind8::I64,
-        [i64::MIN, -1],
-        [low, -1, 1, high],
-        [low, -1, 0, 0],
-    )?;
-    // 2^63 and above are greater than each bound.
-    keeps(
-        &rt,
-        alloc,
-        Kind8::U64,
-        [i64::MIN, i64::MAX],
-        [1, high, high + 1, most],
-        [1, high, 0, 0],
-    )?;
+    let (low, high) = (i128::from(i32::MIN), i128::from(i32::MAX));
+    let xs = [low, -1, 1, high];
+    keeps(&rt, alloc, Kind8::I32, [i64::MIN, -1], xs, [low, -1, 0, 0])?;
+    keeps(&rt, alloc, Kind8::I32, [1, i64::MAX], xs, [0, 0, 1, high])?;
+    let most = i128::from(u32::MAX);
+    let xs = [0, 1, 2, most];
+    keeps(&rt, alloc, Kind8::U32, [i64::MIN, 1], xs, [0, 1, 0, 0])?;
+    keeps(&rt, alloc, Kind8::U32, [2, i64::MAX], xs, [0, 0, 2, most])?;
+    Ok(())
+}
+
+// Of 64 bits without a sign, 2^63 and above are greater than each bound.
+#[test]
+fn the_ends_of_sixty_four_bits_are_kept(rt: HostRuntime) -> Result<(), Fail> {
+    let alloc = rt.alloc();
+    let (low, high) = (i128::from(i64::MIN), i128::from(i64::MAX));
+    let xs = [low, -1, 1, high];
+    keeps(&rt, alloc, Kind8::I64, [i64::MIN, -1], xs, [low, -1, 0, 0])?;
+    keeps(&rt, alloc, Kind8::I64, [1, i64::MAX], xs, [0, 0, 1, high])?;
+    let xs = [1, high, high + 1, i128::from(u64::MAX)];
+    let all = [i64::MIN, i64::MAX];
+    keeps(&rt, alloc, Kind8::U64, all, xs, [1, high, 0, 0])?;
     Ok(())
 }
 

@@ -10,7 +10,7 @@ ghost use Rattle.viz_meaning.specs.Threshold.{kept_numbers};
 ghost use Rattle.viz_meaning.specs.WholeImages.{GivesOn};
 ghost use Rattle.viz_image_ops.specs.Steps.{IsLeast, IsMost, SelectSame, SelectNone};
 
-use crate::lane::{Lane, own};
+use crate::bounded::{Bounded, own};
 use std::alloc::{AllocError, Global};
 use viz_column::{Column, Kind8, Lent, Number};
 use viz_dataset::Image;
@@ -60,7 +60,7 @@ fn keep_column(alloc: Global, column: &Column, lo: &i64, hi: &i64) -> Result<Col
 }
 
 /// Each number between the bounds, and 0 for every other.
-fn keep<T: Lane>(alloc: Global, numbers: &[T], lo: &i64, hi: &i64) -> Result<Column, AllocError>
+fn keep<T: Bounded>(alloc: Global, numbers: &[T], lo: &i64, hi: &i64) -> Result<Column, AllocError>
     requires own { AreInRange (record { kind = T.kind; items = map T.value numbers.now }) }
     ensures { IfOk result (λ c. c ≡ kept_numbers lo.now hi.now
         (record { kind = T.kind; items = map T.value numbers.now })) }

@@ -47,11 +47,11 @@ fn first_numbers(alloc: Global, length: u8) -> Result<Vec<u8>, AllocError> {
     Ok(numbers)
 }
 
-// 65 numbers: the greatest in the first lane, in one within and the last, and at the one that is
-// left over.
-fn mixed<T: Copy>(alloc: Global, least: T, most: T) -> Result<Vec<T>, AllocError> {
+// So many numbers: the greatest in the first lane, in one within and the last, and at those that
+// are left over.
+fn mixed<T: Copy>(alloc: Global, length: u64, least: T, most: T) -> Result<Vec<T>, AllocError> {
     let mut numbers = Vec::new(alloc);
-    for i in 0..65 {
+    for i in 0..length {
         numbers.push(if is_most(i) { most } else { least })?;
     }
     Ok(numbers)
@@ -100,12 +100,28 @@ fn planes_have_every_length(rt: HostRuntime) -> Result<(), Fail> {
     Ok(())
 }
 
+// Each number is its index, so that the place of each that is kept shows.
+#[test]
+fn numbers_are_kept_where_they_stand(rt: HostRuntime) -> Result<(), Fail> {
+    let alloc = rt.alloc();
+    for length in [0, 1, 63, 64, 65, 67] {
+        let numbers = first_numbers(alloc, length)?;
+        let kept = keep_within_u8(alloc, &numbers, 3, 64)?;
+        assert_eq!(&rt; kept.len(), length as usize);
+        for (i, n) in kept.iter().enumerate() {
+            let want = if 3 <= i && i <= 64 { i } else { 0 };
+            assert_eq!(&rt; usize::from(*n), want, "{i} of {length}");
+        }
+    }
+    Ok(())
+}
+
 // Both ends of a type as bounds, and a lower bound above the upper one.
 macro_rules! ends {
     ($rt:expr, $number:ident, $at_least:ident, $within:ident) => {{
         let alloc = $rt.alloc();
         let (least, most) = ($number::MIN, $number::MAX);
-        let xs = mixed(alloc, least, most)?;
+        let xs = mixed(alloc, 65, least, most)?;
         only_most($rt, $at_least(alloc, &xs, most))?;
         only_most($rt, $within(alloc, &xs, least + 1, most))?;
         many($rt, $within(alloc, &xs, least, most - 1), 61)?;
@@ -153,12 +169,24 @@ fn u64_has_its_ends(rt: HostRuntime) -> Result<(), Fail> {
     ends!(&rt, u64, at_least_u64, within_u64)
 }
 
-// What is left of a type's least number, 1 and its greatest where the lowest is left out, and
-// where the highest is.
+// Lengths round a word of 64.
+const LENGTHS: [u64; 6] = [0, 1, 63, 64, 65, 67];
+
+// What is left of a type's least numbers and its greatest at each length, and of these and 1,
+// where the lowest is left out, and where the highest is.
 macro_rules! keeps {
     ($rt:expr, $number:ident, $keep:ident) => {{
         let alloc = $rt.alloc();
         let (least, most) = ($number::MIN, $number::MAX);
+        for length in LENGTHS {
+            let xs = mixed(alloc, length, least, most)?;
+            let high = $keep(alloc, &xs, 1, most)?;
+            let want = mixed(alloc, length, 0, most)?;
+            assert_eq!($rt; high.as_slice(), want.as_slice(), "above of {length}");
+            let low = $keep(alloc, &xs, least, 1)?;
+            let want = mixed(alloc, length, least, 0)?;
+            assert_eq!($rt; low.as_slice(), want.as_slice(), "below of {length}");
+        }
         let high = $keep(alloc, &[least, 1, most], 1, most)?;
         assert_eq!($rt; high.as_slice(), [0, 1, most].as_slice());
         let low = $keep(alloc, &[least, 1, most], least, 1)?;

@@ -11,8 +11,8 @@ use viz_lanes::{
     keep_within_u16, keep_within_u32, keep_within_u64,
 };
 
-/// A type of numbers that are compared in lanes.
-pub(crate) trait Lane: Number {
+/// A type of numbers that are kept within bounds.
+pub(crate) trait Bounded: Number {
     /// Each number that is at least lo and at most hi, and 0 for every other.
     fn keep_within(
         alloc: Global,
@@ -35,19 +35,19 @@ pub(crate) fn own<T: Number>(n: &i128) -> T
     }
 }
 
-impl Lane for i8 {
+impl Bounded for i8 {
     fn keep_within(alloc: Global, numbers: &[i8], lo: i8, hi: i8) -> Result<Vec<i8>, AllocError> {
         keep_within_i8(alloc, numbers, lo, hi)
     }
 }
 
-impl Lane for u8 {
+impl Bounded for u8 {
     fn keep_within(alloc: Global, numbers: &[u8], lo: u8, hi: u8) -> Result<Vec<u8>, AllocError> {
         keep_within_u8(alloc, numbers, lo, hi)
     }
 }
 
-impl Lane for i16 {
+impl Bounded for i16 {
     fn keep_within(
         alloc: Global,
         numbers: &[i16],
@@ -58,7 +58,7 @@ impl Lane for i16 {
     }
 }
 
-impl Lane for u16 {
+impl Bounded for u16 {
     fn keep_within(
         alloc: Global,
         numbers: &[u16],
@@ -69,7 +69,7 @@ impl Lane for u16 {
     }
 }
 
-impl Lane for i32 {
+impl Bounded for i32 {
     fn keep_within(
         alloc: Global,
         numbers: &[i32],
@@ -80,7 +80,7 @@ impl Lane for i32 {
     }
 }
 
-impl Lane for u32 {
+impl Bounded for u32 {
     fn keep_within(
         alloc: Global,
         numbers: &[u32],
@@ -91,7 +91,7 @@ impl Lane for u32 {
     }
 }
 
-impl Lane for i64 {
+impl Bounded for i64 {
     fn keep_within(
         alloc: Global,
         numbers: &[i64],
@@ -102,7 +102,7 @@ impl Lane for i64 {
     }
 }
 
-impl Lane for u64 {
+impl Bounded for u64 {
     fn keep_within(
         alloc: Global,
         numbers: &[u64],
