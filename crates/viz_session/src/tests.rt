@@ -7,6 +7,7 @@ mod meshes;
 mod rough;
 mod rows;
 mod scratch;
+mod volumes;
 
 use crate::{Status, run};
 use std::alloc::Global;
@@ -303,6 +304,43 @@ fn refusals_have_their_lines(rt: HostRuntime) -> Result<(), Fail> {
     Ok(())
 }
 
+#[test]
+fn the_first_refusal_of_a_text_is_told(rt: HostRuntime) -> Result<(), Fail> {
+    let alloc = rt.alloc();
+    for (line, text, want) in [
+        ("run s j", "1 add crop\n", "script line 1 Arity\n"),
+        ("run s j", "1 add crop a.b\n", "script line 1 Name\n"),
+        (
+            "run s j",
+            "phase\n1 connect a b 256\n",
+            "script line 2 Number\n",
+        ),
+        // a journal that is read, one that counts from 2, and one that adds a node twice
+        (
+            "scratch s 9 a o",
+            "vizrun journal 1\n2 1 add crop a\nend 1\n",
+            "refused fault:a:Unconnected(1) at 1\n",
+        ),
+        (
+            "scratch s 9 a o",
+            "vizrun journal 1\n2 2 add crop a\nend 1\n",
+            "script line 2 Number\n",
+        ),
+        (
+            "scratch s 9 a o",
+            "vizrun journal 1\n1 1 add crop a\n1 2 add crop a\nend 2\n",
+            "script line 3 Edit\n",
+        ),
+    ] {
+        let first = corner(alloc, Vec::new(alloc))?;
+        let left = run_over(&rt, alloc, line, text.as_bytes(), first)?;
+        assert_eq!(rt; left.text.as_str(), want);
+        assert_eq!(rt; left.status == Status::Script, want.starts_with("script"));
+        assert!(rt; left.desk.file("j").is_none());
+    }
+    Ok(())
+}
+
 const SURFACE: &str = "1 add file src
 1 load src a.vtk
 1 add contour iso
@@ -424,34 +462,6 @@ fn other_words_are_usage(rt: HostRuntime) -> Result<(), Fail> {
         let left = run_over(&rt, alloc, line, b"no journal", first)?;
         assert_eq!(rt; left.text.as_str(), want, "{line}");
         assert!(rt; left.status == status, "{line}");
-    }
-    Ok(())
-}
-
-#[test]
-fn a_volume_is_made_and_audited(rt: HostRuntime) -> Result<(), Fail> {
-    // generated-volume, and one whose contour was counted by another program
-    let alloc = rt.alloc();
-    for (line, status, want) in [
-        (
-            "make 7 2 2 1 v.vtk",
-            Status::Done,
-            "made points 4 sum 448\naudit cells 0 sides 0 two 0 open 0 border 0\n",
-        ),
-        (
-            "make -0 2 02 2 v.vtk",
-            Status::Done,
-            "made points 8 sum 728\naudit cells 6 sides 14 two 4 open 10 border 10\n",
-        ),
-        ("make 7 2 0 2 v.vtk", Status::Usage, "vizrun: usage\n"),
-        ("make 7 64 64 65 v.vtk", Status::Usage, "vizrun: usage\n"),
-    ] {
-        let first = corner(alloc, Vec::new(alloc))?;
-        let left = run_over(&rt, alloc, line, b"", first)?;
-        assert_eq!(rt; left.text.as_str(), want, "{line}");
-        assert!(rt; left.status == status, "{line}");
-        let is_made = status == Status::Done;
-        assert_eq!(rt; file(&left.ports, "v.vtk").is_some(), is_made, "{line}");
     }
     Ok(())
 }

@@ -1,5 +1,6 @@
 //! Scripts of several actors, each of whom edits in phases of its own.
 
+use super::failing::ONE;
 use super::*;
 
 const TURNS: &str = "2 add file b
@@ -212,5 +213,41 @@ fn an_actor_has_a_port(rt: HostRuntime) -> Result<(), Fail> {
     assert!(rt; left.status == Status::Script, "{}", left.text);
     assert_eq!(rt; left.text.as_str(), "script line 2 ActorRange\n");
     assert!(rt; left.desk.file("j").is_none());
+    Ok(())
+}
+
+const TWO: &str = "1 add file src
+1 load src a.vtk
+1 add contour iso
+1 connect src iso 1
+1 set iso levels 5
+phase
+1 update iso low.vtk 1 1
+2 audit iso 1 1
+phase
+2 set iso levels 8
+2 update iso high.vtk 1 1
+";
+
+const TWO_REPORT: &str = "edit 1 1 at 1
+edit 1 2 at 2
+edit 1 3 at 3
+edit 1 4 at 4
+edit 1 5 at 5
+file 1 6 at 5 cells 6 points 7 ran 2
+audit 2 1 at 5 sides 12 two 6 open 6 border 6
+edit 2 2 at 6
+file 2 3 at 6 cells 6 points 7 ran 2
+";
+
+#[test]
+fn two_actors_share_a_network(rt: HostRuntime) -> Result<(), Fail> {
+    let alloc = rt.alloc();
+    let left = run_three(&rt, alloc, TWO, NEVER)?;
+    assert_eq!(rt; left.text.as_str(), TWO_REPORT);
+    assert!(rt; left.status == Status::Done);
+    assert!(rt; files(&left.ports, "low.vtk") == [Some(ONE.as_bytes()), None, None]);
+    let [first, high, third] = files(&left.ports, "high.vtk");
+    assert!(rt; first.is_none() && high.is_some() && third.is_none());
     Ok(())
 }

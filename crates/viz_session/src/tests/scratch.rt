@@ -3,6 +3,9 @@
 use super::failing::{BEGUN, JOURNAL, ONE};
 use super::*;
 
+/// What `scratch` puts of the first five entries.
+const AGAIN: &str = "file at 5 cells 6 points 7\n";
+
 // Runs the line over a desk with the journal. Of the calls of the port, of the desk and of the
 // output those with these numbers fail, none where it is 0. A failing write keeps the first bytes.
 fn run_failing<R: Threads + Wait + Sync>(
@@ -29,13 +32,9 @@ fn run_failing<R: Threads + Wait + Sync>(
 fn each_failing_call_of_scratch_is_a_fault(rt: HostRuntime) -> Result<(), Fail> {
     // scratch-of-journal
     let alloc = rt.alloc();
-    let (line, fault, done) = (
-        "scratch s 5 iso o.vtk",
-        Status::Fault,
-        "file at 5 cells 6 points 7\n",
-    );
+    let (line, fault) = ("scratch s 5 iso o.vtk", Status::Fault);
     for (line, calls, kept, status, text, made) in [
-        (line, [0, 0, 0], 0, Status::Done, done, Some(ONE)),
+        (line, [0, 0, 0], 0, Status::Done, AGAIN, Some(ONE)),
         // the write of the port, the read of the desk, the put
         (line, [1, 0, 0], 0, fault, "fault write\n", Some("")),
         (line, [1, 0, 0], 40, fault, "fault write\n", Some(BEGUN)),
