@@ -64,10 +64,18 @@ fn run_three<R: Threads + Wait + Sync>(
     })
 }
 
+fn bytes_of<'a>(port: &'a MemoryPort, name: &str) -> Option<&'a [u8]> {
+    Some(port.file(name)?.list())
+}
+
 // A file of each of three ports.
 fn files<'a>(ports: &'a [MemoryPort], name: &str) -> [Option<&'a [u8]>; 3] {
     match ports {
-        [one, two, three] => [one, two, three].map(|port| port.file(name).map(|f| f.list())),
+        [one, two, three] => [
+            bytes_of(one, name),
+            bytes_of(two, name),
+            bytes_of(three, name),
+        ],
         _ => [None; 3],
     }
 }
@@ -163,7 +171,8 @@ fn fails_beside<R: Threads + Wait + Sync + Abort>(
     assert_eq!(rt; left.text.as_str(), want.as_str());
     assert_eq!(rt; left.status == Status::Done, failing == NEVER, "{lines}");
     assert_eq!(rt; left.status == Status::Fault, failing != NEVER, "{lines}");
-    let [one, two] = second.map(|text| Some(text.as_bytes()));
+    let [one, two] = second;
+    let (one, two) = (Some(one.as_bytes()), Some(two.as_bytes()));
     assert!(rt;
         files(&left.ports, "o.vtk") == [Some(IMAGE.as_bytes()), one, None],
         "{lines}"
