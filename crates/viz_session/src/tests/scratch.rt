@@ -28,6 +28,28 @@ fn run_failing<R: Threads + Wait + Sync>(
     run_with(rt, alloc, line, desk, first, out)
 }
 
+// Runs so, and compares the status, the text put and the file.
+fn comes_to<R: Threads + Wait + Sync + Abort>(
+    rt: &R,
+    alloc: Global,
+    line: &str,
+    calls: [u64; 3],
+    kept: u64,
+    status: Status,
+    text: &str,
+    made: Option<&str>,
+) -> Result<(), Fail> {
+    let left = run_failing(rt, alloc, line, calls, kept)?;
+    assert_eq!(rt; left.text.as_str(), text, "{line} {calls:?}");
+    assert!(rt; left.status == status, "{line} {calls:?}");
+    assert!(rt;
+        file(&left.ports, "o.vtk") == made.map(|m| m.as_bytes()),
+        "{line} {calls:?}"
+    );
+    assert!(rt; left.desk.file("j").is_none(), "{line} {calls:?}");
+    Ok(())
+}
+
 #[test]
 fn each_failing_call_of_scratch_is_a_fault(rt: HostRuntime) -> Result<(), Fail> {
     // scratch-of-journal
@@ -62,14 +84,7 @@ fn each_failing_call_of_scratch_is_a_fault(rt: HostRuntime) -> Result<(), Fail> 
         // no script, and its put fails
         ("run s j", [0, 0, 1], 0, Status::Script, "", None),
     ] {
-        let left = run_failing(&rt, alloc, line, calls, kept)?;
-        assert_eq!(rt; left.text.as_str(), text, "{line} {calls:?}");
-        assert!(rt; left.status == status, "{line} {calls:?}");
-        assert!(rt;
-            file(&left.ports, "o.vtk") == made.map(|m| m.as_bytes()),
-            "{line} {calls:?}"
-        );
-        assert!(rt; left.desk.file("j").is_none(), "{line}");
+        comes_to(&rt, alloc, line, calls, kept, status, text, made)?;
     }
     Ok(())
 }
@@ -97,6 +112,25 @@ fn run_alone<R: Threads + Wait + Sync>(
     })
 }
 
+// Runs so, and compares the status, the text put and the journal.
+fn ends_alone<R: Threads + Wait + Sync + Abort>(
+    rt: &R,
+    alloc: Global,
+    line: &str,
+    script: &str,
+    status: Status,
+    text: &str,
+    journal: Option<&str>,
+) -> Result<(), Fail> {
+    let left = run_alone(rt, alloc, line, script)?;
+    assert_eq!(rt; left.text.as_str(), text, "{line}");
+    assert!(rt; left.status == status, "{line}");
+    let written = left.desk.file("j").map(|j| j.list());
+    assert!(rt; written == journal.map(|j| j.as_bytes()), "{line}");
+    assert!(rt; left.ports.is_empty(), "{line}");
+    Ok(())
+}
+
 #[test]
 fn no_port_is_an_actor_out_of_range(rt: HostRuntime) -> Result<(), Fail> {
     let alloc = rt.alloc();
@@ -115,12 +149,7 @@ fn no_port_is_an_actor_out_of_range(rt: HostRuntime) -> Result<(), Fail> {
         ),
         ("run s j", "phase\n", Status::Done, "", Some(EMPTY_JOURNAL)),
     ] {
-        let left = run_alone(&rt, alloc, line, script)?;
-        assert_eq!(rt; left.text.as_str(), text, "{line}");
-        assert!(rt; left.status == status, "{line}");
-        let written = left.desk.file("j").map(|j| j.list());
-        assert!(rt; written == journal.map(|j| j.as_bytes()), "{line}");
-        assert!(rt; left.ports.is_empty());
+        ends_alone(&rt, alloc, line, script, status, text, journal)?;
     }
     Ok(())
 }
