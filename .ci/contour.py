@@ -3,7 +3,9 @@
 
 It makes the surface of the image of 4 x 4 x 4 points in crates/viz_once/src/contour_texts.rt, and
 compares it with the text there; and it counts the contour of 32 x 32 x 32 points and the sides of
-its triangles, whose numbers tests of viz_once, viz_surface_law and viz_session want.
+its triangles, whose numbers tests of viz_once, viz_surface_law and viz_session want. It makes the
+volume of the number 7, of so many points too, and counts what crates/viz_session/src/tests/volumes.rt
+wants of it.
 """
 import os
 import re
@@ -94,10 +96,30 @@ def numbers(text, keyword, count):
     return [int(n) for n in re.search(keyword + r"((?:\s+-?\d+){%d})" % count, text)[1].split()]
 
 
+def constants(path):
+    with open(os.path.join(TOP, path), encoding="utf-8") as file:
+        return dict(re.findall(r'const (\w+): &str = "([^"]*)";', file.read()))
+
+
+def volume(number, count):
+    """The values that a number makes, as the example of `rand` in ISO C."""
+    values = []
+    for _ in range(count):
+        number = (number * 1103515245 + 12345) % 2**31
+        values.append(number // 65536 % 256)
+    return values
+
+
+def report_of(number, sizes):
+    """What `make` puts of a number."""
+    values = volume(number, sizes[0] * sizes[1] * sizes[2])
+    names, _, triangles = contour(sizes, [0] * 3, [1] * 3, values, 128)
+    return "made points %d sum %d\naudit cells %d sides %d two %d open %d border %d\n" % (
+        len(values), sum(values), len(triangles), *audit(sizes, names, triangles))
+
+
 def main():
-    path = os.path.join(TOP, "crates/viz_once/src/contour_texts.rt")
-    with open(path, encoding="utf-8") as file:
-        texts = dict(re.findall(r'pub const (\w+): &str = "([^"]*)";', file.read()))
+    texts = constants("crates/viz_once/src/contour_texts.rt")
     image = texts["MIXED_FILE"]
     sizes = numbers(image, "DIMENSIONS", 3)
     values = numbers(image, "LOOKUP_TABLE default", sizes[0] * sizes[1] * sizes[2])
@@ -112,7 +134,9 @@ def main():
     counts = audit([32] * 3, names, triangles)
     if counts != (362579, 352405, 10174, 10174):
         sys.exit("contour: 32 x 32 x 32 points: sides %d two %d open %d border %d" % counts)
-    print("contour: two surfaces, and the sides of one, are those of a plain program")
+    if report_of(7, [32] * 3) != constants("crates/viz_session/src/tests/volumes.rt")["BIG"]:
+        sys.exit("contour: the volume of 7 on 32 x 32 x 32 points differs")
+    print("contour: three surfaces, and the sides of two, are those of a plain program")
 
 
 main()

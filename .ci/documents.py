@@ -170,7 +170,7 @@ def check_example():
 
 def constant(page, name):
     """The text of a string constant."""
-    found = re.search(r'pub const %s: &str =\s*"((?:[^"\\]|\\.)*)";' % name, page)
+    found = re.search(r'^(?:pub )?const %s: &str =\s*"((?:[^"\\]|\\.)*)";' % name, page, re.M)
     if not found:
         errors.append("no constant %s" % name)
         return ""
@@ -194,6 +194,21 @@ def check_contour():
         errors.append("README.md: no first lines of the contour:\n" + surface)
 
 
+def check_scripts():
+    """The third and the fourth example: rows of tests of scripts, whose file has another name."""
+    blocks = re.findall(r"```text\n(.*?)```", text("README.md"), re.S)
+    tests = "crates/viz_session/src/tests"
+    pages = [text(tests + end) for end in (".rt", "/failing.rt", "/scratch.rt", "/actors.rt")]
+    levels, whole, again, two, report = (
+        constant(page, name) for page, name in
+        zip(pages + pages[3:], ("LEVELS", "WHOLE", "AGAIN", "TWO", "TWO_REPORT")))
+    for block in [levels.replace("a.vtk", "c.vtk"), typed("run s j", whole),
+                  typed("scratch j 5 iso again.vtk", again),
+                  two.replace("a.vtk", "c.vtk"), typed("run t k", report)]:
+        if block not in blocks:
+            errors.append("README.md: its script isn't that of a test:\n" + block)
+
+
 def check_kit():
     """Says where README's kit isn't the one that is here. Kits change, so that fails nothing."""
     said = re.search(r"[Pp]roved with `([^`]+)`", text("README.md"))
@@ -215,6 +230,7 @@ check_proved(known)
 check_crates()
 check_example()
 check_contour()
+check_scripts()
 check_kit()
 for error in errors:
     print("documents:", error)

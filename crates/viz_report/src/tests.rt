@@ -66,18 +66,29 @@ fn each_line_is_spelled_so(rt: HostRuntime) -> Result<(), Fail> {
     Ok(())
 }
 
+// A refusal for each of the reasons is spelled so.
+fn refused(rt: &impl Abort, alloc: Global, reason: Reason, want: &str) -> Result<(), Fail> {
+    let want = format!(in alloc; "refused 3 2 {want} at 4")?;
+    told(rt, alloc, Line::Refused { reason, at: 4 }, &want)
+}
+
 #[test]
 fn each_reason_is_spelled_so(rt: HostRuntime) -> Result<(), Fail> {
     let alloc = rt.alloc();
     for (reason, want) in [
+        (Reason::Edit(Refusal::Exists), "Exists"),
+        (Reason::Edit(Refusal::Unknown), "Unknown"),
+        (Reason::Edit(Refusal::NoPort), "NoPort"),
+        (Reason::Edit(Refusal::NoParam), "NoParam"),
+        (Reason::Edit(Refusal::BadValue), "BadValue"),
         (Reason::Edit(Refusal::WouldCycle), "WouldCycle"),
+        (Reason::Edit(Refusal::InUse), "InUse"),
         (Reason::Edit(Refusal::TooManyNodes), "TooManyNodes"),
         (Reason::Full, "Full"),
         (Reason::TooLong, "TooLong"),
         (Reason::Unknown, "Unknown"),
     ] {
-        let want = format!(in alloc; "refused 3 2 {want} at 4")?;
-        told(&rt, alloc, Line::Refused { reason, at: 4 }, &want)?;
+        refused(&rt, alloc, reason, want)?;
     }
     Ok(())
 }
@@ -86,18 +97,43 @@ fn each_reason_is_spelled_so(rt: HostRuntime) -> Result<(), Fail> {
 fn a_fault_names_its_node(rt: HostRuntime) -> Result<(), Fail> {
     let alloc = rt.alloc();
     for (cause, want) in [
-        (Cause::Unconnected(2), "Unconnected(2)"),
-        (Cause::WrongInput(1), "WrongInput(1)"),
-        (Cause::GridsDiffer, "GridsDiffer"),
-        (bad_file(FileKind::ValueRange), "BadFile(ValueRange,163)"),
-        (
-            bad_file(FileKind::CellType(-4)),
-            "BadFile(CellType(-4),163)",
-        ),
+        (Cause::Unconnected(2), "fault:src:Unconnected(2)"),
+        (Cause::WrongInput(1), "fault:src:WrongInput(1)"),
+        (Cause::NoFile, "fault:src:NoFile"),
+        (Cause::EmptyExtent, "fault:src:EmptyExtent"),
+        (Cause::GridsDiffer, "fault:src:GridsDiffer"),
+        (Cause::TooWide, "fault:src:TooWide"),
+        (Cause::TooMany, "fault:src:TooMany"),
     ] {
-        let want = format!(in alloc; "refused 3 2 fault:src:{want} at 4")?;
-        let reason = fault(cause)?;
-        told(&rt, alloc, Line::Refused { reason, at: 4 }, &want)?;
+        refused(&rt, alloc, fault(cause)?, want)?;
+    }
+    Ok(())
+}
+
+#[test]
+fn a_bad_file_has_its_kind_and_place(rt: HostRuntime) -> Result<(), Fail> {
+    let alloc = rt.alloc();
+    for (kind, want) in [
+        (FileKind::Magic, "Magic"),
+        (FileKind::Title, "Title"),
+        (FileKind::Form, "Form"),
+        (FileKind::Keyword, "Keyword"),
+        (FileKind::Number, "Number"),
+        (FileKind::ValueRange, "ValueRange"),
+        (FileKind::Count, "Count"),
+        (FileKind::Index, "Index"),
+        (FileKind::CellType(-4), "CellType(-4)"),
+        (FileKind::FloatArray, "FloatArray"),
+        (FileKind::NoArray, "NoArray"),
+        (FileKind::Spacing, "Spacing"),
+        (FileKind::HeaderNumber, "HeaderNumber"),
+        (FileKind::TooMany, "TooMany"),
+        (FileKind::Truncated, "Truncated"),
+        (FileKind::Unsupported, "Unsupported"),
+        (FileKind::Sections51, "Sections51"),
+    ] {
+        let want = format!(in alloc; "fault:src:BadFile({want},163)")?;
+        refused(&rt, alloc, fault(bad_file(kind))?, &want)?;
     }
     Ok(())
 }

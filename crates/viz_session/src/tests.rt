@@ -6,6 +6,8 @@ mod failing;
 mod meshes;
 mod rough;
 mod rows;
+mod scratch;
+mod volumes;
 
 use crate::{Status, run};
 use std::alloc::Global;
@@ -44,6 +46,20 @@ POINT_DATA 8
 SCALARS s int
 LOOKUP_TABLE default
 0 0 0 0 0 0 0 5
+";
+
+/// The same image, the last point of which is 2^64 less 1.
+const WIDE: &str = "# vtk DataFile Version 3.0
+t
+ASCII
+DATASET STRUCTURED_POINTS
+DIMENSIONS 2 2 2
+ORIGIN 0 0 0
+SPACING 1 1 1
+POINT_DATA 8
+SCALARS s unsigned_long
+LOOKUP_TABLE default
+0 0 0 0 0 0 0 18446744073709551615
 ";
 
 /// A mesh without points.
@@ -200,46 +216,127 @@ fn replayed<R: Threads + Wait + Sync + Abort>(
     Ok(())
 }
 
+/// A cycle is refused, and the update behind it answers as without it.
+const CYCLE: &str = "1 add crop a
+1 add crop b
+1 connect a b 1
+phase
+1 connect b a 1
+1 update b o.vtk 1 1
+";
+
+const CYCLE_REPORT: &str = "edit 1 1 at 1
+edit 1 2 at 2
+edit 1 3 at 3
+refused 1 4 WouldCycle at 3
+refused 1 5 fault:a:Unconnected(1) at 3
+";
+
+const CYCLE_JOURNAL: &str = "vizrun journal 1
+1 1 add crop a
+1 2 add crop b
+1 3 connect a b 1
+end 3
+";
+
+const EMPTY_JOURNAL: &str = "vizrun journal 1\nend 0\n";
+
+// Runs the script over a port that reads so many bytes, and compares report, status and journal.
+fn refused_so<R: Threads + Wait + Sync + Abort>(
+    rt: &R,
+    alloc: Global,
+    script: &str,
+    limit: u64,
+    status: Status,
+    report: &str,
+    journal: Option<&str>,
+) -> Result<(), Fail> {
+    let first = port(alloc, "a.vtk", CORNER.as_bytes(), limit, Vec::new(alloc))?;
+    let left = run_over(rt, alloc, "run s j", script.as_bytes(), first)?;
+    assert_eq!(rt; left.text.as_str(), report);
+    assert!(rt; left.status == status, "{report}");
+    let written = left.desk.file("j").map(|j| j.list());
+    assert!(rt; written == journal.map(|j| j.as_bytes()), "{report}");
+    Ok(())
+}
+
 #[test]
 fn refusals_have_their_lines(rt: HostRuntime) -> Result<(), Fail> {
     let alloc = rt.alloc();
-    let (script, refused, done) = (Status::Script, Status::Refused, Status::Done);
-    for (text, limit, status, want) in [
+    let (script, refused, empty) = (Status::Script, Status::Refused, Some(EMPTY_JOURNAL));
+    for (text, limit, status, report, journal) in [
         // script-refused, and the empty script
         (
             "\n\n1 blend a\n",
             FILE_LIMIT,
             script,
             "script line 3 Word\n",
+            None,
         ),
         (
             "2 remove a\n",
             FILE_LIMIT,
             script,
             "script line 1 ActorRange\n",
+            None,
         ),
-        ("", FILE_LIMIT, done, ""),
+        ("", FILE_LIMIT, Status::Done, "", empty),
         // a long file of usage-and-long-file
         (
             "1 add file src\n1 load src a.vtk\n",
             100,
             refused,
             "edit 1 1 at 1\nrefused 1 2 TooLong at 1\n",
+            Some("vizrun journal 1\n1 1 add file src\nend 1\n"),
         ),
         // cycle-refused
+        (CYCLE, 100, refused, CYCLE_REPORT, Some(CYCLE_JOURNAL)),
         (
-            "1 add crop a\n1 add crop b\n1 connect a b 1\nphase\n1 connect b a 1\n",
-            100,
-            refused,
-            "edit 1 1 at 1\nedit 1 2 at 2\nedit 1 3 at 3\nrefused 1 4 WouldCycle at 3\n",
+            "1 load src b.vtk\n",
+            9,
+            Status::Fault,
+            "fault 1 1 read\n",
+            empty,
         ),
-        ("1 load src b.vtk\n", 9, Status::Fault, "fault 1 1 read\n"),
     ] {
-        let first = port(alloc, "a.vtk", CORNER.as_bytes(), limit, Vec::new(alloc))?;
-        let left = run_over(&rt, alloc, "run s j", text.as_bytes(), first)?;
+        refused_so(&rt, alloc, text, limit, status, report, journal)?;
+    }
+    Ok(())
+}
+
+#[test]
+fn the_first_refusal_of_a_text_is_told(rt: HostRuntime) -> Result<(), Fail> {
+    let alloc = rt.alloc();
+    for (line, text, want) in [
+        ("run s j", "1 add crop\n", "script line 1 Arity\n"),
+        ("run s j", "1 add crop a.b\n", "script line 1 Name\n"),
+        (
+            "run s j",
+            "phase\n1 connect a b 256\n",
+            "script line 2 Number\n",
+        ),
+        // a journal that is read, one that counts from 2, and one that adds a node twice
+        (
+            "scratch s 9 a o",
+            "vizrun journal 1\n2 1 add crop a\nend 1\n",
+            "refused fault:a:Unconnected(1) at 1\n",
+        ),
+        (
+            "scratch s 9 a o",
+            "vizrun journal 1\n2 2 add crop a\nend 1\n",
+            "script line 2 Number\n",
+        ),
+        (
+            "scratch s 9 a o",
+            "vizrun journal 1\n1 1 add crop a\n1 2 add crop a\nend 2\n",
+            "script line 3 Edit\n",
+        ),
+    ] {
+        let first = corner(alloc, Vec::new(alloc))?;
+        let left = run_over(&rt, alloc, line, text.as_bytes(), first)?;
         assert_eq!(rt; left.text.as_str(), want);
-        assert!(rt; left.status == status);
-        assert_eq!(rt; left.desk.file("j").is_some(), status != script);
+        assert_eq!(rt; left.status == Status::Script, want.starts_with("script"));
+        assert!(rt; left.desk.file("j").is_none());
     }
     Ok(())
 }
@@ -293,6 +390,34 @@ fn audits_count_the_sides_of_a_surface(rt: HostRuntime) -> Result<(), Fail> {
     Ok(())
 }
 
+#[test]
+fn audits_tell_faults_in_front_of_wrong_inputs(rt: HostRuntime) -> Result<(), Fail> {
+    let alloc = rt.alloc();
+    for (image, script, want) in [
+        // no contour, but there is no file yet
+        (
+            CORNER,
+            "1 add file late\n1 audit late 1 1\n",
+            "edit 1 6 at 6\nrefused 1 7 fault:late:NoFile at 6\n",
+        ),
+        // a cut on the image
+        (
+            CORNER,
+            "1 add cut c\n1 connect src c 1\n1 audit c 1 1\n",
+            "edit 1 6 at 6\nedit 1 7 at 7\nrefused 1 8 fault:c:WrongInput(1) at 7\n",
+        ),
+        // a crossing of 2^57 times 2^64 less 2^57
+        (
+            WIDE,
+            "1 set iso levels 144115188075855872\n1 audit iso 1 1\n",
+            "edit 1 6 at 6\nrefused 1 7 fault:iso:TooWide at 6\n",
+        ),
+    ] {
+        audited(&rt, alloc, image, script, want)?;
+    }
+    Ok(())
+}
+
 // A script behind the first five commands, over this image.
 fn audited<R: Threads + Wait + Sync + Abort>(
     rt: &R,
@@ -337,34 +462,6 @@ fn other_words_are_usage(rt: HostRuntime) -> Result<(), Fail> {
         let left = run_over(&rt, alloc, line, b"no journal", first)?;
         assert_eq!(rt; left.text.as_str(), want, "{line}");
         assert!(rt; left.status == status, "{line}");
-    }
-    Ok(())
-}
-
-#[test]
-fn a_volume_is_made_and_audited(rt: HostRuntime) -> Result<(), Fail> {
-    // generated-volume, and one whose contour was counted by another program
-    let alloc = rt.alloc();
-    for (line, status, want) in [
-        (
-            "make 7 2 2 1 v.vtk",
-            Status::Done,
-            "made points 4 sum 448\naudit cells 0 sides 0 two 0 open 0 border 0\n",
-        ),
-        (
-            "make -0 2 02 2 v.vtk",
-            Status::Done,
-            "made points 8 sum 728\naudit cells 6 sides 14 two 4 open 10 border 10\n",
-        ),
-        ("make 7 2 0 2 v.vtk", Status::Usage, "vizrun: usage\n"),
-        ("make 7 64 64 65 v.vtk", Status::Usage, "vizrun: usage\n"),
-    ] {
-        let first = corner(alloc, Vec::new(alloc))?;
-        let left = run_over(&rt, alloc, line, b"", first)?;
-        assert_eq!(rt; left.text.as_str(), want, "{line}");
-        assert!(rt; left.status == status, "{line}");
-        let is_made = status == Status::Done;
-        assert_eq!(rt; file(&left.ports, "v.vtk").is_some(), is_made, "{line}");
     }
     Ok(())
 }

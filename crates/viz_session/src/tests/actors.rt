@@ -1,5 +1,6 @@
 //! Scripts of several actors, each of whom edits in phases of its own.
 
+use super::failing::ONE;
 use super::*;
 
 const TURNS: &str = "2 add file b
@@ -34,13 +35,21 @@ const TURNS_JOURNAL: &str = "vizrun journal 1
 end 4
 ";
 
-// Runs the script over three ports.
-fn run_three<R: Threads + Wait + Sync>(rt: &R, alloc: Global, script: &str) -> Result<Left, Fail> {
+/// A call that no port comes to.
+const NEVER: FailAt = FailAt { call: 0, kept: 0 };
+
+// Runs the script over three ports, at the second of which this call fails.
+fn run_three<R: Threads + Wait + Sync>(
+    rt: &R,
+    alloc: Global,
+    script: &str,
+    failing: FailAt,
+) -> Result<Left, Fail> {
     let words = words(alloc, "run s j")?;
     let mut desk = port(alloc, "s", script.as_bytes(), FILE_LIMIT, Vec::new(alloc))?;
     let mut ports = Vec::new(alloc);
-    for _ in 0..3 {
-        ports.push(corner(alloc, Vec::new(alloc))?)?;
+    for fails in [NEVER, failing, NEVER] {
+        ports.push(corner(alloc, vec![in alloc; fails]?)?)?;
     }
     let mut out = MemoryOut::new(alloc, Vec::new(alloc));
     let status = run(
@@ -55,10 +64,26 @@ fn run_three<R: Threads + Wait + Sync>(rt: &R, alloc: Global, script: &str) -> R
     })
 }
 
+fn bytes_of<'a>(port: &'a MemoryPort, name: &str) -> Option<&'a [u8]> {
+    Some(port.file(name)?.list())
+}
+
+// A file of each of three ports.
+fn files<'a>(ports: &'a [MemoryPort], name: &str) -> [Option<&'a [u8]>; 3] {
+    match ports {
+        [one, two, three] => [
+            bytes_of(one, name),
+            bytes_of(two, name),
+            bytes_of(three, name),
+        ],
+        _ => [None; 3],
+    }
+}
+
 #[test]
 fn entries_and_commands_are_counted_by_actor(rt: HostRuntime) -> Result<(), Fail> {
     let alloc = rt.alloc();
-    let left = run_three(&rt, alloc, TURNS)?;
+    let left = run_three(&rt, alloc, TURNS, NEVER)?;
     assert!(rt; left.status == Status::Refused, "{}", left.text);
     assert_eq!(rt; left.text.as_str(), TURNS_REPORT);
     let journal = left.desk.file("j").ok_or("no journal")?.list();
@@ -87,29 +112,151 @@ fn a_later_phase_sees_all_earlier_ones(rt: HostRuntime) -> Result<(), Fail> {
     // second-phase-update
     let alloc = rt.alloc();
     let script = "1 add file src\n1 load src a.vtk\nphase\n2 update src o.vtk 1 1\n";
-    let left = run_three(&rt, alloc, script)?;
+    let left = run_three(&rt, alloc, script, NEVER)?;
     assert!(rt; left.status == Status::Done, "{}", left.text);
     let want = "edit 1 1 at 1\nedit 1 2 at 2\nfile 2 1 at 2 cells 1 points 8 ran 1\n";
     assert_eq!(rt; left.text.as_str(), want);
-    for port in &left.ports {
-        if let Some(bytes) = port.file("o.vtk") {
-            assert!(rt; bytes.list() == IMAGE.as_bytes());
-        }
+    assert!(rt; files(&left.ports, "o.vtk") == [None, Some(IMAGE.as_bytes()), None]);
+    Ok(())
+}
+
+#[test]
+fn phases_are_64_at_most(rt: HostRuntime) -> Result<(), Fail> {
+    let alloc = rt.alloc();
+    let mut script = String::from_str(alloc, "1 add file src\n1 load src a.vtk\n")?;
+    for _ in 0..63 {
+        script.push_str("phase\n")?;
     }
-    let written = left
-        .ports
-        .iter()
-        .filter(|port| port.file("o.vtk").is_some());
-    assert_eq!(rt; (left.ports.len(), written.count()), (3, 1));
+    let last = format!(in alloc; "{script}2 update src o.vtk 1 1\n")?;
+    let left = run_three(&rt, alloc, &last, NEVER)?;
+    let want = "edit 1 1 at 1\nedit 1 2 at 2\nfile 2 1 at 2 cells 1 points 8 ran 1\n";
+    assert_eq!(rt; left.text.as_str(), want);
+    assert!(rt; files(&left.ports, "o.vtk") == [None, Some(IMAGE.as_bytes()), None]);
+    let past = format!(in alloc; "{script}phase\n")?;
+    let left = run_three(&rt, alloc, &past, NEVER)?;
+    assert_eq!(rt; left.text.as_str(), "script line 66 Phase\n");
+    assert!(rt; left.status == Status::Script);
+    Ok(())
+}
+
+const BESIDE: &str = "1 add file src
+1 load src a.vtk
+phase
+1 update src o.vtk 1 1
+2 update src o.vtk 1 1
+phase
+2 load src a.vtk
+2 update src p.vtk 1 1
+";
+
+const BESIDE_FRONT: &str = "edit 1 1 at 1
+edit 1 2 at 2
+file 1 3 at 2 cells 1 points 8 ran 1
+";
+
+/// The first 40 bytes of the image.
+const BEGUN: &str = "# vtk DataFile Version 3.0\nvizrun image\n";
+
+// Where this call of the second actor's port fails, its lines and its two files are these, and the
+// first actor's file is whole.
+fn fails_beside<R: Threads + Wait + Sync + Abort>(
+    rt: &R,
+    alloc: Global,
+    failing: FailAt,
+    lines: &str,
+    second: [&str; 2],
+) -> Result<(), Fail> {
+    let left = run_three(rt, alloc, BESIDE, failing)?;
+    let want = format!(in alloc; "{BESIDE_FRONT}{lines}")?;
+    assert_eq!(rt; left.text.as_str(), want.as_str());
+    assert_eq!(rt; left.status == Status::Done, failing == NEVER, "{lines}");
+    assert_eq!(rt; left.status == Status::Fault, failing != NEVER, "{lines}");
+    let [one, two] = second;
+    let (one, two) = (Some(one.as_bytes()), Some(two.as_bytes()));
+    assert!(rt;
+        files(&left.ports, "o.vtk") == [Some(IMAGE.as_bytes()), one, None],
+        "{lines}"
+    );
+    assert!(rt; files(&left.ports, "p.vtk") == [None, two, None], "{lines}");
+    Ok(())
+}
+
+#[test]
+fn a_failing_port_is_its_actors_alone(rt: HostRuntime) -> Result<(), Fail> {
+    let alloc = rt.alloc();
+    let written = "file 2 1 at 2 cells 1 points 8 ran 1\n";
+    let loaded = "edit 2 2 at 3\n";
+    let last = "file 2 3 at 3 cells 1 points 8 ran 1\n";
+    for (call, kept, lines, second) in [
+        (0, 0, [written, loaded, last], [IMAGE, IMAGE]),
+        (1, 0, ["fault 2 1 write\n", loaded, last], ["", IMAGE]),
+        (1, 40, ["fault 2 1 write\n", loaded, last], [BEGUN, IMAGE]),
+        (
+            2,
+            0,
+            [
+                written,
+                "fault 2 2 read\n",
+                "file 2 3 at 2 cells 1 points 8 ran 1\n",
+            ],
+            [IMAGE, IMAGE],
+        ),
+        (
+            3,
+            40,
+            [written, loaded, "fault 2 3 write\n"],
+            [IMAGE, BEGUN],
+        ),
+    ] {
+        let [one, two, three] = lines;
+        let lines = format!(in alloc; "{one}{two}{three}")?;
+        fails_beside(&rt, alloc, FailAt { call, kept }, &lines, second)?;
+    }
     Ok(())
 }
 
 #[test]
 fn an_actor_has_a_port(rt: HostRuntime) -> Result<(), Fail> {
     let alloc = rt.alloc();
-    let left = run_three(&rt, alloc, "3 add file a\n4 add file b\n")?;
+    let left = run_three(&rt, alloc, "3 add file a\n4 add file b\n", NEVER)?;
     assert!(rt; left.status == Status::Script, "{}", left.text);
     assert_eq!(rt; left.text.as_str(), "script line 2 ActorRange\n");
     assert!(rt; left.desk.file("j").is_none());
+    Ok(())
+}
+
+const TWO: &str = "1 add file src
+1 load src a.vtk
+1 add contour iso
+1 connect src iso 1
+1 set iso levels 5
+phase
+1 update iso low.vtk 1 1
+2 audit iso 1 1
+phase
+2 set iso levels 8
+2 update iso high.vtk 1 1
+";
+
+const TWO_REPORT: &str = "edit 1 1 at 1
+edit 1 2 at 2
+edit 1 3 at 3
+edit 1 4 at 4
+edit 1 5 at 5
+file 1 6 at 5 cells 6 points 7 ran 2
+audit 2 1 at 5 sides 12 two 6 open 6 border 6
+edit 2 2 at 6
+file 2 3 at 6 cells 6 points 7 ran 2
+";
+
+#[test]
+fn two_actors_share_a_network(rt: HostRuntime) -> Result<(), Fail> {
+    let alloc = rt.alloc();
+    let left = run_three(&rt, alloc, TWO, NEVER)?;
+    assert_eq!(rt; left.text.as_str(), TWO_REPORT);
+    assert!(rt; left.status == Status::Done);
+    assert!(rt; files(&left.ports, "low.vtk") == [Some(ONE.as_bytes()), None, None]);
+    let [first, high, third] = files(&left.ports, "high.vtk");
+    assert!(rt; first.is_none() && high.is_some() && third.is_none());
     Ok(())
 }

@@ -1,23 +1,65 @@
-//! An update whose evaluation goes on while another actor edits.
+//! Updates and audits whose evaluation goes on while others edit and evaluate.
 
 ghost use Rattle.std.specs.Prelude.{false};
 
 use super::*;
 use std::sync::atomic::{AtomicU64, Ordering};
 use std::thread;
-use viz_base::{Gate, Port, ReadRefusal, WriteRefusal};
+use viz_base::{ACTORS, Gate, Port, ReadRefusal, WriteRefusal};
 
-/// How often the gate looks for the flag.
+/// How often a task or a read looks for what it waits for.
 const TURNS: u32 = 10_000_000;
 
-/// A port whose reads raise a flag.
+/// What the tasks and the reads of the second actor tell each other.
 #[derive(Drop)]
-struct Raising<'a> {
-    port: MemoryPort,
-    flag: &'a AtomicU64,
+struct Signs {
+    /// How many tasks entered the gate, and the sum of their numbers.
+    entered: AtomicU64,
+    numbers: AtomicU64,
+    /// How many reads the second actor began.
+    reads: AtomicU64,
+    /// How many waits came to their end in vain.
+    vain: AtomicU64,
 }
 
-impl Port for Raising<'_> {
+impl Signs {
+    fn new() -> Signs {
+        Signs {
+            entered: AtomicU64::new(0),
+            numbers: AtomicU64::new(0),
+            reads: AtomicU64::new(0),
+            vain: AtomicU64::new(0),
+        }
+    }
+
+    // Waits until the count is as great as this.
+    fn wait(&self, count: &AtomicU64, least: u64) {
+        for _ in 0..TURNS {
+            if count.load(Ordering::SeqCst) >= least {
+                return;
+            }
+            thread::yield_now();
+        }
+        self.vain.fetch_add(1, Ordering::SeqCst);
+    }
+
+    // Tasks that entered, the sum of their numbers, and waits in vain.
+    fn counts(&self) -> [u64; 3] {
+        let entered = self.entered.load(Ordering::SeqCst);
+        let numbers = self.numbers.load(Ordering::SeqCst);
+        [entered, numbers, self.vain.load(Ordering::SeqCst)]
+    }
+}
+
+/// A port. The second actor's first read waits until a task has entered the gate.
+#[derive(Drop)]
+struct Meeting<'a> {
+    port: MemoryPort,
+    signs: &'a Signs,
+    is_second: bool,
+}
+
+impl Port for Meeting<'_> {
     ghost tells_files = { false };
 
     ghost tells_calls = { false };
@@ -31,7 +73,10 @@ impl Port for Raising<'_> {
     ghost faults = { λ port. ⟦<MemoryPort as Port>⟧.faults port.port };
 
     fn read(&mut self, alloc: Global, name: &str) -> Result<Bytes, ReadRefusal> {
-        self.flag.store(1, Ordering::SeqCst);
+        if self.is_second {
+            self.signs.wait(&self.signs.entered, 1);
+            self.signs.reads.fetch_add(1, Ordering::SeqCst);
+        }
         self.port.read(alloc, name)
     }
 
@@ -40,95 +85,137 @@ impl Port for Raising<'_> {
     }
 }
 
-/// A gate that opens once the flag is raised, or all turns are spent.
+/// A gate that opens once so many tasks have entered and so many reads have begun.
 #[derive(Drop)]
 struct Waiting<'a> {
-    flag: &'a AtomicU64,
-    spent: AtomicU64,
+    signs: &'a Signs,
+    tasks: u64,
+    reads: u64,
 }
 
 impl Gate for Waiting<'_> {
-    fn enter(&self, _task: u64) {
-        for _ in 0..TURNS {
-            if self.flag.load(Ordering::SeqCst) != 0 {
-                return;
-            }
-            thread::yield_now();
-        }
-        self.spent.store(1, Ordering::SeqCst);
+    fn enter(&self, task: u64) {
+        self.signs.numbers.fetch_add(task, Ordering::SeqCst);
+        self.signs.entered.fetch_add(1, Ordering::SeqCst);
+        self.signs.wait(&self.signs.entered, self.tasks);
+        self.signs.wait(&self.signs.reads, self.reads);
     }
 }
 
-const SCRIPT: &str = "1 add file src
-1 load src a.vtk
-1 add file late
-1 add smooth s
-1 connect src s 1
-phase
-1 update s o.vtk 1 1
-2 set s radius 2
-2 load late a.vtk
-";
-
-const FRONT: &str = "edit 1 1 at 1
-edit 1 2 at 2
-edit 1 3 at 3
-edit 1 4 at 4
-edit 1 5 at 5
-file 1 6 at ";
-
-const BEHIND: &str = " cells 1 points 8 ran 2
-edit 2 1 at 6
-edit 2 2 at 7
-";
-
-// A port with the image for each of two actors, whose reads raise their flags.
-fn two_ports<'a>(
-    alloc: Global,
-    one: &'a AtomicU64,
-    two: &'a AtomicU64,
-) -> Result<Vec<Raising<'a>>, Fail> {
-    let mut ports = Vec::with_capacity(alloc, 2)?;
-    for flag in [one, two] {
-        let port = corner(alloc, Vec::new(alloc))?;
-        ports.push(Raising { port, flag })?;
-    }
-    Ok(ports)
-}
-
-// What a run of the script comes to whose second actor's read opens the gate: the status, the
-// report, and whether the gate's turns were spent.
-fn run_both<'a, R: Threads + Wait + Sync>(
+// What a run of the script by eight actors comes to.
+fn run_all<R: Threads + Wait + Sync>(
     rt: &R,
     alloc: Global,
-    one: &'a AtomicU64,
-    two: &'a AtomicU64,
-) -> Result<(Status, String, u64), Fail> {
-    let mut desk = Raising {
-        port: port(alloc, "s", SCRIPT.as_bytes(), FILE_LIMIT, Vec::new(alloc))?,
-        flag: one,
+    script: &str,
+    gate: &Waiting<'_>,
+) -> Result<(Status, String), Fail> {
+    let signs = gate.signs;
+    let mut desk = Meeting {
+        port: port(alloc, "s", script.as_bytes(), FILE_LIMIT, Vec::new(alloc))?,
+        signs,
+        is_second: false,
     };
-    let mut ports = two_ports(alloc, one, two)?;
-    let gate = Waiting {
-        flag: two,
-        spent: AtomicU64::new(0),
-    };
+    let mut ports = Vec::with_capacity(alloc, ACTORS as usize)?;
+    for actor in 1..=ACTORS {
+        ports.push(Meeting {
+            port: corner(alloc, Vec::new(alloc))?,
+            signs,
+            is_second: actor == 2,
+        })?;
+    }
     let words = words(alloc, "run s j")?;
     let mut out = MemoryOut::new(alloc, Vec::new(alloc));
-    let status = run(rt, alloc, &words, &mut desk, &mut ports, &mut out, &gate);
-    let text = String::from_utf8(out.text().to_vec(alloc)?)?;
-    Ok((status, text, gate.spent.load(Ordering::SeqCst)))
+    let status = run(rt, alloc, &words, &mut desk, &mut ports, &mut out, gate);
+    Ok((status, String::from_utf8(out.text().to_vec(alloc)?)?))
+}
+
+// Behind the surface's commands the first actor's last one evaluates, and the second actor's edits.
+const DURING: &str = "2 load src a.vtk
+2 set iso levels 10
+2 load src a.vtk
+";
+
+const DURING_REPORT: &str = "edit 2 1 at 6
+edit 2 2 at 7
+edit 2 3 at 8
+";
+
+// The second actor loads once the first one's task has entered the gate, and a second time behind
+// an edit, and that opens the gate. So all its edits stand behind what was pinned.
+fn edited_during<R: Threads + Wait + Sync + Abort>(
+    rt: &R,
+    alloc: Global,
+    command: &str,
+    line: &str,
+) -> Result<(), Fail> {
+    let signs = Signs::new();
+    let gate = Waiting {
+        signs: &signs,
+        tasks: 1,
+        reads: 2,
+    };
+    let script = format!(in alloc; "{SURFACE}phase\n{command}{DURING}")?;
+    let (status, text) = run_all(rt, alloc, &script, &gate)?;
+    let want = format!(in alloc; "{SURFACE_REPORT}{line}{DURING_REPORT}")?;
+    assert_eq!(rt; text.as_str(), want.as_str());
+    assert!(rt; status == Status::Done);
+    assert_eq!(rt; signs.counts(), [1, 0, 0], "{command}");
+    Ok(())
 }
 
 #[test]
 fn others_edit_during_an_update(rt: HostRuntime) -> Result<(), Fail> {
     // edits-during-update
     let alloc = rt.alloc();
-    let unseen = AtomicU64::new(0);
-    let flag = AtomicU64::new(0);
-    let (status, text, spent) = run_both(&rt, alloc, &unseen, &flag)?;
-    assert!(rt; status == Status::Done, "{text}");
-    assert!(rt; text.starts_with(FRONT) && text.ends_with(BEHIND), "{text}");
-    assert_eq!(rt; spent, 0);
+    let line = "file 1 6 at 5 cells 6 points 7 ran 2\n";
+    edited_during(&rt, alloc, "1 update iso o.vtk 1 1\n", line)
+}
+
+#[test]
+fn others_edit_during_an_audit(rt: HostRuntime) -> Result<(), Fail> {
+    let alloc = rt.alloc();
+    let line = "audit 1 6 at 5 sides 12 two 6 open 6 border 6\n";
+    edited_during(&rt, alloc, "1 audit iso 1 1\n", line)
+}
+
+const EIGHT: &str = "8 add file src
+8 load src a.vtk
+phase
+1 update src o.vtk 1 1
+2 update src o.vtk 1 1
+3 update src o.vtk 1 1
+4 update src o.vtk 1 1
+5 update src o.vtk 1 1
+6 update src o.vtk 1 1
+7 update src o.vtk 1 1
+8 update src o.vtk 1 1
+";
+
+const EIGHT_REPORT: &str = "edit 8 1 at 1
+edit 8 2 at 2
+file 1 1 at 2 cells 1 points 8 ran 1
+file 2 1 at 2 cells 1 points 8 ran 1
+file 3 1 at 2 cells 1 points 8 ran 1
+file 4 1 at 2 cells 1 points 8 ran 1
+file 5 1 at 2 cells 1 points 8 ran 1
+file 6 1 at 2 cells 1 points 8 ran 1
+file 7 1 at 2 cells 1 points 8 ran 1
+file 8 3 at 2 cells 1 points 8 ran 1
+";
+
+#[test]
+fn eight_actors_evaluate_beside_each_other(rt: HostRuntime) -> Result<(), Fail> {
+    // each task waits until all eight have entered the gate
+    let alloc = rt.alloc();
+    let signs = Signs::new();
+    let gate = Waiting {
+        signs: &signs,
+        tasks: 8,
+        reads: 0,
+    };
+    let (status, text) = run_all(&rt, alloc, EIGHT, &gate)?;
+    assert_eq!(rt; text.as_str(), EIGHT_REPORT);
+    assert!(rt; status == Status::Done);
+    assert_eq!(rt; signs.counts(), [8, 0, 0]);
     Ok(())
 }

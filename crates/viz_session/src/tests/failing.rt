@@ -43,10 +43,10 @@ fault 1 8 write
 ";
 
 /// The first 40 bytes of the mesh without points.
-const BEGUN: &str = "# vtk DataFile Version 3.0\nvizrun fixed ";
+pub const BEGUN: &str = "# vtk DataFile Version 3.0\nvizrun fixed ";
 
 /// The contour at 5, by hand.
-const ONE: &str = "# vtk DataFile Version 3.0
+pub const ONE: &str = "# vtk DataFile Version 3.0
 vizrun fixed 10^-3
 ASCII
 DATASET POLYDATA
@@ -77,7 +77,7 @@ LOOKUP_TABLE default
 5
 ";
 
-const JOURNAL: &str = "vizrun journal 1
+pub const JOURNAL: &str = "vizrun journal 1
 1 1 add file src
 1 2 load src 214
 # vtk DataFile Version 5.1

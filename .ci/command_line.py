@@ -1,0 +1,89 @@
+#!/usr/bin/env python3
+"""Types command lines at the built program: help, the version, folders, and words that are none.
+
+The program is crates/viz_cli/out/viz_cli, or the one that is named.
+"""
+import os
+import subprocess
+import sys
+import tempfile
+
+TOP = os.path.dirname(os.path.dirname(os.path.abspath(__file__)))
+PROGRAM = os.path.join(TOP, "crates/viz_cli/out/viz_cli")
+ONCE = ["once", "b.vtk", "o.vtk", "threshold", "2", "3"]
+DONE = (0, b"file cells 0 points 4\n")
+USAGE = (1, b"vizrun: usage\n")
+# What help names: the words, and the statuses.
+HELP = [b"\n  once IN OUT threshold LO HI ", b"\n  once IN OUT contour V ", b"\n  run SCRIPT JOURNAL ",
+        b"\n  scratch JOURNAL N SINK OUT ", b"\n  make NUMBER NX NY NZ OUT ", b"--dir"]
+HELP += [b"\n  %d  " % status for status in range(6)]
+# Words that are no command.
+NONE = [[], ["--help", "x"], ["x", "--help"], ["--version", "--help"], ["--dir"], ["--dir", "folder"],
+        ["--dir", "-x"] + ONCE, ["--dir=folder"] + ONCE, ["--dir", "folder", "--dir", "folder"] + ONCE,
+        ONCE + ["--dir", "folder"], [b"\xff"], ["run", b"s\xff", "j"], ["--dir", b"\xff"] + ONCE]
+# Folders, as they are typed and as they are, below the one that the program is started in.
+FOLDERS = [("folder", "folder"), ("folder/", "folder"), ("-", "-"), ("", "."), (".", ".")]
+errors = []
+
+
+def run(program, words, folder):
+    done = subprocess.run([program] + words, cwd=folder, stdin=subprocess.DEVNULL,
+                          stdout=subprocess.PIPE, stderr=subprocess.STDOUT, timeout=60)
+    return done.returncode, done.stdout
+
+
+def check(words, found, wanted):
+    if found != wanted:
+        errors.append("%s: %s, and not %s" % (words, found, wanted))
+
+
+def check_texts(program, folder):
+    status, text = run(program, ["--help"], folder)
+    lost = [part for part in HELP if part not in text]
+    if status != 0 or lost:
+        errors.append("--help: status %d, without %s" % (status, lost))
+    check("--version", run(program, ["--version"], folder), (0, b"vizrun 0.1.0\n"))
+
+
+def files(folder):
+    return sorted(os.path.relpath(os.path.join(path, name), folder)
+                  for path, _, names in os.walk(folder) for name in names)
+
+
+def check_folders(program, folder):
+    """Nothing but the output is written, and that beside the input."""
+    with open(os.path.join(TOP, "crates/viz_cli/data/b.vtk"), "rb") as file:
+        image = file.read()
+    for typed, name in FOLDERS:
+        with tempfile.TemporaryDirectory(dir=folder) as start:
+            place = os.path.join(start, name)
+            os.makedirs(place, exist_ok=True)
+            with open(os.path.join(place, "b.vtk"), "wb") as file:
+                file.write(image)
+            words = ["--dir", typed] + ONCE
+            check(words, run(program, words, start), DONE)
+            wanted = [os.path.normpath(os.path.join(name, file)) for file in ("b.vtk", "o.vtk")]
+            check(words, files(start), wanted)
+
+
+def main():
+    program = os.path.abspath(sys.argv[1]) if len(sys.argv) > 1 else PROGRAM
+    if not os.access(program, os.X_OK):
+        sys.exit("command line: no program %s" % program)
+    with tempfile.TemporaryDirectory() as folder:
+        check_texts(program, folder)
+        for words in NONE:
+            check(words, run(program, words, folder), USAGE)
+        words = ["--dir", "none", "run", "s", "j"]
+        check(words, run(program, words, folder), (4, b"fault read\n"))
+        check("all words", files(folder), [])
+        check_folders(program, folder)
+    for error in errors:
+        print("command line:", error)
+    if errors:
+        sys.exit(1)
+    print("command line: %d lines are answered as docs/FORMATS.md says"
+          % (len(NONE) + len(FOLDERS) + 3))
+
+
+main()
