@@ -80,7 +80,7 @@ fn facets_are_turned_by_the_rule(rt: HostRuntime) -> Result<(), Fail> {
 
 #[test]
 fn a_shared_facet_is_left_out(rt: HostRuntime) -> Result<(), Fail> {
-    // Both have 1, 2 and 3; 0 + 4 and 1 + 3 are equal sums of other facets.
+    // Both have 1, 2 and 3.
     let cells = vec![in rt.alloc(); [0, 1, 2, 3], [1, 3, 2, 4]]?;
     let sheet = sheet_by(rt.alloc(), 5, Ranks::Tetrahedra(cells))?;
     shows(
@@ -95,6 +95,35 @@ fn a_shared_facet_is_left_out(rt: HostRuntime) -> Result<(), Fail> {
             &[3, 2, 4],
             &[2, 1, 4],
             &[1, 3, 4],
+        ],
+    )
+}
+
+#[test]
+fn facets_of_equal_sums_are_others(rt: HostRuntime) -> Result<(), Fail> {
+    // 3 + 4 and 2 + 5 are 7, and 0 + 3 and 1 + 2 are 3.
+    let cells = vec![in rt.alloc(); [0, 3, 4], [1, 2, 5]]?;
+    let sheet = sheet_by(rt.alloc(), 6, Ranks::Triangles(cells))?;
+    let names: [&[u32]; 6] = [&[0], &[1], &[2], &[3], &[4], &[5]];
+    let edges: [&[u32]; 6] = [&[3, 4], &[4, 0], &[0, 3], &[2, 5], &[5, 1], &[1, 2]];
+    shows(&rt, rt.alloc(), sheet, &names, &edges)?;
+    // 0 + 4 + 5 and 1 + 2 + 6 are 9.
+    let cells = vec![in rt.alloc(); [0, 3, 4, 5], [1, 2, 6, 7]]?;
+    let sheet = sheet_by(rt.alloc(), 8, Ranks::Tetrahedra(cells))?;
+    shows(
+        &rt,
+        rt.alloc(),
+        sheet,
+        &[&[0], &[1], &[2], &[3], &[4], &[5], &[6], &[7]],
+        &[
+            &[3, 4, 5],
+            &[4, 0, 5],
+            &[0, 3, 5],
+            &[3, 0, 4],
+            &[2, 6, 7],
+            &[6, 1, 7],
+            &[1, 2, 7],
+            &[2, 1, 6],
         ],
     )
 }

@@ -1,10 +1,8 @@
 -- Groups by their first points, from the first point at the place of each.
-use Rattle.std.proofs.Common.{◌≡◌, ◌≢◌, ℕ, zero, suc, ◌+◌, ◌<◌, ◌≤◌, Bool, true, false, cond, not, ◌||◌, List, [], ◌∷◌, ◌++◌, length, get_or, map, nat_eq, refl, sym, ap, ap₂, subst, ◌∙◌, true≢false, ⊎_elim, arith, eqb-true, eq-eqb}
-use Rattle.std.specs.List.{filter, list_any, range_with_len}
-use Rattle.std.specs.Cmp.Lexicographic.{slice_cmp}
-use Rattle.std.specs.Ordering.{int_cmp, is_eq}
+use Rattle.std.proofs.Common.{◌≡◌, ℕ, zero, suc, ◌<◌, ◌≤◌, Bool, true, false, cond, not, ◌||◌, List, [], ◌∷◌, length, get_or, nat_eq, refl, sym, ap, ap₂, subst, ◌∙◌, true≢false, ⊎_elim, arith, eqb-true, eq-eqb}
+use Rattle.std.specs.List.{filter, list_any}
 use Rattle.std.proofs.lemmas.Bool.{cases_lt}
-use Rattle.std.proofs.lemmas.List.{get_or_default, get_or-map, same_lists}
+use Rattle.std.proofs.lemmas.List.{get_or_default, same_lists}
 use Rattle.std.proofs.lemmas.List.FromFn.{get_or-map-range_with_len, length-map-range_with_len}
 use Rattle.viz_fraction.specs.Points.{Point}
 use Rattle.viz_fraction.specs.Places.{place_of}
@@ -12,8 +10,9 @@ use Rattle.viz_sheet.specs.Kept.{kept, kept_rank}
 use Rattle.viz_sheet.proofs.KeptLemmas.{kept-at, rank-below, rank-from, rank-rises}
 use Rattle.viz_meaning.specs.Section.{zero_point}
 use Rattle.viz_mesh_meaning.specs.Merge.{firsts, group_of, is_same_place}
+use Rattle.viz_mesh_meaning.proofs.MergeLemmas.{places-same}
 use Rattle.viz_merge.specs.Steps.Leads.{AreLeads, first_marks}
-use Rattle.viz_merge.proofs.OrderLemmas.{other-places, places-same, same-places}
+use Rattle.viz_merge.proofs.OrderLemmas.{other-places}
 
 -- ---- the first of each group
 
@@ -177,10 +176,3 @@ rank-is_group ps leads j d h l =
     (λ (f : k ≤ r). ⊎_elim (λ (s : k < r). absurd (omega (arith, rank-rises marks k r s marked, from.2, il))) (λ (e : r ≤ k). absurd (omega (arith, ap (kept_rank marks) {x = r} {y = k} (omega arith), from.2, il))) (cases_lt k r))
     (cases_lt r k) in
     ap (λ p. is_same_place p (get_or ps j d)) at ∙ other-places (place_of (get_or ps r d)) (place_of (get_or ps j d)) (lead.first r d before))))
-
--- so it is below the number of groups
-pub group-below : (ps : List Point) (leads : List ℕ) (j : ℕ) (d : Point) → AreLeads ps leads → j < length ps → group_of (firsts ps) (get_or ps j d) < length (firsts ps)
-group-below ps leads j d h l =
-    let marks = first_marks leads in
-    let below = rank-below marks ps (get_or leads j 0) (length-marks leads ∙ h.size) (lead-marked ps leads j h l) in
-    omega (arith, below, rank-is_group ps leads j d h l, ap length (groups-are ps leads h))

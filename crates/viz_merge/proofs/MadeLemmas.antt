@@ -1,28 +1,24 @@
 -- The sheet of the groups and the cells that are left is the merge.
-use Rattle.std.proofs.Common.{◌≡◌, ℕ, zero, suc, ◌+◌, ◌^◌, ◌<◌, ◌≤◌, Bool, true, false, cond, not, ◌&&◌, List, [], ◌∷◌, length, get_or, map, take, nat_eq, ℤ, refl, sym, ap, subst, ◌∙◌, true≢false, arith}
-use Rattle.std.specs.List.{All, Contains, filter, flat_map, list_any, range_with_len}
+use Rattle.std.proofs.Common.{◌≡◌, ℕ, ◌^◌, ◌<◌, Bool, List, length, get_or, map, nat_eq, ℤ, refl, sym, ap, subst, ◌∙◌, arith}
+use Rattle.std.specs.List.{All, filter, flat_map}
 use Rattle.std.specs.List.Sorted.{IsPermutation, IsSorted}
 use Rattle.std.specs.Cmp.Lexicographic.{slice_cmp}
 use Rattle.std.specs.Ordering.{int_cmp}
-use Rattle.std.proofs.lemmas.Cmp.{nat_eq_equiv}
 use Rattle.std.proofs.lemmas.List.{get_or_default, get_or-map, length-map, same_lists}
-use Rattle.std.proofs.lemmas.List.Elements.{All-head, All-tail, All-nil, All-cons, All-map}
 use Rattle.std.proofs.lemmas.List.FromFn.{length-map-range_with_len}
-use Rattle.std.proofs.lemmas.Map.Views.{list_any-from_Contains}
 use Rattle.viz_fraction.specs.Points.{Point}
-use Rattle.viz_sheet.specs.Sheet.{SheetData, AreApart, IsSheet}
+use Rattle.viz_sheet.specs.Sheet.{SheetData, IsSheet}
 use Rattle.viz_sheet.specs.Kept.{kept, kept_rank, sheet_with}
 use Rattle.viz_sheet.specs.Ranked.{AreCells, IsCell, leaf_names}
 use Rattle.viz_sheet.proofs.KeptLemmas.{kept-most}
 use Rattle.viz_meaning.proofs.LeafCells.{leaf-cells}
-use Rattle.viz_meaning.proofs.SectionLemmas.{all-cells, corners}
-use Rattle.viz_meaning.specs.Section.{point_of, zero_point}
-use Rattle.viz_mesh_meaning.specs.Merge.{all_points, cells_by_leaves, firsts, group_of, has_no_repeat, leaf_in, merged}
+use Rattle.viz_meaning.specs.Section.{zero_point}
+use Rattle.viz_mesh_meaning.specs.Merge.{all_points, cells_by_leaves, firsts, group_of, has_no_repeat, merged}
 use Rattle.viz_merge.specs.Steps.Cells.{AreNumbers}
 use Rattle.viz_merge.specs.Steps.Leads.{AreLeads, AreWritten, HaveIndices, first_marks, keys_from}
-use Rattle.viz_merge.proofs.CellLemmas.{among-all}
+use Rattle.viz_mesh_meaning.proofs.MergeLemmas.{merged-cells}
 use Rattle.viz_merge.proofs.LeadLemmas.{leads-are, length-keys, sorted-indices}
-use Rattle.viz_merge.proofs.GroupLemmas.{groups-are, rank-is_group, group-below}
+use Rattle.viz_merge.proofs.GroupLemmas.{groups-are, rank-is_group}
 
 -- ---- numbers
 
@@ -65,59 +61,6 @@ pub numbers-lent : (ps : List Point) (leads lent_leads numbers lent_numbers : Li
 numbers-lent ps leads lent_leads numbers lent_numbers marks lent h e same el en es =
     subst (AreNumbers ps) (sym es) (numbers-are ps leads numbers marks h e (en ∙ ap (λ (ms : List Bool). map (kept_rank ms) lent_leads) same ∙ ap (map (kept_rank marks)) el))
 
--- ---- the rule of the cells
-
-no-repeat : (leaves : List ℕ) → has_no_repeat leaves ≡ true → AreApart leaves
-no-repeat [] h = tt
-no-repeat (leaf ∷ leaves) h = one (list_any (nat_eq leaf) leaves) (has_no_repeat leaves) refl refl h (no-repeat leaves)
-  where
-    one : (a b : Bool) → list_any (nat_eq leaf) leaves ≡ a → has_no_repeat leaves ≡ b → (not a && b) ≡ true → (has_no_repeat leaves ≡ true → AreApart leaves) → AreApart (leaf ∷ leaves)
-    one true b ea eb e rest = absurd (true≢false (sym e))
-    one false false ea eb e rest = absurd (true≢false (sym e))
-    one false true ea eb e rest = (λ k d l s. true≢false (sym (list_any-from_Contains nat_eq_equiv leaf leaves (k, l, get_or_default leaves k leaf d l ∙ sym s)) ∙ ea), rest eb)
-
--- one to four leaves below a count
-record IsMapped (count : ℕ) (cell : List ℕ) : Type 0 where
-  some : 1 ≤ length cell
-  most : length cell ≤ 4
-  below : All (λ r. r < count) cell
-
-filter-cells : (count : ℕ) (cells : List (List ℕ)) → All (IsMapped count) cells → All (IsCell count) (filter has_no_repeat cells)
-filter-cells count [] h = All-nil (IsCell count)
-filter-cells count (c ∷ cs) h = one (has_no_repeat c) refl (filter-cells count cs (All-tail (IsMapped count) c cs h))
-  where
-    one : (b : Bool) → has_no_repeat c ≡ b → All (IsCell count) (filter has_no_repeat cs) → All (IsCell count) (cond b (c ∷ filter has_no_repeat cs) (filter has_no_repeat cs))
-    one true e rest =
-        let here = All-head (IsMapped count) c cs h in
-        All-cons (IsCell count) c (filter has_no_repeat cs) (record { some = here.some; most = here.most; below = here.below; apart = no-repeat c e }) rest
-    one false e rest = rest
-
-sheet-mapped : (sheets : List SheetData) (leads : List ℕ) (i : ℕ) (s : SheetData) → AreLeads (all_points sheets) leads → IsSheet s → i < length sheets → s ≡ get_or sheets i s
-    → All (IsMapped (length (firsts (all_points sheets)))) (cells_by_leaves (firsts (all_points sheets)) s)
-sheet-mapped sheets leads i s hl h l is =
-    let all = all_points sheets in
-    let gs = firsts all in
-    let f = leaf_in gs s in
-    All-map (IsMapped (length gs)) (map f) s.cells (λ k d kl.
-    let cell = get_or s.cells k d in
-    let count : length (map f cell) ≡ length cell = simp length-map in
-    record {
-      some = omega (arith, count, (h.each k d kl).some);
-      most = omega (arith, count, (h.each k d kl).most);
-      below = All-map (λ r. r < length gs) f cell (λ j e jl.
-          let n = get_or cell j e in
-          let c = corners s h k d kl j e jl in
-          let name : get_or s.names c.0 [] ≡ n = get_or_default s.names c.0 [] n c.1 ∙ c.2 in
-          let at = among-all sheets i s c.0 h l is c.1 in
-          subst (λ p. group_of gs p < length gs) (at.1 ∙ ap (point_of s) name) (group-below all leads (length (all_points (take i sheets)) + c.0) zero_point hl at.0));
-    })
-
-pub merged-cells : (sheets : List SheetData) (leads : List ℕ) → AreLeads (all_points sheets) leads → All IsSheet sheets → All (IsCell (length (firsts (all_points sheets)))) (filter has_no_repeat (flat_map (cells_by_leaves (firsts (all_points sheets))) sheets))
-merged-cells sheets leads hl h =
-    let gs = firsts (all_points sheets) in
-    filter-cells (length gs) (flat_map (cells_by_leaves gs) sheets)
-    (all-cells (IsMapped (length gs)) (cells_by_leaves gs) sheets (λ k d l. sheet-mapped sheets leads k (get_or sheets k d) hl (h k d l) l (get_or_default sheets k d (get_or sheets k d) l)))
-
 -- ---- the sheet
 
 -- what the passes made
@@ -140,7 +83,7 @@ made-cells sheets leads names points cells m =
     let gs = firsts (all_points sheets) in
     let is = points-are sheets leads names points cells m in
     let few = points-few (all_points sheets) leads (first_marks leads) points m.led m.few m.placed in
-    let all = leaf-cells (length points) points (filter has_no_repeat (flat_map (cells_by_leaves gs) sheets)) (omega arith) refl (subst (λ (ps : List Point). All (IsCell (length ps)) (filter has_no_repeat (flat_map (cells_by_leaves gs) sheets))) (sym is) (merged-cells sheets leads m.led m.each)) in
+    let all = leaf-cells (length points) points (filter has_no_repeat (flat_map (cells_by_leaves gs) sheets)) (omega arith) refl (subst (λ (ps : List Point). All (IsCell (length ps)) (filter has_no_repeat (flat_map (cells_by_leaves gs) sheets))) (sym is) (merged-cells sheets m.each)) in
     subst (λ (ns : List (List ℕ)). AreCells ns points cells) (sym m.named)
     (subst (λ (cs : List (List ℕ)). AreCells (leaf_names (length points)) points cs) (sym m.left) all)
 

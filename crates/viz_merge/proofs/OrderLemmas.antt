@@ -1,43 +1,13 @@
 -- Keys in order: those with one place stand together, by their indices.
-use Rattle.std.proofs.Common.{◌≡◌, ◌≢◌, ℕ, zero, suc, ◌+◌, ◌-◌, ◌<◌, ◌≤◌, ◌⊎◌, inl, inr, Bool, true, false, cond, List, [], ◌∷◌, ◌++◌, length, get_or, take, Ordering, Less, Equal, Greater, is_lt, is_eq, ℤ, pos, refl, sym, ap, ap₂, subst, ◌∙◌, true≢false, ⊎_elim, arith}
+use Rattle.std.proofs.Common.{◌≡◌, ◌≢◌, ℕ, zero, suc, ◌-◌, ◌<◌, ◌≤◌, Bool, true, false, cond, List, [], ◌∷◌, ◌++◌, length, Ordering, Less, Equal, Greater, is_lt, is_eq, ℤ, pos, refl, sym, ap, ap₂, subst, ◌∙◌, true≢false, ⊎_elim, arith}
 use Rattle.std.specs.List.Sorted.{IsSorted}
-use Rattle.std.specs.Cmp.{IsTotalOrder}
 use Rattle.std.specs.Cmp.Lexicographic.{slice_cmp}
 use Rattle.std.specs.Ordering.{int_cmp, ordering_reverse, ordering_then}
 use Rattle.std.proofs.lemmas.Bool.{cases_lt}
-use Rattle.std.proofs.lemmas.Cmp.{int_cmp_total, lists_total, tied_itself}
-use Rattle.std.proofs.lemmas.Int.{ints}
+use Rattle.std.proofs.lemmas.Cmp.{tied_itself}
 use Rattle.std.proofs.lemmas.List.Sorted.{ranks_by, sorted_far}
-use Rattle.std.proofs.lemmas.Map.Lookups.{exact_signed}
+use Rattle.viz_mesh_meaning.proofs.MergeLemmas.{exact-places, places-same, places_total, same-places}
 use Rattle.viz_merge.specs.Steps.Leads.{has_same_place, index_in, key_at, lead_in, place_in}
-
-pub places_total : IsTotalOrder (slice_cmp int_cmp)
-places_total = lists_total int_cmp_total
-
-then-equal : (o p : Ordering) → ordering_then o p ≡ Equal → (o ≡ Equal) × (p ≡ Equal)
-then-equal Less p h = absurd (true≢false (sym (ap is_eq h)))
-then-equal Equal p h = (refl, h)
-then-equal Greater p h = absurd (true≢false (sym (ap is_eq h)))
-
-pub exact-places : (p q : List ℤ) → slice_cmp int_cmp p q ≡ Equal → p ≡ q
-exact-places [] [] h = refl
-exact-places [] (y ∷ ys) h = absurd (true≢false (sym (ap is_eq h)))
-exact-places (x ∷ xs) [] h = absurd (true≢false (sym (ap is_eq h)))
-exact-places (x ∷ xs) (y ∷ ys) h =
-    let two = then-equal (int_cmp x y) (slice_cmp int_cmp xs ys) h in
-    ap₂ (λ a b. a ∷ b) (exact_signed x y two.0) (exact-places xs ys two.1)
-
-equal_is : (o : Ordering) → is_eq o ≡ true → o ≡ Equal
-equal_is Less h = absurd (true≢false (sym h))
-equal_is Equal h = refl
-equal_is Greater h = absurd (true≢false (sym h))
-
--- a test of places tells whether they are the same
-pub same-places : (p q : List ℤ) → is_eq (slice_cmp int_cmp p q) ≡ true → p ≡ q
-same-places p q h = exact-places p q (equal_is (slice_cmp int_cmp p q) h)
-
-pub places-same : (p q : List ℤ) → p ≡ q → is_eq (slice_cmp int_cmp p q) ≡ true
-places-same p q e = subst (λ r. is_eq (slice_cmp int_cmp p r) ≡ true) e (ap is_eq (tied_itself places_total p))
 
 pub other-places : (p q : List ℤ) → p ≢ q → is_eq (slice_cmp int_cmp p q) ≡ false
 other-places p q n = is_false (is_eq (slice_cmp int_cmp p q)) (λ h. n (same-places p q h))

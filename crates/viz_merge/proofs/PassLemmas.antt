@@ -1,5 +1,5 @@
 -- Loops over points, sheet by sheet.
-use Rattle.std.proofs.Common.{◌≡◌, ◌≢◌, ℕ, zero, suc, ◌+◌, ◌<◌, ◌≤◌, ◌⊎◌, inl, inr, Bool, true, false, cond, List, [], ◌∷◌, ◌++◌, length, map, get_or, set, take, drop, replicate, ℤ, refl, sym, ap, ap₂, subst, ◌∙◌, append_assoc, append-nil, arith, ⊎_elim}
+use Rattle.std.proofs.Common.{◌≡◌, ◌≢◌, ℕ, zero, suc, ◌+◌, ◌<◌, ◌≤◌, ◌⊎◌, inl, inr, Bool, true, false, cond, List, [], ◌∷◌, ◌++◌, length, map, get_or, set, take, drop, replicate, ℤ, refl, sym, ap, ap₂, subst, ◌∙◌, append_assoc, arith, ⊎_elim}
 use Rattle.std.specs.List.{All, range_with_len}
 use Rattle.std.proofs.lemmas.List.Elements.{All-head, All-tail}
 use Rattle.std.proofs.lemmas.List.FromFn.{get_or-map-range_with_len, length-map-range_with_len}
@@ -10,7 +10,7 @@ use Rattle.viz_fraction.specs.Points.{Point}
 use Rattle.viz_sheet.specs.Sheet.{SheetData}
 use Rattle.viz_sheet.specs.Kept.{kept, kept_rank}
 use Rattle.viz_mesh_meaning.specs.Merge.{all_points}
-use Rattle.viz_merge.specs.Steps.Leads.{AreWritten, HaveIndices, has_same_place, index_in, key_at, key_of, keys_from, lead_in}
+use Rattle.viz_merge.specs.Steps.Leads.{AreWritten, HaveIndices, index_in, key_at, key_of, keys_from, lead_in}
 use Rattle.viz_merge.proofs.CellLemmas.{points-more, points-room}
 use Rattle.viz_merge.proofs.LeadLemmas.{keys-append, length-keys}
 

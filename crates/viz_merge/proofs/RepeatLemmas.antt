@@ -1,5 +1,5 @@
 -- Few leaves of which no two are the same.
-use Rattle.std.proofs.Common.{◌≡◌, ℕ, ◌<◌, ◌≤◌, Bool, true, false, not, ◌&&◌, ◌||◌, List, [], ◌∷◌, length, nat_eq, refl, ap, ap₂, sym, ◌∙◌, arith}
+use Rattle.std.proofs.Common.{◌≡◌, ℕ, ◌≤◌, Bool, true, false, not, ◌&&◌, ◌||◌, List, [], ◌∷◌, length, nat_eq, refl, ap₂, sym, ◌∙◌, arith}
 use Rattle.viz_mesh_meaning.specs.Merge.{has_no_repeat}
 
 two-tests : (x : Bool) → (not (x || false) && true) ≡ not x

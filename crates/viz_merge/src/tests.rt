@@ -4,7 +4,7 @@ use crate::merge;
 use std::alloc::Global;
 use std::process::Abort;
 use std::test::Fail;
-use viz_fraction::{Point5, point};
+use viz_fraction::{Point5, point, small};
 use viz_sheet::{Leaves, Mixed, Places, Ranks, Sheet, are_cells, sheet_of};
 
 // The point of five numbers x, y, z, s, w.
@@ -28,13 +28,29 @@ fn places_of(alloc: Global, points: &[[i128; 5]]) -> Result<Places, Fail> {
     Ok(Places::Wide(places))
 }
 
+// These points in half the room.
+fn halves_of(alloc: Global, points: &[[i128; 5]]) -> Result<Places, Fail> {
+    let mut places = Vec::new(alloc);
+    for five in points {
+        match small(&point_of(five)?) {
+            Some(half) => places.push(half)?,
+            None => Err("a small point")?,
+        }
+    }
+    Ok(Places::Small(places))
+}
+
 // The sheet of these points, named by their numbers, and cells.
 fn sheet_by(alloc: Global, points: &[[i128; 5]], ranks: Ranks) -> Result<Sheet, Fail> {
-    if points.len() > 9 {
+    sheet_at(alloc, places_of(alloc, points)?, ranks)
+}
+
+// The same of points in an array.
+fn sheet_at(alloc: Global, places: Places, ranks: Ranks) -> Result<Sheet, Fail> {
+    if places.len() > 9 {
         return Err("few points")?;
     }
-    let leaves = Leaves::of_points(alloc, points.len() as u32)?;
-    let places = places_of(alloc, points)?;
+    let leaves = Leaves::of_points(alloc, places.len() as u32)?;
     if !are_cells(&leaves, &places, &ranks) {
         return Err("cells of ascending names")?;
     }
@@ -101,6 +117,31 @@ fn a_group_keeps_its_first_point(rt: HostRuntime) -> Result<(), Fail> {
         &[&[0], &[1], &[2]],
         &[[0, 0, 0, 1, 1], [1, 0, 0, 2, 2], [0, 1, 0, 3, 1]],
         &[&[0, 1, 2], &[2, 1, 0], &[2]],
+    )
+}
+
+// Two points in half the room, and behind them the second place again and one past 64 bits.
+#[test]
+fn halves_and_wide_points_are_merged(rt: HostRuntime) -> Result<(), Fail> {
+    let half = [[0, 0, 0, 1, 1], [1, 0, 0, 2, 2]];
+    let far = 1_i128 << 70;
+    let wide = [[1, 0, 0, 3, 2], [far, 0, 0, 4, 1]];
+    let line = vec![in rt.alloc(); [0, 1]]?;
+    let first = sheet_at(
+        rt.alloc(),
+        halves_of(rt.alloc(), &half)?,
+        Ranks::Lines(line),
+    )?;
+    let line = vec![in rt.alloc(); [1, 0]]?;
+    let second = sheet_by(rt.alloc(), &wide, Ranks::Lines(line))?;
+    let sheets = vec![in rt.alloc(); first, second]?;
+    shows(
+        &rt,
+        rt.alloc(),
+        &sheets,
+        &[&[0], &[1], &[2]],
+        &[[0, 0, 0, 1, 1], [1, 0, 0, 2, 2], [far, 0, 0, 4, 1]],
+        &[&[0, 1], &[2, 1]],
     )
 }
 

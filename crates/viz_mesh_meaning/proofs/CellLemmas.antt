@@ -1,5 +1,5 @@
 -- Cells of names of a sheet, with the points that these have there.
-use Rattle.std.proofs.Common.{◌≡◌, ℕ, ◌<◌, ◌≤◌, ⊎_elim, List, [], ◌∷◌, length, get_or, map, Ordering, Less, is_lt, refl, sym, ap, subst, ◌∙◌, true≢false, arith}
+use Rattle.std.proofs.Common.{◌≡◌, ℕ, ◌<◌, ◌≤◌, ⊎_elim, List, [], ◌∷◌, length, get_or, map, Ordering, Less, is_lt, sym, ap, subst, ◌∙◌, true≢false, arith}
 use Rattle.std.specs.Cmp.{IsTotalOrder}
 use Rattle.std.specs.List.Sorted.{IsStrictlySortedBy}
 use Rattle.std.proofs.lemmas.Cmp.{nat_list_cmp_total, tied_itself}
@@ -9,7 +9,6 @@ use Rattle.std.proofs.lemmas.List.{get_or-map, length-map, same_lists, get_or_de
 use Rattle.std.proofs.lemmas.List.Elements.{All-contains, Contains-get_or}
 use Rattle.viz_fraction.specs.Points.{Point}
 use Rattle.viz_sheet.specs.Sheet.{SheetData, IsNamedCell, IsSheet, KeepPoints, AreAscending}
-use Rattle.viz_sheet.specs.Ranked.{rank_of}
 use Rattle.viz_sheet.proofs.MemberLemmas.{all_after, here, member_cases, no_member, there}
 use Rattle.viz_sheet.proofs.RankLemmas.{rank-at}
 use Rattle.viz_meaning.specs.Names.{names_of}

@@ -1,10 +1,10 @@
 -- Facets of cells of up to four names: what names they have, and that their names differ.
-use Rattle.std.proofs.Common.{◌≡◌, ◌≢◌, ℕ, ◌+◌, ◌<◌, ◌≤◌, Bool, List, [], ◌∷◌, length, map, refl, sym, ap, subst, ◌∙◌, arith}
-use Rattle.std.specs.List.{All, Contains, filter, flat_map}
+use Rattle.std.proofs.Common.{◌≡◌, ◌≢◌, ◌+◌, ◌≤◌, List, [], ◌∷◌, length, map, refl, sym, arith}
+use Rattle.std.specs.List.{All, Contains, flat_map}
 use Rattle.std.proofs.lemmas.List.Elements.{All-contains_itself, All-nil, All-cons, All-filter}
 use Rattle.viz_sheet.specs.Sheet.{SheetData, AreApart, IsNamedCell, IsSheet}
 use Rattle.viz_meaning.proofs.SectionLemmas.{all-cells}
-use Rattle.viz_mesh_meaning.specs.Cells.{Cell, with_cells}
+use Rattle.viz_mesh_meaning.specs.Cells.{Cell}
 use Rattle.viz_mesh_meaning.specs.Facets.{boundary_of, facets_of, is_same_name, lone_facets}
 use Rattle.viz_mesh_meaning.specs.Laws.{IsFacetOf, IsMadeOf}
 use Rattle.viz_mesh_meaning.proofs.CellLemmas.{cells-made, of-names}

@@ -1,6 +1,6 @@
 -- What filters of meshes give fits.
-use Rattle.std.proofs.Common.{◌≡◌, ℕ, ◌≤◌, ℤ, Bool, List, length, get_or, sym, subst, arith}
-use Rattle.std.specs.List.{All, Contains, filter, flat_map}
+use Rattle.std.proofs.Common.{◌≡◌, ◌≤◌, ℤ, Bool, List, length, get_or, sym, subst, arith}
+use Rattle.std.specs.List.{All, filter, flat_map}
 use Rattle.std.proofs.lemmas.List.Elements.{All-contains, All-filter}
 use Rattle.viz_sheet.specs.Sheet.{SheetData, IsFit, IsSheet, most_names}
 use Rattle.viz_meaning.proofs.LeafCells.{leaf-names}

@@ -1,5 +1,6 @@
 pub mod CellLemmas
 pub mod SelectLemmas
 pub mod FacetLemmas
+pub mod MergeLemmas
 pub mod FitLemmas
 pub mod StandardFacts

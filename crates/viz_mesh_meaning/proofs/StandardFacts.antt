@@ -1,9 +1,10 @@
--- Filters of small meshes by hand: the boundary, a selection and a merge.
+-- Filters of small meshes by hand: the boundary, a selection, meshes joined and a merge.
 use Rattle.std.proofs.Common.{◌≡◌, ℕ, true, false, pos, List, [], ◌∷◌, map, refl}
 use Rattle.viz_fraction.specs.Points.{Point, numbers}
 use Rattle.viz_fraction.specs.Divisors.{gcd}
 use Rattle.viz_fraction.specs.Places.{place_divisor}
 use Rattle.viz_sheet.specs.Sheet.{SheetData}
+use Rattle.viz_mesh_meaning.specs.Append.{appended}
 use Rattle.viz_mesh_meaning.specs.Cells.{Cell}
 use Rattle.viz_mesh_meaning.specs.Facets.{boundary_of, facets_of}
 use Rattle.viz_mesh_meaning.specs.Select.{has_scalar_within, selected}
@@ -117,7 +118,7 @@ all_from_0 = refl
 any_from_6 : (selected false (pos 6) (pos 8) one).names ≡ []
 any_from_6 = refl
 
--- ---- merge
+-- ---- meshes joined, and a merge
 
 -- lines on the axis x, with the scalars 1 and 2
 abbrev first : SheetData
@@ -141,6 +142,10 @@ second = record {
       ∷ [];
   cells = (n1 ∷ n0 ∷ []) ∷ (n1 ∷ n2 ∷ []) ∷ [];
 }
+
+-- the sheets of the first mesh, then those of the next ones
+joined : appended ((first ∷ one ∷ []) ∷ [] ∷ (second ∷ []) ∷ []) ≡ first ∷ one ∷ second ∷ []
+joined = refl
 
 -- each place has one leaf, with the point that comes first; the line that is left with one place goes
 merged_points : (merged (first ∷ second ∷ [])).points

@@ -1,5 +1,5 @@
 -- Merging: points at one position become one point, and cells that lose a corner go (VTK User's Guide: vtkCleanPolyData).
-use Rattle.std.specs.Prelude.{ℕ, suc, Bool, ◌&&◌, true, false, not, nat_eq, List, [], ◌∷◌, length, map, if◌then◌else◌}
+use Rattle.std.specs.Prelude.{ℕ, suc, Bool, ◌&&◌, true, not, nat_eq, List, [], ◌∷◌, length, map, if◌then◌else◌}
 use Rattle.std.specs.List.{flat_map, filter, list_any}
 use Rattle.std.specs.Cmp.Lexicographic.{slice_cmp}
 use Rattle.std.specs.Ordering.{int_cmp, is_eq}
@@ -9,7 +9,6 @@ use Rattle.viz_sheet.specs.Sheet.{SheetData}
 use Rattle.viz_sheet.specs.Kept.{sheet_with}
 use Rattle.viz_sheet.specs.Ranked.{leaf_names}
 use Rattle.viz_meaning.specs.Section.{point_of}
-use Rattle.viz_mesh_meaning.specs.Cells.{Cell}
 
 -- two points have one place, whatever their scalars
 abbrev pub is_same_place : Point → Point → Bool

@@ -1,7 +1,7 @@
 //! Laws of filters of meshes. A function that calls one may rest on it.
 
 ghost use Rattle.viz_mesh_meaning.specs.FitLaws.{BoundaryFits, MergeFits, SelectionFits};
-ghost use Rattle.viz_mesh_meaning.specs.Laws.{BoundaryHasFacets, BoundaryIsSheet, CellsMakeSheet, KeptPointsMakeCells, ScalarTestIsWithin, SelectionIsCellByCell, SelectionIsSheet};
+ghost use Rattle.viz_mesh_meaning.specs.Laws.{BoundaryHasFacets, BoundaryIsSheet, CellsMakeSheet, KeptPointsMakeCells, MergeIsSheet, ScalarTestIsWithin, SelectionIsCellByCell, SelectionIsSheet};
 
 /// Cells of names of a sheet are a sheet with the points that the names had, and there is but one.
 pub fn cells_make_sheets()
@@ -20,6 +20,11 @@ pub fn selections_are_cell_by_cell()
 pub fn boundaries_have_facets()
     ensures sheet { BoundaryIsSheet }
     ensures facets { BoundaryHasFacets }
+{}
+
+/// A merge of sheets is a sheet, where their points have at most 2^32 places.
+pub fn merges_are_sheets()
+    ensures sheet { MergeIsSheet }
 {}
 
 /// What a filter of meshes gives fits.

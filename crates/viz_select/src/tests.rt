@@ -4,7 +4,7 @@ use crate::{append, copied_sheets, select};
 use std::alloc::Global;
 use std::process::Abort;
 use std::test::Fail;
-use viz_fraction::{Point5, point};
+use viz_fraction::{Point5, point, small};
 use viz_sheet::{Leaves, Mesh, Mixed, Places, Ranks, Sheet, are_cells, sheet_of};
 
 // The point of five numbers x, y, z, s, w.
@@ -28,13 +28,29 @@ fn places_of(alloc: Global, points: &[[i128; 5]]) -> Result<Places, Fail> {
     Ok(Places::Wide(places))
 }
 
+// These points in half the room.
+fn halves_of(alloc: Global, points: &[[i128; 5]]) -> Result<Places, Fail> {
+    let mut places = Vec::new(alloc);
+    for five in points {
+        match small(&point_of(five)?) {
+            Some(half) => places.push(half)?,
+            None => Err("a small point")?,
+        }
+    }
+    Ok(Places::Small(places))
+}
+
 // The sheet of these points, named by their numbers, and cells.
 fn sheet_by(alloc: Global, points: &[[i128; 5]], ranks: Ranks) -> Result<Sheet, Fail> {
-    if points.len() > 9 {
+    sheet_at(alloc, places_of(alloc, points)?, ranks)
+}
+
+// The same of points in an array.
+fn sheet_at(alloc: Global, places: Places, ranks: Ranks) -> Result<Sheet, Fail> {
+    if places.len() > 9 {
         return Err("few points")?;
     }
-    let leaves = Leaves::of_points(alloc, points.len() as u32)?;
-    let places = places_of(alloc, points)?;
+    let leaves = Leaves::of_points(alloc, places.len() as u32)?;
     if !are_cells(&leaves, &places, &ranks) {
         return Err("cells of ascending names")?;
     }
@@ -89,17 +105,19 @@ fn any_corner_keeps_what_all_drop(rt: HostRuntime) -> Result<(), Fail> {
     Ok(())
 }
 
-// Vertices with the scalars 2, 5/2, 3, -2 and -5/2.
-fn five_vertices(alloc: Global) -> Result<Sheet, Fail> {
-    let points = [
-        [0, 0, 0, 2, 1],
-        [1, 0, 0, 5, 2],
-        [2, 0, 0, 3, 1],
-        [3, 0, 0, -2, 1],
-        [4, 0, 0, -5, 2],
-    ];
+/// Five points with the scalars 2, 5/2, 3, -2 and -5/2.
+const FIVE: [[i128; 5]; 5] = [
+    [0, 0, 0, 2, 1],
+    [1, 0, 0, 5, 2],
+    [2, 0, 0, 3, 1],
+    [3, 0, 0, -2, 1],
+    [4, 0, 0, -5, 2],
+];
+
+// A vertex at each of these five.
+fn five_vertices(alloc: Global, places: Places) -> Result<Sheet, Fail> {
     let cells = vec![in alloc; [0], [1], [2], [3], [4]]?;
-    sheet_by(alloc, &points, Ranks::Vertices(cells))
+    sheet_at(alloc, places, Ranks::Vertices(cells))
 }
 
 #[test]
@@ -112,8 +130,11 @@ fn both_bounds_belong_to_the_range(rt: HostRuntime) -> Result<(), Fail> {
         (-3, -2, 2),
         (-2, -2, 1),
     ] {
-        let sheet = five_vertices(rt.alloc())?;
-        let count = count_of(rt.alloc(), sheet, lo, hi, true)?;
+        let wide = five_vertices(rt.alloc(), places_of(rt.alloc(), &FIVE)?)?;
+        let count = count_of(rt.alloc(), wide, lo, hi, true)?;
+        assert_eq!(rt; count, want, "{lo} {hi}");
+        let halves = five_vertices(rt.alloc(), halves_of(rt.alloc(), &FIVE)?)?;
+        let count = count_of(rt.alloc(), halves, lo, hi, true)?;
         assert_eq!(rt; count, want, "{lo} {hi}");
     }
     Ok(())
@@ -150,7 +171,8 @@ fn mesh_of(alloc: Global, sheet: Sheet) -> Result<Mesh, Fail> {
 
 #[test]
 fn meshes_are_joined_in_turn(rt: HostRuntime) -> Result<(), Fail> {
-    let first = mesh_of(rt.alloc(), five_vertices(rt.alloc())?)?;
+    let first = five_vertices(rt.alloc(), halves_of(rt.alloc(), &FIVE)?)?;
+    let first = mesh_of(rt.alloc(), first)?;
     let none = Mesh::new(Vec::new(rt.alloc()));
     let last = mesh_of(rt.alloc(), tetrahedron(rt.alloc())?)?;
     let again = copied_sheets(rt.alloc(), last.sheets())?;

@@ -7,20 +7,30 @@ use std::test::Fail;
 use viz_column::Column;
 use viz_dataset::{Image, is_origin, is_spacing};
 use viz_extent::Extent;
-use viz_sheet::{Mesh, Sheet};
+use viz_sheet::{Mesh, Places, Sheet};
 
 /// A step of one unit, in billionths.
 const UNIT: i128 = 1_000_000_000;
 
 // An image with the number of each point as its scalar, from an origin on.
 fn image_of(alloc: Global, bounds: [u32; 6], origin: [i128; 3]) -> Result<Image, Fail> {
+    image_from(alloc, bounds, origin, 0)
+}
+
+// The same with scalars that count from a first one on.
+fn image_from(
+    alloc: Global,
+    bounds: [u32; 6],
+    origin: [i128; 3],
+    first: u64,
+) -> Result<Image, Fail> {
     let spacing = [UNIT, UNIT, UNIT];
     let Some(extent) = Extent::new(bounds) else {
         return Err("an extent")?;
     };
     let mut numbers = Vec::new(alloc);
     for n in 0..extent.count() {
-        numbers.push(n)?;
+        numbers.push(first.saturating_add(n))?;
     }
     let column = Column::of(numbers);
     if !is_origin(&origin) || !is_spacing(&spacing) || column.len() != extent.count() {
@@ -67,6 +77,13 @@ fn has_cell(rt: &impl Abort, sheet: &Sheet, i: usize, cell: [u32; 4]) {
     assert_eq!(rt; sheet.cell(i), cell.as_slice(), "{i}");
 }
 
+// The sheet has a point of these numbers x, y, z, s, w.
+fn has_point(rt: &impl Abort, sheet: &Sheet, rank: usize, five: [i128; 5]) {
+    assert!(rt; rank < sheet.point_count(), "{rank}");
+    let p = sheet.point(rank);
+    assert_eq!(rt; [p.x(), p.y(), p.z(), p.s(), p.w()], five, "{rank}");
+}
+
 #[test]
 fn the_table_of_a_cube(rt: HostRuntime) -> Result<(), Fail> {
     // Points count x first, so 100 is 1, 010 is 2 and 001 is 4.
@@ -96,8 +113,35 @@ fn points_are_those_of_the_image(rt: HostRuntime) -> Result<(), Fail> {
     let mesh = tets(rt.alloc(), &image)?;
     let sheet = only(&mesh)?;
     assert_eq!(rt; sheet.point_count(), 12);
-    let p = sheet.point(11);
-    assert_eq!(rt; [p.x(), p.y(), p.z(), p.s(), p.w()], [13, 2, 2, 22, 2]);
+    has_point(&rt, sheet, 11, [13, 2, 2, 22, 2]);
     assert_eq!(rt; sheet.name(11), [11].as_slice());
+    assert!(rt; matches!(sheet.places(), Places::Small(_)));
+    Ok(())
+}
+
+#[test]
+fn scalars_past_64_signed_bits_are_kept(rt: HostRuntime) -> Result<(), Fail> {
+    // 2^63 - 1 still fits, and 2^63 doesn't.
+    let last = 9_223_372_036_854_775_807;
+    let image = image_from(rt.alloc(), [0, 1, 0, 1, 0, 1], [0, 0, 0], last)?;
+    let mesh = tets(rt.alloc(), &image)?;
+    let sheet = only(&mesh)?;
+    assert!(rt; matches!(sheet.places(), Places::Wide(_)));
+    assert_eq!(rt; sheet.point_count(), 8);
+    for (rank, want) in [
+        [0, 0, 0, 9_223_372_036_854_775_807, 1],
+        [1, 0, 0, 9_223_372_036_854_775_808, 1],
+        [0, 1, 0, 9_223_372_036_854_775_809, 1],
+        [1, 1, 0, 9_223_372_036_854_775_810, 1],
+        [0, 0, 1, 9_223_372_036_854_775_811, 1],
+        [1, 0, 1, 9_223_372_036_854_775_812, 1],
+        [0, 1, 1, 9_223_372_036_854_775_813, 1],
+        [1, 1, 1, 9_223_372_036_854_775_814, 1],
+    ]
+    .iter()
+    .enumerate()
+    {
+        has_point(&rt, sheet, rank, *want);
+    }
     Ok(())
 }

@@ -1,6 +1,6 @@
 //! Worked rows of filters of meshes: scripts over one file, the ends of their reports, and a file.
 
-use super::{CORNER, EMPTY, file, port, run_over};
+use super::{CORNER, EMPTY, Left, file, port, run_over};
 use crate::Status;
 use std::alloc::Global;
 use std::process::Abort;
@@ -19,7 +19,7 @@ ORIGIN 0 0 0
 SPACING 1 1 1
 ";
 
-const BOUNDARIES: &str = "1 add file src
+const BOUNDARIES_NETWORK: &str = "1 add file src
 1 load src a.vtk
 1 set src array -
 1 add tets t
@@ -28,9 +28,6 @@ const BOUNDARIES: &str = "1 add file src
 1 connect t b 1
 1 add boundary c
 1 connect b c 1
-1 update t t.vtk 1 1
-1 update b b.vtk 1 1
-1 update c o.vtk 1 1
 ";
 
 const BOUNDARIES_END: &str = "file 1 10 at 9 cells 162 points 64 ran 2
@@ -93,6 +90,48 @@ LOOKUP_TABLE default
 500
 500
 500
+";
+
+const IMAGE_CUT: &str = "1 add file src
+1 load src a.vtk
+1 add cut c
+1 connect src c 1
+1 set c plane 1 1 1 1
+1 update c o.vtk 1 1
+";
+
+/// The plane has the lowest corner of the cube outside alone, so it has a triangle in each of the
+/// six tetrahedra and a point on each of the seven edges from that corner: at their far ends, in
+/// the middle of those through a side, and at a third of that through the cube.
+const IMAGE_CUT_TRIANGLES: &str = "# vtk DataFile Version 3.0
+vizrun fixed 10^-3
+ASCII
+DATASET POLYDATA
+POINTS 7 long
+1000 0 0
+0 1000 0
+500 500 0
+0 0 1000
+500 0 500
+0 500 500
+333 333 333
+POLYGONS 6 24
+3 2 0 6
+3 0 4 6
+3 1 2 6
+3 5 1 6
+3 4 3 6
+3 3 5 6
+POINT_DATA 7
+SCALARS scalars long 1
+LOOKUP_TABLE default
+0
+0
+0
+0
+0
+0
+3
 ";
 
 /// Two by two points in five planes. The number of the last plane isn't there.
@@ -224,23 +263,62 @@ fn ends_so<R: Threads + Wait + Sync + Abort>(
     Ok(())
 }
 
+// Runs the updates of boundary-of-tets, each in so many pieces.
+fn in_pieces<R: Threads + Wait + Sync>(rt: &R, alloc: Global, pieces: u8) -> Result<Left, Fail> {
+    let (a, b, c) = ("update t t.vtk", "update b b.vtk", "update c o.vtk");
+    let updates = format!(in alloc; "1 {a} {pieces} 1\n1 {b} {pieces} 1\n1 {c} {pieces} 1\n")?;
+    let script = format!(in alloc; "{BOUNDARIES_NETWORK}{updates}")?;
+    let first = port(
+        alloc,
+        "a.vtk",
+        CUBES.as_bytes(),
+        FILE_LIMIT,
+        Vec::new(alloc),
+    )?;
+    run_over(rt, alloc, "run s j", script.as_bytes(), first)
+}
+
 #[test]
 fn boundaries_of_tetrahedra(rt: HostRuntime) -> Result<(), Fail> {
-    // boundary-of-tets
-    ends_so(
-        &rt,
-        rt.alloc(),
-        CUBES,
-        BOUNDARIES,
-        BOUNDARIES_END,
-        Some(EMPTY),
-    )
+    // boundary-of-tets, in one piece, in 3 and in 7
+    let one = in_pieces(&rt, rt.alloc(), 1)?;
+    assert!(rt; file(&one.ports, "t.vtk").is_some());
+    assert!(rt; file(&one.ports, "b.vtk").is_some());
+    for pieces in [1, 3, 7] {
+        let left = in_pieces(&rt, rt.alloc(), pieces)?;
+        assert!(rt; left.text.ends_with(BOUNDARIES_END), "{}", left.text);
+        assert!(rt;
+            file(&left.ports, "t.vtk") == file(&one.ports, "t.vtk"),
+            "{pieces}"
+        );
+        assert!(rt;
+            file(&left.ports, "b.vtk") == file(&one.ports, "b.vtk"),
+            "{pieces}"
+        );
+        assert!(rt;
+            file(&left.ports, "o.vtk") == Some(EMPTY.as_bytes()),
+            "{pieces}"
+        );
+    }
+    Ok(())
 }
 
 #[test]
 fn cuts_by_planes(rt: HostRuntime) -> Result<(), Fail> {
     // slanted-cut
     ends_so(&rt, rt.alloc(), SLANTED, CUT, CUT_END, Some(CUT_LINES))
+}
+
+#[test]
+fn an_image_is_cut_through_its_tetrahedra(rt: HostRuntime) -> Result<(), Fail> {
+    ends_so(
+        &rt,
+        rt.alloc(),
+        CORNER,
+        IMAGE_CUT,
+        "file 1 6 at 5 cells 6 points 7 ran 2\n",
+        Some(IMAGE_CUT_TRIANGLES),
+    )
 }
 
 #[test]

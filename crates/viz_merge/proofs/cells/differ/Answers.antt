@@ -1,4 +1,3 @@
-use Rattle.std.proofs.Common.{◌∙◌}
 use Rattle.viz_merge.proofs.RepeatLemmas.{two-differ}
 use Rattle.viz_merge.proofs.cells.differ.Goals as goal
 

@@ -1,4 +1,4 @@
-use Rattle.std.proofs.Common.{◌≡◌, ◌<◌, Bool, true, arith, length, rules}
+use Rattle.std.proofs.Common.{◌≡◌, ◌<◌, true, arith, length, rules}
 use Rattle.viz_sheet.specs.Arrays.{points_in}
 use Rattle.viz_merge.proofs.PassLemmas.{one-kept}
 use Rattle.viz_merge.proofs.groups.push_small.Goals as goal

@@ -1,4 +1,4 @@
-use Rattle.std.proofs.Common.{◌≡◌, ◌+◌, ◌≤◌, ◌∙◌, Bool, true, ap, arith, length, rules}
+use Rattle.std.proofs.Common.{◌≡◌, ◌+◌, ◌≤◌, ◌∙◌, true, ap, arith, length, rules}
 use Rattle.viz_sheet.specs.Arrays.{points_in}
 use Rattle.viz_merge.proofs.PassLemmas.{AreKept, sheet-kept, sheet-room}
 use Rattle.viz_merge.proofs.groups.small_points.Goals as goal

@@ -1,4 +1,4 @@
-use Rattle.std.proofs.Common.{◌≡◌, ◌+◌, ◌≤◌, ◌++◌, ◌∙◌, ap, arith, drop, length, sym, take}
+use Rattle.std.proofs.Common.{◌++◌, ◌∙◌, ap, arith, drop, length, take}
 use Rattle.std.proofs.lemmas.List.{length-append}
 use Rattle.viz_mesh_meaning.specs.Merge.{all_points, cells_by_leaves, firsts, has_no_repeat}
 use Rattle.viz_merge.specs.Steps.Cells.{left_by_names}

@@ -1,4 +1,4 @@
-use Rattle.std.proofs.Common.{◌≡◌, ◌^◌, ◌<◌, ◌∙◌, List, ℕ, Bool, ap, arith, length, subst, sym}
+use Rattle.std.proofs.Common.{◌^◌, ◌<◌, ◌∙◌, List, Bool, ap, arith, length}
 use Rattle.viz_sheet.specs.Arrays.{names_in, points_in}
 use Rattle.viz_sheet.specs.Kept.{kept}
 use Rattle.viz_sheet.specs.Ranked.{leaf_names}

@@ -1,4 +1,4 @@
-use Rattle.std.proofs.Common.{◌∙◌, ap, get_or, map}
+use Rattle.std.proofs.Common.{◌∙◌}
 use Rattle.viz_merge.proofs.PassLemmas.{before-below, numbers-by}
 use Rattle.viz_merge.proofs.numbers.numbers.Goals as goal
 
