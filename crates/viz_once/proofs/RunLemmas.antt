@@ -124,9 +124,10 @@ module _ {P : Type 0} (m : port.Ghosts P) where
     script-Run = record {
       only = λ is.
           let w = told_at told.0 told.1 ended status.Script told.3 is in
-          let o : Outcome = outcome.NoPort in
-          (lacks words old new (told_as o w.0 (λ e. let bad : (let x : Outcome = outcome.Memory in x) ≡ outcome.NoPort = e in cc)),
-          puts_or_breaks l before after o told.1 w.1 (subst (λ (x : Outcome). IsPut l x told.1 before after) w.0 told.4));
+          let o : Outcome = outcome.NoPort in (
+            lacks words old new (told_as o w.0 (λ e. let bad : (let x : Outcome = outcome.Memory in x) ≡ outcome.NoPort = e in cc)),
+            puts_or_breaks l before after o told.1 w.1 (subst (λ (x : Outcome). IsPut l x told.1 before after) w.0 told.4),
+          );
       comes = λ lack.
           portless_ends l before after told.0 told.1 ended
           (subst (λ (x : Outcome). Settles x told.0) (found_portless words found old new lack serves) told.2) told.3 told.4;

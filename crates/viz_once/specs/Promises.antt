@@ -81,7 +81,8 @@ abbrev pub IsPortless : {P O : Type 0} → out.Ghosts O → Option Command → L
 IsPortless m words ports before after = LacksPort words ports × PutsOrBreaks m no_port_line before after
 
 -- Script comes for a command without a port, with its line, unless memory ran out, and for nothing else
-pub record IsScript {P O : Type 0} (m : out.Ghosts O) (words : Option Command) (ports : List P) (before after : O) (ended : Status) : Type 0 where
+pub record IsScript {P O : Type 0} (m : out.Ghosts O) (words : Option Command) (ports : List P) (before after : O)
+    (ended : Status) : Type 0 where
   pub only : ended ≡ status.Script → IsPortless m words ports before after
   pub comes : LacksPort words ports → EndsInScript m no_port_line before after ended
 
