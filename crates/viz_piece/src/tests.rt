@@ -1,8 +1,7 @@
-//! Parts of few cells, by hand.
+//! A part of two vertices, by hand.
 
 use crate::{Part, PartSheet, Request, stitch};
 use std::alloc::Global;
-use std::process::Abort;
 use std::test::Fail;
 use viz_dataset::Dataset;
 use viz_extent::Extent;
@@ -11,12 +10,6 @@ use viz_sheet::{Leaves, Places, Ranks, Sheet, are_cells, sheet_of};
 
 // Two vertices, at 0 and at 1.
 fn vertices(alloc: Global) -> Result<Sheet, Fail> {
-    let ranks = Ranks::Vertices(vec![in alloc; [0], [1]]?);
-    sheet_by(alloc, ranks)
-}
-
-// Cells of the points 0 and 1.
-fn sheet_by(alloc: Global, ranks: Ranks) -> Result<Sheet, Fail> {
     let mut points = Vec::new(alloc);
     for x in [0, 1] {
         match point(x, 0, 0, 0, 1) {
@@ -26,6 +19,7 @@ fn sheet_by(alloc: Global, ranks: Ranks) -> Result<Sheet, Fail> {
     }
     let leaves = Leaves::of_points(alloc, 2)?;
     let places = Places::Wide(points);
+    let ranks = Ranks::Vertices(vec![in alloc; [0], [1]]?);
     if !are_cells(&leaves, &places, &ranks) {
         return Err("cells of ascending names")?;
     }
@@ -56,46 +50,24 @@ fn each_cell_has_its_level(rt: HostRuntime) -> Result<(), Fail> {
     Ok(())
 }
 
-// The dataset of one part of a mesh: these sheets, as own cells.
-fn stitched(alloc: Global, first: Sheet, second: Sheet) -> Result<Dataset, Fail> {
+// The dataset of one part of a mesh: this sheet, as own cells.
+fn stitched(alloc: Global, sheet: Sheet) -> Result<Dataset, Fail> {
     let mut sheets = Vec::new(alloc);
-    sheets.push(PartSheet::own(first))?;
-    sheets.push(PartSheet::own(second))?;
+    sheets.push(PartSheet::own(sheet))?;
     let mut parts = Vec::new(alloc);
     parts.push(Part::Mesh(sheets))?;
     Ok(stitch(alloc, parts)?)
 }
 
-// A sheet has the names 0 and 1, and these cells.
-fn has(rt: &impl Abort, sheet: &Sheet, cells: &[&[u32]]) {
-    assert_eq!(rt; sheet.point_count(), 2, "{cells:?}");
-    for (rank, name) in [[0], [1]].iter().enumerate() {
-        assert!(rt; rank < sheet.point_count(), "{cells:?}");
-        assert_eq!(rt; sheet.name(rank), name.as_slice(), "{cells:?}");
-        let p = sheet.point(rank);
-        let five = [p.x(), p.y(), p.z(), p.s(), p.w()];
-        assert_eq!(rt; five, [rank as i128, 0, 0, 0, 1], "{cells:?}");
-    }
-    assert_eq!(rt; sheet.cell_count(), cells.len(), "{cells:?}");
-    for (i, cell) in cells.iter().enumerate() {
-        assert!(rt; i < sheet.cell_count(), "{cells:?}");
-        assert_eq!(rt; sheet.cell(i), *cell, "{cells:?}");
-    }
-}
-
 #[test]
 fn one_part_is_the_whole(rt: HostRuntime) -> Result<(), Fail> {
     let alloc = rt.alloc();
-    let line = sheet_by(alloc, Ranks::Lines(vec![in alloc; [1, 0]]?))?;
-    let Dataset::Mesh(mesh) = stitched(alloc, vertices(alloc)?, line)? else {
+    let Dataset::Mesh(mesh) = stitched(alloc, vertices(alloc)?)? else {
         return Err("a mesh")?;
     };
-    match mesh.sheets() {
-        [first, second] => {
-            has(&rt, first, &[&[0], &[1]]);
-            has(&rt, second, &[&[1, 0]]);
-        }
-        _ => Err("two sheets")?,
+    assert_eq!(rt; mesh.sheets().len(), 1);
+    for sheet in mesh.sheets() {
+        assert_eq!(rt; (sheet.cell_count(), sheet.point_count()), (2, 2));
     }
     Ok(())
 }
