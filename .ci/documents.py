@@ -10,7 +10,7 @@ TOP = os.path.dirname(os.path.dirname(os.path.abspath(__file__)))
 PROVED = "docs/PROVED.md"
 PAGES = ["README.md", PROVED] + [
     "docs/%s.md" % page for page in
-    ("ARCHITECTURE", "DEFINITIONS", "FORMATS", "USING", "DECISIONS", "GLOSSARY")]
+    ("ARCHITECTURE", "DEFINITIONS", "FORMATS", "FILTERS", "USING", "DECISIONS", "GLOSSARY")]
 SUFFIXES = (".md", ".rt", ".antt", ".txt", ".py", ".vtk", ".edit", ".sh")
 errors = []
 
@@ -147,25 +147,30 @@ def check_proved(known):
 
 def check_crates():
     here = crates()
-    for page, pattern in (("README.md", r"^\| `(viz_\w+)` \|"),
-                          ("docs/ARCHITECTURE.md", r"^\| \d+ \| `(viz_\w+)` \| stands \|")):
+    for page, pattern in [("docs/ARCHITECTURE.md", r"^\| \d+ \| `(viz_\w+)` \| stands \|")]:
         rows = re.findall(pattern, text(page), re.M)
         if sorted(rows) != sorted(here):
             errors.append("%s: its lines are not those of crates.txt: %s" % (page, sorted(rows)))
 
 
+def shown(wanted, which):
+    """Says which of these texts no block of README or USING has: a whole block, or a command with
+    what it puts. `.ci/examples.py` types them; here they are rows that others have counted."""
+    blocks = re.findall(r"```text\n(.*?)```", text("README.md") + text("docs/USING.md"), re.S)
+    for block in wanted:
+        if not any(block == it or block.startswith("$ ") and block in it for it in blocks):
+            errors.append("README.md, docs/USING.md: %s isn't there:\n%s" % (which, block))
+
+
 def typed(words, answer):
-    """A command as README shows it, and what it puts."""
+    """A command as the pages show it, and what it puts."""
     return "$ ./vizrun %s\n%s" % (words, answer)
 
 
 def check_example():
-    blocks = re.findall(r"```text\n(.*?)```", text("README.md"), re.S)
     words = " ".join(text("crates/viz_cli/args").split())
-    wanted = [text("crates/viz_cli/data/b.vtk"), typed(words, text("crates/viz_cli/stdout"))]
-    for block in wanted:
-        if block not in blocks:
-            errors.append("README.md: its example isn't the program's stored run:\n" + block)
+    shown([text("crates/viz_cli/data/b.vtk"), typed(words, text("crates/viz_cli/stdout"))],
+          "the program's stored run")
 
 
 def constant(page, name):
@@ -178,35 +183,30 @@ def constant(page, name):
 
 
 def check_contour():
-    """The second example: the first row of the tests of contours."""
-    blocks = re.findall(r"```text\n(.*?)```", text("README.md"), re.S)
+    """The contour of one command: the first row of the tests of contours."""
     page = text("crates/viz_once/src/contour_texts.rt")
     front, values, level, report, surface = (
         constant(page, name) for name in
         ("CUBE", "FIRST_VALUES", "FIRST_LEVEL", "FIRST_REPORT", "FIRST_SURFACE"))
     if text("crates/viz_cli/data/c.vtk") != front + values:
         errors.append("crates/viz_cli/data/c.vtk isn't the file of the first contour's test")
-    for block in [front + values, typed("once c.vtk o.vtk contour " + level, report)]:
-        if block not in blocks:
-            errors.append("README.md: its contour isn't that of the test:\n" + block)
-    heads = surface.index("POINTS") if "POINTS" in surface else 0
-    if not any(surface.startswith(block) and len(block) > heads for block in blocks):
-        errors.append("README.md: no first lines of the contour:\n" + surface)
+    head = "".join(line + "\n" for line in surface.splitlines()[:7])
+    shown([front + values,
+           typed("once c.vtk corner.vtk contour " + level, report) + "$ head -n 7 corner.vtk\n" + head],
+          "the contour of the test")
 
 
 def check_scripts():
-    """The third and the fourth example: rows of tests of scripts, whose file has another name."""
-    blocks = re.findall(r"```text\n(.*?)```", text("README.md"), re.S)
+    """The scripts of two levels and of two actors: rows of tests, whose file has another name."""
     tests = "crates/viz_session/src/tests"
     pages = [text(tests + end) for end in (".rt", "/failing.rt", "/scratch.rt", "/actors.rt")]
     levels, whole, again, two, report = (
         constant(page, name) for page, name in
         zip(pages + pages[3:], ("LEVELS", "WHOLE", "AGAIN", "TWO", "TWO_REPORT")))
-    for block in [levels.replace("a.vtk", "c.vtk"), typed("run s j", whole),
-                  typed("scratch j 5 iso again.vtk", again),
-                  two.replace("a.vtk", "c.vtk"), typed("run t k", report)]:
-        if block not in blocks:
-            errors.append("README.md: its script isn't that of a test:\n" + block)
+    shown([levels.replace("a.vtk", "c.vtk"), typed("run levels.script levels.journal", whole),
+           typed("scratch levels.journal 5 iso again.vtk", again),
+           two.replace("a.vtk", "c.vtk"), typed("run two.script two.journal", report)],
+          "the script of a test")
 
 
 def check_kit():

@@ -1,29 +1,32 @@
 """The gyroid of docs/USING.md: its volume, and the picture of its contour.
 
 python3 gyroid.py volume FILE        writes 64 x 64 x 64 numbers of 16 bits, ASCII
-python3 gyroid.py picture FILE PNG   draws a contour that vizrun wrote
+python3 gyroid.py picture FILE PNG   draws a contour that vizrun wrote, with VTK
 """
+import math
 import sys
-
-import numpy
-import vtk
 
 SIZE = 64
 
 
 def volume(path):
-    w = 2 * numpy.pi * 4 / SIZE
-    z, y, x = numpy.meshgrid(*3 * [numpy.arange(SIZE) * w], indexing="ij")
-    field = numpy.sin(x) * numpy.cos(y) + numpy.sin(y) * numpy.cos(z) + numpy.sin(z) * numpy.cos(x)
-    values = numpy.rint(field * 10000).astype(numpy.int16)
+    angle = 2 * math.pi * 4 / SIZE
+    sine = [math.sin(angle * i) for i in range(SIZE)]
+    cosine = [math.cos(angle * i) for i in range(SIZE)]
     with open(path, "w") as file:
         file.write("# vtk DataFile Version 3.0\ngyroid\nASCII\nDATASET STRUCTURED_POINTS\n")
         file.write(f"DIMENSIONS {SIZE} {SIZE} {SIZE}\nORIGIN 0 0 0\nSPACING 1 1 1\n")
         file.write(f"POINT_DATA {SIZE ** 3}\nSCALARS scalars short 1\nLOOKUP_TABLE default\n")
-        numpy.savetxt(file, values.reshape(-1, SIZE), fmt="%d")
+        for z in range(SIZE):
+            for y in range(SIZE):
+                row = (sine[x] * cosine[y] + sine[y] * cosine[z] + sine[z] * cosine[x]
+                       for x in range(SIZE))
+                file.write(" ".join(str(round(value * 10000)) for value in row) + "\n")
 
 
 def surface(path):
+    import vtk  # the volume needs none
+
     reader = vtk.vtkPolyDataReader()
     reader.SetFileName(path)
     scale = vtk.vtkTransform()
@@ -43,6 +46,8 @@ def surface(path):
 
 
 def picture(path, png):
+    import vtk
+
     colors = vtk.vtkLookupTable()
     colors.SetHueRange(0.58, 0.08)
     colors.SetSaturationRange(0.55, 0.65)
