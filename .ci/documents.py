@@ -190,10 +190,9 @@ def check_contour():
         ("CUBE", "FIRST_VALUES", "FIRST_LEVEL", "FIRST_REPORT", "FIRST_SURFACE"))
     if text("crates/viz_cli/data/c.vtk") != front + values:
         errors.append("crates/viz_cli/data/c.vtk isn't the file of the first contour's test")
-    head = "".join(line + "\n" for line in surface.splitlines()[:7])
-    shown([front + values,
-           typed("once c.vtk corner.vtk contour " + level, report) + "$ head -n 7 corner.vtk\n" + head],
-          "the contour of the test")
+    head = "$ head -n 7 corner.vtk\n" + "".join(it + "\n" for it in surface.splitlines()[:7])
+    made = typed("once c.vtk corner.vtk contour " + level, report)
+    shown([front + values, made + head], "the contour of the test")
 
 
 def check_scripts():
