@@ -5,12 +5,13 @@ The program is crates/viz_cli/out/viz_cli, or the one that is named. All three p
 one fresh folder, where the program lies as `vizrun` beside `docs`:
 
 - A block is a file where the line in front of it ends with the file's name in ticks and a colon.
-- In a block of text a line that begins with "$ " is typed in bash. The lines behind it, up to the
+- In any other block a line that begins with "$ " is typed in bash. The lines behind it, up to the
   next one or to the end, are what has to come, word for word.
 - A file has one content on all pages: none is shown twice, and none is written over.
 
 Then the kinds of node: each has a row in README's table, and in FILTERS a part with the ports,
-values and defaults that FORMATS has, and a script that adds a node of it.
+values and defaults that FORMATS has, the class of VTK that README has, and a script that adds a
+node of it.
 """
 import os
 import re
@@ -47,19 +48,18 @@ def text(path):
 
 
 class Block:
-    """A block of a page: its place, the file that it is, and its lines."""
+    """A block of a page: its place, the file that it is, if any, and its lines."""
 
-    def __init__(self, page, at, front, language):
+    def __init__(self, page, at, front):
         named = re.search(r"`(\w[\w.-]*)`:$", front)
         self.place = "%s:%d" % (page, at)
         self.file = named[1] if named else None
-        self.language = language
         self.lines = []
 
     def commands(self):
         """Each line that is typed, with what has to come."""
         found = []
-        for line in self.lines if self.language == "text" and not self.file else []:
+        for line in [] if self.file else self.lines:
             if line.startswith("$ "):
                 found.append((line[2:], []))
             elif found:
@@ -75,7 +75,7 @@ def blocks_of(page):
                 blocks.append(open_block)
                 open_block, front = None, ""
             else:
-                open_block = Block(page, at, front, line[3:])
+                open_block = Block(page, at, front)
         elif open_block:
             open_block.lines.append(line)
         elif line:
@@ -148,8 +148,8 @@ def table(page, head):
     return found
 
 
-def check_part(kind, ports, parameters, values, part):
-    """One kind of FILTERS: its words in order, its ports and parameters, and a script."""
+def check_part(kind, ports, parameters, values, classes, part):
+    """One kind of FILTERS: its words in order, ports, parameters, class of VTK, and a script."""
     name = kind.lower()
     lines = re.findall(r"^- \*\*(\w+)\*\*: (.*)$", part, re.M)
     wanted = WORDS[:1] + WORDS[1:2] * max(1, len(parameters)) + WORDS[2:]
@@ -162,12 +162,15 @@ def check_part(kind, ports, parameters, values, part):
     for parameter, line in zip(parameters, said):
         typed = TYPED.get(parameter, parameter.lower())
         which, default = values[parameter]
-        if not line.startswith("`set NODE %s " % typed) \
-                or "`: %s; default %s" % (which, default) not in line:
+        rule = r"`set NODE %s [^`]+`: %s; default %s(\.|$)" % (
+            typed, re.escape(which), re.escape(default))
+        if not re.match(rule, line):
             errors.append("%s, %s: %s isn't `set NODE %s ..`: %s; default %s"
                           % (FILTERS, name, parameter, typed, which, default))
     if not parameters and said != ["none"]:
         errors.append("%s, %s: it has no parameter" % (FILTERS, name))
+    if not re.match(classes.split()[0] + r"\b", dict(lines)["VTK"]):
+        errors.append("%s, %s: its class isn't %s, as in %s" % (FILTERS, name, classes, README))
     if not re.search(r"^1 add %s \w+$" % name, part, re.M) or "\n$ ./vizrun run " not in part:
         errors.append("%s, %s: it has no example" % (FILTERS, name))
 
@@ -176,16 +179,17 @@ def check_kinds():
     """README and FILTERS have the kinds of the code, in its order, as FORMATS says them."""
     code = text("crates/viz_kinds/src/kind.rt").split("pub enum Kind {")[1].split("}")[0]
     kinds = re.findall(r"^    (\w+),$", code, re.M)
-    here = [re.search(r"\w+", row[0])[0] for row in table(README, "| Kind | Makes | VTK |")]
+    shown = table(README, "| Kind | Makes | VTK |")
+    here = [re.search(r"\w+", row[0])[0] for row in shown]
     parts = re.split(r"^## (.*)$", text(FILTERS), flags=re.M)
     for page, names in ((README, here), (FILTERS, parts[1::2])):
         if names != [kind.lower() for kind in kinds]:
             errors.append("%s: its kinds of node are %s, and not %s" % (page, names, kinds))
     values = {row[0]: row[1:] for row in table(FORMATS, "| Parameter | Values | Default |")}
     said = {row[0]: row[1:] for row in table(FORMATS, "| Kind | Ports | Parameters |")}
-    for kind, part in zip(kinds, parts[2::2]):
+    for kind, row, part in zip(kinds, shown, parts[2::2]):
         ports, parameters = said[kind]
-        check_part(kind, ports, re.findall(r"\w+", parameters), values, part)
+        check_part(kind, ports, re.findall(r"\w+", parameters), values, row[-1], part)
 
 
 def main():
