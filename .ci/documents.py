@@ -1,5 +1,5 @@
 #!/usr/bin/env python3
-"""Compares the documents with the code: crates, paths, labels of clauses, definitions, examples."""
+"""Compares the documents with the code: paths, labels of clauses, definitions, examples."""
 import glob
 import os
 import re
@@ -10,7 +10,8 @@ TOP = os.path.dirname(os.path.dirname(os.path.abspath(__file__)))
 PROVED = "docs/PROVED.md"
 PAGES = ["README.md", PROVED] + [
     "docs/%s.md" % page for page in
-    ("ARCHITECTURE", "DEFINITIONS", "FORMATS", "USING", "DECISIONS", "GLOSSARY")]
+    ("ARCHITECTURE", "DEFINITIONS", "FORMATS", "USING", "DECISIONS", "GLOSSARY", "PROOF-NOTES",
+     "MEASURED")]
 SUFFIXES = (".md", ".rt", ".antt", ".txt", ".py", ".vtk", ".edit", ".sh")
 errors = []
 
@@ -145,15 +146,6 @@ def check_proved(known):
             check_part(crate, body, known)
 
 
-def check_crates():
-    here = crates()
-    for page, pattern in (("README.md", r"^\| `(viz_\w+)` \|"),
-                          ("docs/ARCHITECTURE.md", r"^\| \d+ \| `(viz_\w+)` \| stands \|")):
-        rows = re.findall(pattern, text(page), re.M)
-        if sorted(rows) != sorted(here):
-            errors.append("%s: its lines are not those of crates.txt: %s" % (page, sorted(rows)))
-
-
 def typed(words, answer):
     """A command as README shows it, and what it puts."""
     return "$ ./vizrun %s\n%s" % (words, answer)
@@ -227,7 +219,6 @@ known = Clauses()
 for page in PAGES:
     check_names(page, known)
 check_proved(known)
-check_crates()
 check_example()
 check_contour()
 check_scripts()
