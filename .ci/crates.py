@@ -77,7 +77,7 @@ def main():
         for line in new.splitlines():
             if line not in old.splitlines():
                 print("crates: docs/ARCHITECTURE.md lacks:", line)
-        stop("the list in docs/ARCHITECTURE.md is another one; python3 .ci/crates.py write mends it")
+        stop("docs/ARCHITECTURE.md has another list; python3 .ci/crates.py write mends it")
     print("crates: the list is that of %d crates" % len(levels()))
 
 
