@@ -1,5 +1,5 @@
 #!/usr/bin/env python3
-"""Compares the documents with the code: crates, paths, labels of clauses, definitions, examples."""
+"""Compares the documents with the code: paths, labels of clauses, definitions, examples."""
 import glob
 import os
 import re
@@ -7,10 +7,11 @@ import subprocess
 import sys
 
 TOP = os.path.dirname(os.path.dirname(os.path.abspath(__file__)))
-PROVED = "docs/PROVED.md"
-PAGES = ["README.md", PROVED] + [
+PROVED = ["docs/PROVED.md", "docs/PROVED-OF-DATA.md"]
+PAGES = ["README.md"] + PROVED + [
     "docs/%s.md" % page for page in
-    ("ARCHITECTURE", "DEFINITIONS", "FORMATS", "FILTERS", "USING", "DECISIONS", "GLOSSARY")]
+    ("ARCHITECTURE", "DEFINITIONS", "DEFINITIONS-OF-DATA", "FORMATS", "FILTERS", "USING",
+     "DECISIONS", "GLOSSARY", "PROOF-NOTES", "MEASURED")]
 SUFFIXES = (".md", ".rt", ".antt", ".txt", ".py", ".vtk", ".edit", ".sh")
 errors = []
 
@@ -117,7 +118,35 @@ def check_names(page, known):
             errors.append("%s: no page %s" % (page, link))
 
 
-def check_part(crate, body, known):
+def headings(page):
+    """The headings of a page, each with the name that links have for it."""
+    body = re.sub(r"```.*?```", "", text(page), flags=re.S)
+    return {title: re.sub(r"[^\w\- ]", "", title.lower()).replace(" ", "-")
+            for title in re.findall(r"^#+ (.+)$", body, re.M)}
+
+
+def check_anchors(page):
+    """Each link into a page goes to a heading there."""
+    body = re.sub(r"```.*?```", "", text(page), flags=re.S)
+    for link, anchor in re.findall(r"\]\(([\w./-]*\.md)?#([^)]+)\)", body):
+        there = os.path.normpath(os.path.join(os.path.dirname(page), link)) if link else page
+        if resolve(there) and anchor not in headings(there).values():
+            errors.append("%s: no heading %s#%s" % (page, link, anchor))
+
+
+def check_cited():
+    """Each heading that the code names is on its page."""
+    for end in ("rt", "antt"):
+        for path in glob.glob(os.path.join(TOP, "crates/*/s*/**/*." + end), recursive=True):
+            body = re.sub(r"\n *(?://[!/]?|--) ?", " ", text(path))
+            for page, titles in re.findall(r'(docs/[\w-]+\.md)((?:,? (?:and )?"[^"\n]+")+)', body):
+                for title in re.findall(r'"([^"]+?),?"', titles):
+                    if not resolve(page) or title not in headings(page):
+                        errors.append("%s: no heading %s, %s"
+                                      % (os.path.relpath(path, TOP), page, title))
+
+
+def check_part(page, crate, body, known):
     """In a crate's part stand calls of that crate alone, each with the label of a promise."""
     calls, claims = known.of[crate], 0
     for token in in_ticks(body):
@@ -126,31 +155,29 @@ def check_part(crate, body, known):
         if left.endswith(".antt"):
             continue
         if dot and first != crate:
-            errors.append("%s, %s: `%s` names no call of this crate" % (PROVED, crate, token))
+            errors.append("%s, %s: `%s` names no call of this crate" % (page, crate, token))
         elif not dot and (left in calls or first in known.of and call):
-            errors.append("%s, %s: `%s` has no label" % (PROVED, crate, token))
+            errors.append("%s, %s: `%s` has no label" % (page, crate, token))
         claims += bool(dot)
     if not claims and any(calls.values()):
-        errors.append("%s, %s: no clause is named" % (PROVED, crate))
+        errors.append("%s, %s: no clause is named" % (page, crate))
 
 
 def check_proved(known):
-    """PROVED.md has a part for each crate, and nothing is claimed without a clause."""
-    parts = re.split(r"^## (.*)$", text(PROVED), flags=re.M)
-    here = [name.strip("` ") for name in parts[1::2]]
+    """The pages of what is proved have one part for each crate, and nothing is claimed without a
+    clause."""
+    here = []
+    for page in PROVED:
+        parts = re.split(r"^## (.*)$", text(page), flags=re.M)
+        names = [name.strip("` ") for name in parts[1::2]]
+        here += names
+        for crate, body in zip(names, parts[2::2]):
+            if crate in known.of:
+                check_part(page, crate, body, known)
     if sorted(here) != sorted(crates()):
-        errors.append("%s: its parts aren't the crates of crates.txt: %s" % (PROVED, here))
-    for crate, body in zip(here, parts[2::2]):
-        if crate in known.of:
-            check_part(crate, body, known)
-
-
-def check_crates():
-    here = crates()
-    for page, pattern in [("docs/ARCHITECTURE.md", r"^\| \d+ \| `(viz_\w+)` \| stands \|")]:
-        rows = re.findall(pattern, text(page), re.M)
-        if sorted(rows) != sorted(here):
-            errors.append("%s: its lines are not those of crates.txt: %s" % (page, sorted(rows)))
+        wrong = sorted(it for it in set(here) | crates() if here.count(it) != (it in crates()))
+        errors.append("%s: their parts aren't the crates of crates.txt: %s"
+                      % (" and ".join(PROVED), wrong))
 
 
 def shown(wanted, which):
@@ -225,8 +252,9 @@ def check_kit():
 known = Clauses()
 for page in PAGES:
     check_names(page, known)
+    check_anchors(page)
+check_cited()
 check_proved(known)
-check_crates()
 check_example()
 check_contour()
 check_scripts()

@@ -8,12 +8,12 @@ ghost use Rattle.std.specs.List.{list_all};
 use viz_base::Bytes;
 use viz_lex::Lexer;
 
-/// What a command does with an image.
+/// What a command does with a dataset.
 #[derive(Clone, Copy, PartialEq, Eq, Debug)]
 pub enum Filter {
-    /// Keeps the values from `lo` to `hi`, and makes every other 0.
+    /// Keeps the values of an image from `lo` to `hi`, and makes every other 0.
     Threshold { lo: i64, hi: i64 },
-    /// Cuts the image where its values are `level`.
+    /// Cuts the image or the mesh where its values are `level`.
     Contour { level: i64 },
 }
 

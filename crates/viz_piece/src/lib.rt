@@ -1,8 +1,9 @@
-//! Requests for parts of datasets, parts, and why a filter has no result.
+//! Requests for parts of datasets, parts, and why a section has no result.
 //!
 //! Contract: the types, and what a part of a sheet is seen as: a sheet and the ghost level of each
-//! cell. `WorkStop` is the answer of every filter that has no result. Definitions:
-//! `specs/Parts.antt`.
+//! cell; `stitch` puts one part without ghost cells together to the whole. `WorkStop` is the answer
+//! of a section, or of a contour, that has no result. Definitions: `specs/Parts.antt`,
+//! `specs/Stitching.antt`.
 #![tactic(auto)]
 
 mod levels;

@@ -1,4 +1,4 @@
-//! Why a filter has no result.
+//! Why a section has no result.
 ghost use Rattle.std.specs.Prelude.{◌≡◌};
 ghost use Rattle.viz_piece.specs.declared.stop.WorkStop.TheVariants.{TooWide as Wide, Memory};
 
@@ -6,7 +6,7 @@ use std::alloc::{AllocError, AllocFailed};
 use thiserror::Error;
 use viz_fraction::TooWide;
 
-/// Why a filter has no result.
+/// Why a section or a contour has no result.
 #[derive(Debug, Drop, Error)]
 pub enum WorkStop {
     /// A term, a value or a crossing in some cell is wide.

@@ -1,8 +1,8 @@
 //! The commands of the program, from their words to the status.
 //!
 //! Contract: what a run did, put and answered is what its command says: `specs/Runs.antt`, by the
-//! accounts of the three kinds of command. The rules are those of docs/FORMATS.md, "Words of a
-//! command" and "Report".
+//! account of each kind of command. The rules are those of docs/FORMATS.md, "Words of a command"
+//! and "Report".
 #![tactic(auto)]
 
 mod command;
