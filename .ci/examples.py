@@ -205,4 +205,5 @@ def main():
     print("examples: %d lines of three pages put what the pages say" % count)
 
 
-main()
+if __name__ == "__main__":
+    main()
