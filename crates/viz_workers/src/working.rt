@@ -1,0 +1,74 @@
+//! What a worker does.
+
+ghost use Rattle.std.specs.Prelude.{◌≡◌, ◌+◌, ◌^◌, ◌<◌, IfOk, vec_len};
+ghost use Rattle.viz_workers.specs.Level.{EachTask, AreItems};
+ghost use Rattle.viz_workers.specs.Steps.Sharing.{AreDone};
+
+use crate::job::Job;
+use std::alloc::{AllocError, Global};
+use std::sync::atomic::{AtomicU64, Ordering};
+use viz_base::Gate;
+
+/// An item, and the index of its task within the level.
+#[derive(Drop)]
+pub struct Done<X> {
+    pub index: u64,
+    pub item: X,
+}
+
+/// Enters the gate, and does one task.
+pub fn enter_and_work<J: Job, G: Gate>(job: &J, task: u64, gate: &G) -> J::Item
+    requires asked { J.may job.now task }
+    ensures item { J.has job.now task result }
+{
+    gate.enter(task);
+    job.work(task)
+}
+
+/// The items of a level, whose tasks are done one after the other.
+pub fn one_by_one<J: Job, G: Gate>(
+    alloc: Global,
+    job: &J,
+    first: u64,
+    count: u64,
+    gate: &G,
+) -> Result<Vec<J::Item>, AllocError>
+    requires room { first + count < 2 ^ 64 }
+    requires asked { EachTask (J.may job.now) first count }
+    ensures len { IfOk result (λ items. vec_len items ≡ count) }
+    ensures each { IfOk result (λ items. AreItems (J.has job.now) first items.items) }
+{
+    let mut items = Vec::with_capacity(alloc, count as usize)?;
+    for index in 0..count {
+        items.push(enter_and_work(job, first + index, gate))?;
+    }
+    Ok(items)
+}
+
+/// What one worker does: it takes the task that is next for all of them, until none is left.
+///
+/// `next` is a plain counter, of which proofs know nothing. That no task is left out or done twice
+/// needs no proof: each item has its index beside it, and `gather` does what is missing.
+pub fn done_tasks<J: Job, G: Gate>(
+    alloc: Global,
+    job: &J,
+    first: u64,
+    count: u64,
+    next: &AtomicU64,
+    gate: &G,
+) -> Result<Vec<Done<J::Item>>, AllocError>
+    requires room { first + count < 2 ^ 64 }
+    requires asked { EachTask (J.may job.now) first count }
+    ensures done { AreDone (J.has job.now) first count result }
+{
+    let mut done = Vec::new(alloc);
+    for _ in 0..count {
+        let index = next.fetch_add(1, Ordering::SeqCst);
+        if index >= count {
+            break;
+        }
+        let item = enter_and_work(job, first + index, gate);
+        done.push(Done { index, item })?;
+    }
+    Ok(done)
+}
