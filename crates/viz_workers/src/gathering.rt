@@ -1,11 +1,12 @@
 //! How what the workers hand in is put in order.
 
-ghost use Rattle.std.specs.Prelude.{◌≡◌, ◌+◌, ◌^◌, ◌<◌, All, IfOk, IfSome, length, vec_len};
+ghost use Rattle.std.specs.Prelude.{◌≡◌, ◌+◌, ◌^◌, ◌<◌, All, IfOk, IfSome};
+ghost use Rattle.std.specs.Prelude.{length, vec_len};
 ghost use Rattle.viz_workers.specs.Level.{EachTask, AreItems};
 ghost use Rattle.viz_workers.specs.Steps.Sharing.{IsDone, AreDone, AreFound};
 
 use crate::job::Job;
-use crate::working::{Done, enter_and_work};
+use crate::working::{Done, Share, enter_and_work};
 use std::alloc::{AllocError, Global};
 use viz_base::Gate;
 
@@ -37,78 +38,78 @@ fn put<J: Job>(_job: &J, first: u64, found: &mut [Option<J::Item>], done: Done<J
 }
 
 // Puts the items of one worker.
-fn put_all<J: Job>(job: &J, first: u64, found: &mut [Option<J::Item>], mut part: Vec<Done<J::Item>>)
-    requires part { All (IsDone (J.has job.now) first (length found.old)) part.items }
+fn put_all<J: Job>(
+    job: &J,
+    first: u64,
+    found: &mut [Option<J::Item>],
+    mut share: Vec<Done<J::Item>>,
+)
+    requires share { All (IsDone (J.has job.now) first (length found.old)) share.items }
     requires found { AreFound (J.has job.now) first found.old }
     ensures found { AreFound (J.has job.now) first found.new }
     ensures len { length found.new ≡ length found.old }
 {
-    for _ in 0..part.len() {
-        if let Some(done) = part.pop() {
+    for _ in 0..share.len() {
+        if let Some(done) = share.pop() {
             put(job, first, found, done);
         }
     }
 }
 
 // Puts what one worker handed in.
-fn put_part<J: Job>(
+fn put_share<J: Job>(
     job: &J,
     first: u64,
     count: u64,
     found: &mut [Option<J::Item>],
-    part: Result<Vec<Done<J::Item>>, AllocError>,
+    share: Share<J::Item>,
 ) -> Result<(), AllocError>
     requires len { length found.old ≡ count }
-    requires part { AreDone (J.has job.now) first count part }
+    requires share { AreDone (J.has job.now) first count share }
     requires found { AreFound (J.has job.now) first found.old }
     ensures found { AreFound (J.has job.now) first found.new }
     ensures len { length found.new ≡ count }
 {
-    match part {
-        Ok(part) => {
-            put_all(job, first, found, part);
-            Ok(())
-        }
-        Err(refused) => Err(refused),
-    }
+    put_all(job, first, found, share?);
+    Ok(())
 }
 
 // What the last of the workers that are left handed in.
-fn last_part<J: Job>(
+fn last_share<J: Job>(
     _job: &J,
     first: u64,
     count: u64,
-    parts: &mut Vec<Result<Vec<Done<J::Item>>, AllocError>>,
-) -> Result<Vec<Done<J::Item>>, AllocError>
-    requires some { 0 < vec_len parts.old }
-    requires parts { All (AreDone (J.has _job.now) first count) parts.old.items }
-    ensures part { AreDone (J.has _job.now) first count result }
-    ensures parts { All (AreDone (J.has _job.now) first count) parts.new.items }
-    ensures len { vec_len parts.new + 1 ≡ vec_len parts.old }
+    shares: &mut Vec<Share<J::Item>>,
+) -> Share<J::Item>
+    requires some { 0 < vec_len shares.old }
+    requires shares { All (AreDone (J.has _job.now) first count) shares.old.items }
+    ensures share { AreDone (J.has _job.now) first count result }
+    ensures shares { All (AreDone (J.has _job.now) first count) shares.new.items }
+    ensures len { vec_len shares.new + 1 ≡ vec_len shares.old }
 {
-    match parts.pop() {
-        Some(part) => part,
+    match shares.pop() {
+        Some(share) => share,
         None => Err(AllocError),
     }
 }
 
 // Puts what all workers handed in.
-fn put_parts<J: Job>(
+fn put_shares<J: Job>(
     job: &J,
     first: u64,
     count: u64,
     found: &mut [Option<J::Item>],
-    mut parts: Vec<Result<Vec<Done<J::Item>>, AllocError>>,
+    mut shares: Vec<Share<J::Item>>,
 ) -> Result<(), AllocError>
     requires len { length found.old ≡ count }
-    requires parts { All (AreDone (J.has job.now) first count) parts.items }
+    requires shares { All (AreDone (J.has job.now) first count) shares.items }
     requires found { AreFound (J.has job.now) first found.old }
     ensures found { AreFound (J.has job.now) first found.new }
     ensures len { length found.new ≡ count }
 {
-    for _ in 0..parts.len() {
-        let part = last_part(job, first, count, &mut parts);
-        put_part(job, first, count, found, part)?;
+    for _ in 0..shares.len() {
+        let share = last_share(job, first, count, &mut shares);
+        put_share(job, first, count, found, share)?;
     }
     Ok(())
 }
@@ -172,16 +173,16 @@ pub fn gather<J: Job, G: Gate>(
     first: u64,
     count: u64,
     gate: &G,
-    parts: Vec<Result<Vec<Done<J::Item>>, AllocError>>,
+    shares: Vec<Share<J::Item>>,
 ) -> Result<Vec<J::Item>, AllocError>
     requires room { first + count < 2 ^ 64 }
     requires asked { EachTask (J.may job.now) first count }
-    requires parts { All (AreDone (J.has job.now) first count) parts.items }
+    requires shares { All (AreDone (J.has job.now) first count) shares.items }
     ensures len { IfOk result (λ items. vec_len items ≡ count) }
     ensures each { IfOk result (λ items. AreItems (J.has job.now) first items.items) }
 {
     let mut found = none_found(alloc, job, first, count)?;
     let row = found.as_mut_slice();
-    put_parts(job, first, count, row, parts)?;
+    put_shares(job, first, count, row, shares)?;
     all_items(alloc, job, first, count, gate, row)
 }

@@ -16,6 +16,9 @@ pub struct Done<X> {
     pub item: X,
 }
 
+/// What one worker hands in: the tasks that it did, unless memory ran out.
+pub type Share<X> = Result<Vec<Done<X>>, AllocError>;
+
 /// Enters the gate, and does one task.
 pub fn enter_and_work<J: Job, G: Gate>(job: &J, task: u64, gate: &G) -> J::Item
     requires asked { J.may job.now task }
@@ -56,7 +59,7 @@ pub fn done_tasks<J: Job, G: Gate>(
     count: u64,
     next: &AtomicU64,
     gate: &G,
-) -> Result<Vec<Done<J::Item>>, AllocError>
+) -> Share<J::Item>
     requires room { first + count < 2 ^ 64 }
     requires asked { EachTask (J.may job.now) first count }
     ensures done { AreDone (J.has job.now) first count result }

@@ -8,8 +8,9 @@ IsDone has first count done = (done.index < count) × has (first + done.index) d
 
 -- what a worker handed in, unless memory ran out
 abbrev pub AreDone : {X A E : Type 0} → (ℕ → X → Type 0) → ℕ → ℕ → Result (Vec (Done X) A) E → Type 0
-AreDone has first count part = IfOk part (λ done. All (IsDone has first count) done.items)
+AreDone has first count share = IfOk share (λ done. All (IsDone has first count) done.items)
 
 -- where an item is found, it is one of its task
 abbrev pub AreFound : {X : Type 0} → (ℕ → X → Type 0) → ℕ → List (Option X) → Type 0
-AreFound has first found = (k : ℕ) (d : _) → k < length found → IfSome (slice_index_or found k d) (has (first + k))
+AreFound has first found =
+    (k : ℕ) (d : _) → k < length found → IfSome (slice_index_or found k d) (has (first + k))
