@@ -6,7 +6,7 @@ ghost use Rattle.viz_workers.specs.Steps.Sharing.{AreDone};
 
 use crate::gathering::gather;
 use crate::job::Job;
-use crate::working::{Share, done_tasks, one_by_one};
+use crate::working::{Share, one_by_one, share_of};
 use std::alloc::{AllocError, Global};
 use std::sync::atomic::AtomicU64;
 use std::thread;
@@ -46,7 +46,7 @@ pub fn run_level<R: Threads + Sync, J: Job, G: Gate + Sync>(
         &move |_: usize| -> Share<J::Item>
             requires { (first + count < 2 ^ 64) × EachTask (J.may job.now) first count }
             ensures { AreDone (J.has job.entry.now) first count result }
-        { done_tasks(alloc, job, first, count, next, gate) },
+        { share_of(alloc, job, first, count, next, gate) },
     )?;
     gather(alloc, job, first, count, gate, shares)
 }

@@ -1,8 +1,8 @@
 //! What a worker does.
 
-ghost use Rattle.std.specs.Prelude.{◌≡◌, ◌+◌, ◌^◌, ◌<◌, IfOk, vec_len};
+ghost use Rattle.std.specs.Prelude.{◌≡◌, ◌+◌, ◌^◌, ◌<◌, IfOk, IfSome, vec_len};
 ghost use Rattle.viz_workers.specs.Level.{EachTask, AreItems};
-ghost use Rattle.viz_workers.specs.Steps.Sharing.{AreDone};
+ghost use Rattle.viz_workers.specs.Steps.Sharing.{IsDone, AreDone};
 
 use crate::job::Job;
 use std::alloc::{AllocError, Global};
@@ -48,11 +48,31 @@ pub fn one_by_one<J: Job, G: Gate>(
     Ok(items)
 }
 
-/// What one worker does: it takes the task that is next for all of them, until none is left.
-///
-/// `next` is a plain counter, of which proofs know nothing. That no task is left out or done twice
-/// needs no proof: each item has its index beside it, and `gather` does what is missing.
-pub fn done_tasks<J: Job, G: Gate>(
+// Takes the task that is next for all workers, and does it; there is none where none is left.
+//
+// `next` is a plain counter, of which proofs know nothing. That no task is left out or done twice
+// needs no proof: an item has its index beside it, and `gather` does what is missing.
+fn next_done<J: Job, G: Gate>(
+    job: &J,
+    first: u64,
+    count: u64,
+    next: &AtomicU64,
+    gate: &G,
+) -> Option<Done<J::Item>>
+    requires room { first + count < 2 ^ 64 }
+    requires asked { EachTask (J.may job.now) first count }
+    ensures done { IfSome result (IsDone (J.has job.now) first count) }
+{
+    let index = next.fetch_add(1, Ordering::SeqCst);
+    if index >= count {
+        return None;
+    }
+    let item = enter_and_work(job, first + index, gate);
+    Some(Done { index, item })
+}
+
+/// What one worker does: the next task, and again, until none is left.
+pub fn share_of<J: Job, G: Gate>(
     alloc: Global,
     job: &J,
     first: u64,
@@ -64,14 +84,12 @@ pub fn done_tasks<J: Job, G: Gate>(
     requires asked { EachTask (J.may job.now) first count }
     ensures done { AreDone (J.has job.now) first count result }
 {
-    let mut done = Vec::new(alloc);
+    let mut share = Vec::new(alloc);
     for _ in 0..count {
-        let index = next.fetch_add(1, Ordering::SeqCst);
-        if index >= count {
+        let Some(done) = next_done(job, first, count, next, gate) else {
             break;
-        }
-        let item = enter_and_work(job, first + index, gate);
-        done.push(Done { index, item })?;
+        };
+        share.push(done)?;
     }
-    Ok(done)
+    Ok(share)
 }
