@@ -111,6 +111,24 @@ def places(processors):
     return max(1, min(processors, free // ROOM))
 
 
+class Pace:
+    """How long the proofs took, and by that how long those that are left will take."""
+
+    def __init__(self, libraries, most):
+        self.libraries, self.most, self.seconds, self.lines = libraries, most, 0.0, 0
+
+    def add(self, name, seconds):
+        self.seconds += seconds
+        self.lines += self.libraries.work[name]
+
+    def left(self, done):
+        """The minutes that are left: of the longest chain, or of all by as many as run at a time."""
+        left = [it for it in self.libraries.lines if it not in done]
+        lines = max([sum(map(self.libraries.work.get, left)) / self.most,
+                     *map(self.libraries.chain, left)])
+        return round(lines * self.seconds / max(self.lines, 1) / 60)
+
+
 def tell(name, status, seconds, share):
     """One line where it is proved, else the end of its log."""
     if status == 0:
@@ -128,7 +146,7 @@ def main():
     shutil.rmtree(os.path.join(OUT, "lanes"), ignore_errors=True)
     os.makedirs(OUT, exist_ok=True)
     print("Proving %d libraries, up to %d at a time." % (len(libraries.lines), most), flush=True)
-    done, running, failed = set(), {}, False
+    done, running, failed, pace = set(), {}, False, Pace(libraries, most)
     with ThreadPoolExecutor(most) as pool:
         while True:
             ready = [it for it in libraries.lines if it not in done and it not in running.values()
@@ -143,7 +161,9 @@ def main():
                 name, (status, seconds) = running.pop(it), it.result()
                 done |= {name} if status == 0 else set()
                 failed = failed or status != 0
-                tell(name, status, seconds, "%d of %d" % (len(done), len(libraries.lines)))
+                pace.add(name, seconds)
+                tell(name, status, seconds, "%d of %d, about %d minutes left"
+                     % (len(done), len(libraries.lines), pace.left(done)))
     if len(done) < len(libraries.lines):
         sys.exit("Not all libraries are proved.")
 
