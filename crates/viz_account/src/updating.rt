@@ -1,6 +1,7 @@
 //! An update: a node's file is written.
 
-ghost use Rattle.std.specs.Prelude.{◌≡◌, IfSome};
+ghost use Rattle.std.specs.Prelude.{◌≡◌, ◌↔◌, IfSome, IsSome};
+ghost use Rattle.std.specs.Str.{IsUtf8};
 ghost use Rattle.viz_account.specs.Answers.{line_of, at_of};
 ghost use Rattle.viz_account.specs.Served.{Updates};
 
@@ -10,9 +11,10 @@ use std::alloc::Global;
 use viz_base::{Port, Word, WriteRefusal};
 use viz_network::Net;
 
-/// The name of a file as a port takes it; None where it is no text.
+/// The name of a file as a port takes it; None where it is no text. It takes no memory.
 pub fn file_name(file: &Word) -> Option<&str>
-    ensures { IfSome result (λ name. name.now ≡ file.now) }
+    ensures value { IfSome result (λ name. name.now ≡ file.now) }
+    ensures some { IsSome result ↔ IsUtf8 file.now }
 {
     std::str::from_utf8(file.bytes()).ok()
 }

@@ -23,7 +23,7 @@ use Rattle.viz_script.specs.Orders.{Asked, seen, load, update, audit}
 use Rattle.viz_report.specs.declared.line.Line.{Line}
 use Rattle.viz_report.specs.declared.line.Line.TheVariants as line
 use Rattle.viz_report.specs.declared.line.Reason.TheVariants as reason
-use Rattle.viz_account.specs.Lines.{TellsUpdate, TellsAudit}
+use Rattle.viz_account.specs.Lines.{TellsUpdate, TellsAudit, Tells}
 use Rattle.viz_account.specs.Account.{edited, least, places_from, places, AreTold, faults_told, RoseBy}
 use Rattle.viz_account.specs.Served.{Extends, Updates, Serves, ServesAll}
 use Rattle.viz_account.proofs.AccountLemmas.{rose_none, served_none, served_one, served_append}
@@ -192,6 +192,17 @@ module _ {P : Type 0} (m : port.Ghosts P) (p : Known Entry) (h : List Entry) (on
         gained = (at, Read file (read.TooLong taken) ∷ [], calls, (refl, (taken, refl)), omega (arith, is, t.2), omega (arith, is));
         faults = faults;
       }
+
+-- a command for which memory was wanting before anything was done
+pub serves_nothing : {P : Type 0} (m : port.Ghosts P) (limit pass : ℕ) (o : Asked) (h : List Entry) (q : P)
+    → Tells limit h (pass ∷ []) (length h) o line.Memory [] → Serves m limit pass o line.Memory h h q q
+serves_nothing m limit pass o h q told =
+    record {
+      further = ([], sym (append-nil h));
+      own = sym (append-nil (places (pass ∷ []) h));
+      gained = (length h, [], (λ tells. sym (append-nil (m.calls q))), told, omega arith, omega arith);
+      faults = rose_none (m.faults q);
+    }
 
 -- ---- commands of an actor among steps
 

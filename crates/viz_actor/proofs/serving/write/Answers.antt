@@ -1,10 +1,14 @@
-use Rattle.std.proofs.Common.{◌≡◌, length, sym, subst, ap, rules}
+use Rattle.std.proofs.Common.{◌≡◌, length, refl, sym, subst, ap, rules}
 use Rattle.viz_script.specs.Orders.{update}
 use Rattle.viz_account.specs.Served.{Serves, Updates}
 use Rattle.viz_account.specs.Answers.{line_of}
 use Rattle.viz_core.specs.History.{network_of}
-use Rattle.viz_actor.proofs.ServeLemmas.{serves_update}
+use Rattle.viz_actor.proofs.ServeLemmas.{serves_update, serves_nothing}
 use Rattle.viz_actor.proofs.serving.write.Goals as goal
+
+pub returns-in_default-clause-serves : goal.returns-in_default-clause-serves
+returns-in_default-clause-serves g c =
+    serves_nothing g.P.Port c.args.hub.now.mark c.args.pass.number (update c.args.node.now c.args.file.now c.args.shape.now.pieces c.args.shape.now.workers) c.args.pass.seen c.args.port.now refl
 
 pub returns-clause-serves : goal.returns-clause-serves
 returns-clause-serves g c =
