@@ -4,7 +4,7 @@ use viz_base::{NodeId, Shared};
 use viz_piece::{Part, Request};
 
 /// What a part is kept under. Parts of one key are equal wherever the node has this stamp.
-#[derive(Clone, Copy, PartialEq, Eq, Debug)]
+#[derive(Clone, Copy, PartialEq, Eq, Hash, Debug)]
 pub struct Key {
     pub node: NodeId,
     /// The greatest position of an edit that stamped a node of the cone.

@@ -15,7 +15,7 @@ const MOST_POINTS: u128 = (1 << 31) - 1;
 ///
 /// A lower bound is at most its upper one, each bound is below 2^31, and there are at most 2^31 - 1
 /// points (docs/FORMATS.md, "Extents"). Contracts see the six bounds.
-#[derive(Clone, Copy, PartialEq, Eq, Debug)]
+#[derive(Clone, Copy, PartialEq, Eq, Hash, Debug)]
 pub struct Extent {
     x0: u32,
     x1: u32,

@@ -5,7 +5,7 @@ use viz_dataset::Image;
 use viz_extent::Extent;
 
 /// What a consumer asks for.
-#[derive(Clone, Copy, Debug, PartialEq, Eq)]
+#[derive(Clone, Copy, Debug, PartialEq, Eq, Hash)]
 pub enum Request {
     /// The points of an image with indices in this extent.
     Block(Extent),
