@@ -1,3 +1,4 @@
 pub mod NumberingLemmas
 pub mod PartLemmas
+pub mod SlabLemmas
 pub mod StandardFacts

@@ -1,10 +1,10 @@
 -- Parts of an extent: their points, and that they are extents.
-use Rattle.std.proofs.Common.{◌≡◌, ℕ, ◌+◌, ◌-◌, ◌*◌, ◌/◌, ◌%◌, ◌^◌, ◌<◌, ◌≤◌, ◌↔◌, List, ap, inl, inr, arith}
+use Rattle.std.proofs.Common.{◌≡◌, ℕ, ◌+◌, ◌-◌, ◌*◌, ◌/◌, ◌%◌, ◌<◌, ◌≤◌, ◌↔◌, List, ap, inl, inr, arith}
 use Rattle.std.specs.Prelude.{slice_index, min, max}
 use Rattle.std.proofs.lemmas.Bool.{cases_lt}
 use Rattle.std.proofs.lemmas.Nat.{mul-le, le-div, div-add-mod', mod_below}
 use Rattle.viz_extent.specs.Extent.{Bounds, numbers_of, size_of, size_x, size_y, size_z, plane_size, count_of, IsAxis, IsExtent, IsOnAxis, Has}
-use Rattle.viz_extent.specs.Parts.{IsAxisPart, IsPart, HasAll, Rate, IsAxisRate, IsRate, first_kept, sampled, HasSampled, spread, AreNear, HasGrown, grown}
+use Rattle.viz_extent.specs.Parts.{IsPart, HasAll, Rate, IsRate, first_kept, sampled, HasSampled, spread, AreNear, HasGrown, grown}
 
 -- each number is the bound at its place
 pub record AreRead (numbers : List ℕ) (b : Bounds) : Type 0 where

@@ -1,3 +1,4 @@
 pub mod Extent
 pub mod Numbering
 pub mod Parts
+pub mod Slabs

@@ -1,5 +1,4 @@
 use Rattle.std.proofs.Common.{refl, arith}
-use Rattle.viz_extent.specs.Extent.{bounds_of}
 use Rattle.viz_extent.proofs.PartLemmas.{numbers-read, part_extent}
 use Rattle.viz_extent.proofs.bounds.Extent.clip.Goals as goal
 
