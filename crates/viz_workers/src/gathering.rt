@@ -10,7 +10,7 @@ use crate::working::{Done, Share, enter_and_work};
 use std::alloc::{AllocError, Global};
 use viz_base::Gate;
 
-// For each task that no item is found yet.
+// For each task, that no item is found yet.
 fn none_found<J: Job>(
     alloc: Global,
     _job: &J,

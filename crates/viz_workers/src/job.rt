@@ -2,10 +2,11 @@
 
 ghost use Rattle.std.specs.Prelude.{ℕ};
 
-/// Tasks by their numbers, each with an item. Workers share it by reference, so what a task reads
-/// is the same for all of them.
+/// Tasks by their numbers, which workers do beside each other: they share the job by reference.
+///
+/// An item that can't be made is an item too, as its cause; a level goes on behind it.
 pub trait Job: Sync {
-    /// What a task makes, such as a part, a text, or the cause why there is none.
+    /// What a task makes.
     type Item: Send + Drop;
 
     /// Which tasks may be asked for.

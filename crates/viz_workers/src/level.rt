@@ -18,6 +18,7 @@ use viz_base::Gate;
 /// Each task enters the gate and is then done, by whichever worker is free. The caller is one of
 /// the workers, the others are threads of this call; there are never more than tasks, so a single
 /// task or a single worker makes no thread. Where no thread can be had the caller does the work.
+/// Want of memory is the only refusal.
 pub fn run_level<R: Threads + Sync, J: Job, G: Gate + Sync>(
     rt: &R,
     alloc: Global,

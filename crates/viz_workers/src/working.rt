@@ -50,8 +50,9 @@ pub fn one_by_one<J: Job, G: Gate>(
 
 // Takes the task that is next for all workers, and does it; there is none where none is left.
 //
-// `next` is a plain counter, of which proofs know nothing. That no task is left out or done twice
-// needs no proof: an item has its index beside it, and `gather` does what is missing.
+// `next` is a plain counter, of which proofs know nothing. For the items it doesn't matter whether
+// each index is taken, and once: an item has its index beside it, and `gather` does what is
+// missing.
 fn next_done<J: Job, G: Gate>(
     job: &J,
     first: u64,
