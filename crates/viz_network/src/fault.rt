@@ -8,7 +8,7 @@ use thiserror::Error;
 use viz_base::NodeId;
 use viz_lex::FileFault;
 
-/// Why a node gives nothing. The numbers that a report gives are those of this order, from 1 on.
+/// Why a node gives nothing. A report gives the word of the variant.
 #[derive(Clone, Copy, PartialEq, Eq, Debug)]
 pub enum Cause {
     /// Nothing is connected to the port.

@@ -5,8 +5,8 @@ ghost use Rattle.std.specs.Prelude.{◌≡◌};
 use std::alloc::{AllocError, AllocFailed};
 use thiserror::Error;
 
-/// Why an edit is refused. The numbers that a report gives are those of this order, from 1 on; for
-/// one edit they are asked in the order of docs/FORMATS.md, "Edits".
+/// Why an edit is refused. A report gives the word of the variant; for one edit they are asked in
+/// the order of docs/FORMATS.md, "Edits".
 #[derive(Clone, Copy, PartialEq, Eq, Debug, Error)]
 pub enum Refusal {
     /// Exactly where the name of an Add is taken.
