@@ -31,8 +31,8 @@ pub fn trimmed_keep_parts()
     ensures { TrimmedKeepParts }
 {}
 
-/// What each filter asks of a part and of the whole holds of what it makes, so that the next one can
-/// follow.
+/// What each filter asks of a part and of the whole holds of what it makes, so that the next one
+/// can follow.
 pub fn filters_chain()
     ensures selection { SelectionsChain }
     ensures boundary { BoundariesChain }
@@ -42,8 +42,8 @@ pub fn filters_chain()
     ensures levels { PartsHaveLevels }
 {}
 
-/// Own positions of all pieces in turn are all positions, of a sheet that is shared out in turn, and
-/// of what a filter makes where they are of its input.
+/// Own positions of all pieces in turn are all positions, of a sheet that is shared out in turn,
+/// and of what a filter makes where they are of its input.
 pub fn owns_hand_on()
     ensures shares { SharesAreAll }
     ensures made { OwnsHandOn }
