@@ -1,9 +1,8 @@
 //! A part of two vertices, by hand.
 
-use crate::{Part, PartSheet, Request, stitch};
+use crate::{Part, PartSheet, Request, covers};
 use std::alloc::Global;
 use std::test::Fail;
-use viz_dataset::Dataset;
 use viz_extent::Extent;
 use viz_fraction::point;
 use viz_sheet::{Leaves, Places, Ranks, Sheet, are_cells, sheet_of};
@@ -50,28 +49,6 @@ fn each_cell_has_its_level(rt: HostRuntime) -> Result<(), Fail> {
     Ok(())
 }
 
-// The dataset of one part of a mesh: this sheet, as own cells.
-fn stitched(alloc: Global, sheet: Sheet) -> Result<Dataset, Fail> {
-    let mut sheets = Vec::new(alloc);
-    sheets.push(PartSheet::own(sheet))?;
-    let mut parts = Vec::new(alloc);
-    parts.push(Part::Mesh(sheets))?;
-    Ok(stitch(alloc, parts)?)
-}
-
-#[test]
-fn one_part_is_the_whole(rt: HostRuntime) -> Result<(), Fail> {
-    let alloc = rt.alloc();
-    let Dataset::Mesh(mesh) = stitched(alloc, vertices(alloc)?)? else {
-        return Err("a mesh")?;
-    };
-    assert_eq!(rt; mesh.sheets().len(), 1);
-    for sheet in mesh.sheets() {
-        assert_eq!(rt; (sheet.cell_count(), sheet.point_count()), (2, 2));
-    }
-    Ok(())
-}
-
 #[test]
 fn requests_differ_in_each_number(rt: HostRuntime) -> Result<(), Fail> {
     let asked = Request::Piece {
@@ -96,5 +73,65 @@ fn requests_differ_in_each_number(rt: HostRuntime) -> Result<(), Fail> {
     };
     assert!(rt; asked != Request::Block(whole));
     assert!(rt; Request::Block(whole) == Request::Block(whole));
+    Ok(())
+}
+
+// Piece `p` of `n` with ghost levels, and whether it covers another.
+fn piece_covers(kept: (u32, u32, u32), wanted: (u32, u32, u32)) -> bool {
+    let (p, n, ghosts) = kept;
+    let (q, m, fewer) = wanted;
+    covers(
+        &Request::Piece { p, n, ghosts },
+        &Request::Piece {
+            p: q,
+            n: m,
+            ghosts: fewer,
+        },
+    )
+}
+
+#[test]
+fn a_piece_covers_itself_with_fewer_ghosts(rt: HostRuntime) {
+    for (kept, wanted, want) in [
+        ((1, 3, 1), (1, 3, 1), true),
+        ((1, 3, 1), (1, 3, 0), true),
+        ((1, 3, 1), (1, 3, 2), false),
+        // Another piece, and the same number of another count.
+        ((1, 3, 1), (2, 3, 0), false),
+        ((1, 3, 1), (1, 2, 0), false),
+        ((0, 2, 1), (0, 1, 0), false),
+        // The only piece covers all, whatever its ghosts.
+        ((0, 1, 0), (0, 1, 5), true),
+        ((0, 1, 0), (6, 7, 3), true),
+        // Pieces of more than one that begin the mesh don't.
+        ((0, 2, 9), (1, 2, 0), false),
+    ] {
+        assert_eq!(rt; piece_covers(kept, wanted), want, "{kept:?} {wanted:?}");
+    }
+}
+
+#[test]
+fn a_block_covers_each_block_in_it(rt: HostRuntime) -> Result<(), Fail> {
+    let kept = Extent::new([0, 4, 0, 4, 2, 6]).ok_or("an extent")?;
+    for (bounds, want) in [
+        ([0, 4, 0, 4, 2, 6], true),
+        ([1, 2, 0, 0, 3, 3], true),
+        ([0, 4, 0, 4, 1, 6], false),
+        ([0, 5, 0, 4, 2, 6], false),
+    ] {
+        let wanted = Extent::new(bounds).ok_or("an extent")?;
+        assert_eq!(rt;
+            covers(&Request::Block(kept), &Request::Block(wanted)),
+            want,
+            "{bounds:?}"
+        );
+    }
+    let whole = Request::Piece {
+        p: 0,
+        n: 1,
+        ghosts: 0,
+    };
+    assert!(rt; !covers(&whole, &Request::Block(kept)));
+    assert!(rt; !covers(&Request::Block(kept), &whole));
     Ok(())
 }

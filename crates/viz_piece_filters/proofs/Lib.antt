@@ -1,0 +1,9 @@
+pub mod PartLemmas
+pub mod MadeLemmas
+pub mod SelectedLemmas
+pub mod SectionLemmas
+pub mod CutLemmas
+pub mod BoundaryLemmas
+pub mod ChainLemmas
+pub mod OwnLemmas
+pub mod GrowthLemmas

@@ -1,0 +1,4 @@
+pub mod Cells
+pub mod Layers
+pub mod Pieces
+pub mod Sheets

@@ -1,0 +1,13 @@
+pub mod ListLemmas
+pub mod NameLemmas
+pub mod PutLemmas
+pub mod RankLemmas
+pub mod UnionLemmas
+pub mod WalkLemmas
+pub mod JoinLemmas
+pub mod SheetLemmas
+pub mod WholeLemmas
+pub mod ColumnLemmas
+pub mod MeshLemmas
+pub mod ImageLemmas
+pub mod KindLemmas

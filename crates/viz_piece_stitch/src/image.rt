@@ -1,0 +1,161 @@
+//! An image, put together of all its slabs.
+
+ghost use Rattle.std.specs.Prelude.{◌≡◌, ◌<◌, ◌-◌, ◌++◌, All, IfOk, flat_map, length, map};
+ghost use Rattle.viz_extent.specs.Extent.{IsExtent};
+ghost use Rattle.viz_piece.specs.Stitching.{AreSlabsOf};
+ghost use Rattle.viz_piece_stitch.specs.Steps.Slabs.{HasKind, IsImageAt, IsPicture, spanned, values_in};
+ghost use Rattle.viz_piece_stitch.specs.Steps.Wholes.{AreSlabs};
+
+use std::alloc::{AllocError, Global};
+use viz_column::{Column, Lent, Number};
+use viz_dataset::Image;
+use viz_extent::Extent;
+use viz_piece::Part;
+
+/// The image of which these are all slabs that there are, in turn. The only one is taken over as it
+/// stands.
+pub(crate) fn stitched_image(alloc: Global, parts: Vec<Part>) -> Result<Image, AllocError>
+    requires { AreSlabs parts.items }
+    ensures { IfOk result (λ image. (whole : _) → AreSlabsOf whole parts.items → image ≡ whole) }
+{
+    if parts.len() == 1 {
+        return Ok(only_image(parts));
+    }
+    let image = joined_image(alloc, &parts)?;
+    Ok(image)
+}
+
+/// The image of its only slab.
+fn only_image(parts: Vec<Part>) -> Image
+    requires one { length parts.items ≡ 1 }
+    requires images { All IsPicture parts.items }
+    ensures { (whole : _) → AreSlabsOf whole parts.items → result ≡ whole }
+{
+    let mut parts = parts;
+    match parts.pop() {
+        Some(Part::Image(image)) => image,
+        _ => unreachable!(),
+    }
+}
+
+/// The image of several slabs.
+fn joined_image(alloc: Global, parts: &[Part]) -> Result<Image, AllocError>
+    requires { AreSlabs parts.now }
+    ensures { IfOk result (λ image. (whole : _) → AreSlabsOf whole parts.now → image ≡ whole) }
+{
+    let first = first_image(parts);
+    let extent = joined_extent(first, last_image(parts));
+    let column = joined_column(alloc, first.column(), parts)?;
+    Ok(Image::new(extent, first.origin(), first.spacing(), column))
+}
+
+/// The image of the first part.
+fn first_image(parts: &[Part]) -> &Image
+    requires some { 0 < length parts.now }
+    requires images { All IsPicture parts.now }
+    ensures { IsImageAt parts.now 0 result.now }
+{
+    match parts.first() {
+        Some(Part::Image(image)) => image,
+        _ => unreachable!(),
+    }
+}
+
+/// The image of the last part.
+fn last_image(parts: &[Part]) -> &Image
+    requires some { 0 < length parts.now }
+    requires images { All IsPicture parts.now }
+    ensures { IsImageAt parts.now (length parts.now - 1) result.now }
+{
+    match parts.last() {
+        Some(Part::Image(image)) => image,
+        _ => unreachable!(),
+    }
+}
+
+/// The extent from the lowest plane of the first image to the highest of the last.
+fn joined_extent(first: &Image, last: &Image) -> Extent
+    requires { IsExtent (spanned first.now.extent last.now.extent) }
+    ensures { result ≡ spanned first.now.extent last.now.extent }
+{
+    let [x0, x1, y0, y1, z0, _] = first.extent().bounds();
+    let [_, _, _, _, _, z1] = last.extent().bounds();
+    match Extent::new([x0, x1, y0, y1, z0, z1]) {
+        Some(extent) => extent,
+        None => unreachable!(),
+    }
+}
+
+/// The numbers of all parts, one after the other, of the type of these.
+fn joined_column(alloc: Global, like: &Column, parts: &[Part]) -> Result<Column, AllocError>
+    requires { All (HasKind like.now.kind) parts.now }
+    ensures { IfOk result (λ c.
+        c ≡ record { kind = like.now.kind; items = flat_map values_in parts.now }) }
+{
+    match like.slice() {
+        Lent::I8(_) => column_of::<i8>(alloc, parts),
+        Lent::U8(_) => column_of::<u8>(alloc, parts),
+        Lent::I16(_) => column_of::<i16>(alloc, parts),
+        Lent::U16(_) => column_of::<u16>(alloc, parts),
+        Lent::I32(_) => column_of::<i32>(alloc, parts),
+        Lent::U32(_) => column_of::<u32>(alloc, parts),
+        Lent::I64(_) => column_of::<i64>(alloc, parts),
+        Lent::U64(_) => column_of::<u64>(alloc, parts),
+    }
+}
+
+/// The same of one type.
+fn column_of<T: Number>(alloc: Global, parts: &[Part]) -> Result<Column, AllocError>
+    requires { All (HasKind T.kind) parts.now }
+    ensures { IfOk result (λ c.
+        c ≡ record { kind = T.kind; items = flat_map values_in parts.now }) }
+{
+    Ok(Column::of(joined_numbers::<T>(alloc, parts)?))
+}
+
+/// The numbers of all parts, one after the other.
+fn joined_numbers<T: Number>(alloc: Global, parts: &[Part]) -> Result<Vec<T>, AllocError>
+    requires { All (HasKind T.kind) parts.now }
+    ensures { IfOk result (λ v. map T.value v.items ≡ flat_map values_in parts.now) }
+{
+    let mut numbers = Vec::with_capacity(alloc, number_count(parts))?;
+    for part in parts {
+        add_numbers(&mut numbers, part)?;
+    }
+    Ok(numbers)
+}
+
+/// How many numbers the parts have in all; room is taken for so many.
+fn number_count(parts: &[Part]) -> usize {
+    let mut count: usize = 0;
+    for part in parts {
+        if let Part::Image(image) = part {
+            count = count.saturating_add(image.column().len() as usize);
+        }
+    }
+    count
+}
+
+/// Adds the numbers of a part.
+fn add_numbers<T: Number>(numbers: &mut Vec<T>, part: &Part) -> Result<(), AllocError>
+    requires { HasKind T.kind part.now }
+    ensures { IfOk result (λ _.
+        map T.value numbers.new.items ≡ map T.value numbers.old.items ++ values_in part.now) }
+{
+    match part {
+        Part::Image(image) => add_column(numbers, image.column()),
+        Part::Mesh(_) => unreachable!(),
+    }
+}
+
+/// Adds the numbers of a column.
+fn add_column<T: Number>(numbers: &mut Vec<T>, column: &Column) -> Result<(), AllocError>
+    requires { column.now.kind ≡ T.kind }
+    ensures { IfOk result (λ _.
+        map T.value numbers.new.items ≡ map T.value numbers.old.items ++ column.now.items) }
+{
+    match column.numbers::<T>() {
+        Some(more) => numbers.extend_from_slice(more),
+        None => unreachable!(),
+    }
+}

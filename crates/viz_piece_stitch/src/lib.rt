@@ -1,0 +1,23 @@
+//! All parts of a dataset put together: slabs of an image, pieces of a mesh with ghost cells.
+//!
+//! Contract: `stitch` of all parts of a dataset is the dataset. Ghost cells are dropped, points of
+//! several pieces stand once, and the only part is taken over as it stands. Definitions: `AreAllOf`
+//! of viz_piece.
+#![tactic(auto)]
+
+mod cell;
+mod cells;
+mod columns;
+mod image;
+mod joining;
+mod mesh;
+mod names;
+mod places;
+mod points;
+mod ranks;
+mod sheet;
+mod stitching;
+mod union;
+mod walk;
+
+pub use stitching::stitch;

@@ -1,0 +1,29 @@
+//! One sheet, put together of its parts.
+
+ghost use Rattle.std.specs.Prelude.{All, IfOk};
+ghost use Rattle.viz_sheet.specs.Sheet.{IsSheet};
+ghost use Rattle.viz_piece_stitch.specs.Steps.Columns.{IsJoinedSheet};
+
+use crate::cells::no_cells;
+use crate::joining::{Joined, with_parts};
+use crate::names::all_names;
+use crate::places::some_points;
+use std::alloc::{AllocError, Global};
+use viz_piece::PartSheet;
+use viz_sheet::{Sheet, sheet_of};
+
+/// The own cells of all parts, in order, with the points of their names. A part is given up as soon
+/// as it is joined.
+pub(crate) fn joined_sheet(alloc: Global, parts: Vec<PartSheet>) -> Result<Sheet, AllocError>
+    requires sheets { All (λ p. IsSheet p.sheet) parts.items }
+    ensures { IfOk result (IsJoinedSheet parts.items) }
+{
+    let names = all_names(alloc, &parts)?;
+    let places = some_points(alloc, names.len(), &parts)?;
+    let ranks = no_cells(alloc, &parts)?;
+    let joined = with_parts(alloc, &names, Joined { places, ranks }, parts)?;
+    let Joined { places, ranks } = joined;
+    let sheet = sheet_of(alloc, names, places, ranks)?;
+    sheet.known();
+    Ok(sheet)
+}
