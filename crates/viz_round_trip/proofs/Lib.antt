@@ -17,3 +17,15 @@ pub mod MovedLemmas
 pub mod ImageStanding
 pub mod OnlyLemmas
 pub mod PointLemmas
+pub mod FrontLemmas
+pub mod SectionStanding
+pub mod PointStanding
+pub mod GridStanding
+pub mod PolyStanding
+pub mod MeshHeads
+pub mod IndexLemmas
+pub mod PieceLemmas
+pub mod MeshTexts
+pub mod MeshStanding
+pub mod AgainLemmas
+pub mod MeshOnly

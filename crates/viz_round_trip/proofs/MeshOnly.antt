@@ -13,9 +13,9 @@ use Rattle.viz_legacy_read.proofs.FileLaws.{decides-file}
 use Rattle.viz_sheet.specs.Sheet.{SheetData}
 use Rattle.viz_mesh_write.specs.Cells.{points_of}
 use Rattle.viz_mesh_write.specs.MeshText.{mesh_text}
-use Rattle.viz_mesh_trip.specs.MeshTrip.{AreWritable, written_again}
-use Rattle.viz_mesh_trip.proofs.AgainLemmas.{read_is-written}
-use Rattle.viz_mesh_trip.proofs.MeshStanding.{reads-again}
+use Rattle.viz_round_trip.specs.MeshTrip.{AreWritable, written_again}
+use Rattle.viz_round_trip.proofs.AgainLemmas.{read_is-written}
+use Rattle.viz_round_trip.proofs.MeshStanding.{reads-again}
 
 one_answer : (unit : ℕ) → IsDefinite (file First unit)
 one_answer unit = IsDefinite-decided (file First unit) (file_at First unit) (decides-file First unit)

@@ -28,7 +28,7 @@ use Rattle.viz_round_trip.proofs.NumberStanding.{stands-number}
 use Rattle.viz_round_trip.proofs.SizeStanding.{stands-count}
 use Rattle.viz_round_trip.proofs.ValueStanding.{kind_wide}
 use Rattle.viz_round_trip.proofs.BlockStanding.{stands-line_end, stands-block}
-use Rattle.viz_mesh_trip.proofs.FrontLemmas.{IsInFront, AreInFront, front-split, gap_of, start_of, block-front}
+use Rattle.viz_round_trip.proofs.FrontLemmas.{IsInFront, AreInFront, front-split, gap_of, start_of, block-front}
 
 -- ---- numbers
 

@@ -1,5 +1,5 @@
-//! What is written is read again. A law is a function that does nothing: its contract holds of the
-//! definitions alone.
+//! Meshes that are written are read again. A law is a function that does nothing: its contract
+//! holds of the definitions alone.
 
 ghost use Rattle.std.specs.Prelude.{◌≡◌, ◌≢◌, ◌≤◌, ℕ, Bool, List, [], All, length, Some};
 ghost use Rattle.viz_base.specs.declared.node.Pick.TheVariants.{First, Zero};
@@ -12,7 +12,7 @@ ghost use Rattle.viz_legacy_read.specs.Reading.{Reads, Stops};
 ghost use Rattle.viz_mesh_read.specs.Grid.{points_of_type};
 ghost use Rattle.viz_mesh_write.specs.Cells.{points_of};
 ghost use Rattle.viz_mesh_write.specs.MeshText.{mesh_text, type_of};
-ghost use Rattle.viz_mesh_trip.specs.MeshTrip.{AreWritable, read_of, written_again, empty_mesh};
+ghost use Rattle.viz_round_trip.specs.MeshTrip.{AreWritable, read_of, written_again, empty_mesh};
 ghost use Rattle.viz_sheet.specs.Sheet.{SheetData, IsSheet};
 
 /// The text of a mesh that has a point, in ASCII or in BINARY, is read as the written points and

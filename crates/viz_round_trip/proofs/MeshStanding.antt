@@ -39,16 +39,16 @@ use Rattle.viz_round_trip.proofs.StandingLemmas.{Stands, stands-gives, stands-fo
 use Rattle.viz_round_trip.proofs.WordStanding.{blank-one}
 use Rattle.viz_round_trip.proofs.ArrayStanding as array
 use Rattle.viz_round_trip.proofs.AttributeStanding.{parts_text as data_text, stands-attributes}
-use Rattle.viz_mesh_trip.specs.MeshTrip.{AreWritable, points_in_file, scalars_in_file, by_kinds, in_order, read_of, empty_mesh}
-use Rattle.viz_mesh_trip.proofs.FrontLemmas.{gap-blank, gap-some}
-use Rattle.viz_mesh_trip.proofs.SectionStanding.{HasSize, type_row, types_gap, cells_gap, size_long}
-use Rattle.viz_mesh_trip.proofs.PointStanding.{numbers_of_points, points_behind}
-use Rattle.viz_mesh_trip.proofs.GridStanding.{grid_behind, grid_with, stands-grid}
-use Rattle.viz_mesh_trip.proofs.PolyStanding.{AreRead, kinds_of, with_data, kinds_behind, poly_with, stands-poly, stands-no_poly}
-use Rattle.viz_mesh_trip.proofs.HeadStanding.{StandsHere, given_by, grid_rule, poly_rule, stands-grid_file, stands-poly_file, stops-poly_file}
-use Rattle.viz_mesh_trip.proofs.IndexLemmas.{cells-are, no_points-no_cells, no_cells-no_points}
-use Rattle.viz_mesh_trip.proofs.PieceLemmas.{grid-pieces, poly-pieces, all-of_size}
-use Rattle.viz_mesh_trip.proofs.MeshTexts.{points_parts, section_parts, grid_parts, kinds_parts, scalars_parts}
+use Rattle.viz_round_trip.specs.MeshTrip.{AreWritable, points_in_file, scalars_in_file, by_kinds, in_order, read_of, empty_mesh}
+use Rattle.viz_round_trip.proofs.FrontLemmas.{gap-blank, gap-some}
+use Rattle.viz_round_trip.proofs.SectionStanding.{HasSize, type_row, types_gap, cells_gap, size_long}
+use Rattle.viz_round_trip.proofs.PointStanding.{numbers_of_points, points_behind}
+use Rattle.viz_round_trip.proofs.GridStanding.{grid_behind, grid_with, stands-grid}
+use Rattle.viz_round_trip.proofs.PolyStanding.{AreRead, kinds_of, with_data, kinds_behind, poly_with, stands-poly, stands-no_poly}
+use Rattle.viz_round_trip.proofs.MeshHeads.{StandsHere, given_by, grid_rule, poly_rule, stands-grid_file, stands-poly_file, stops-poly_file}
+use Rattle.viz_round_trip.proofs.IndexLemmas.{cells-are, no_points-no_cells, no_cells-no_points}
+use Rattle.viz_round_trip.proofs.PieceLemmas.{grid-pieces, poly-pieces, all-of_size}
+use Rattle.viz_round_trip.proofs.MeshTexts.{points_parts, section_parts, grid_parts, kinds_parts, scalars_parts}
 
 -- ---- numbers that fit
 

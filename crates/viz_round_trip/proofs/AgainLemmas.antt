@@ -19,9 +19,9 @@ use Rattle.viz_sheet.proofs.RankLemmas.{rank-at}
 use Rattle.viz_sheet.proofs.UsedLemmas.{marked_is}
 use Rattle.viz_mesh_write.specs.Cells.{points_of, moved, indices_in, cells_from, cells_of, of_size, has_tetrahedra}
 use Rattle.viz_mesh_write.specs.MeshText.{coordinates, scalar}
-use Rattle.viz_mesh_trip.specs.MeshTrip.{points_in_file, scalars_in_file, by_kinds, in_order, read_of, rounded, written_again}
-use Rattle.viz_mesh_trip.proofs.IndexLemmas.{cells-are}
-use Rattle.viz_mesh_trip.proofs.PieceLemmas.{all-of_size}
+use Rattle.viz_round_trip.specs.MeshTrip.{points_in_file, scalars_in_file, by_kinds, in_order, read_of, rounded, written_again}
+use Rattle.viz_round_trip.proofs.IndexLemmas.{cells-are}
+use Rattle.viz_round_trip.proofs.PieceLemmas.{all-of_size}
 
 -- ---- members of members
 

@@ -20,11 +20,11 @@ use Rattle.viz_mesh_read.specs.Poly.{ByKind, for_each, with_kind, kind_named, no
 use Rattle.viz_mesh_write.specs.MeshText.{cell_numbers, coordinates, size_of}
 use Rattle.viz_round_trip.proofs.StandingLemmas.{Stands, stands-gives, stands-follow, stands-demand, stands-beside, stands-otherwise, stands-none}
 use Rattle.viz_round_trip.proofs.WordStanding.{is_solid, word-solid, blank-one, stands-next, is_next-word, is_next-blank}
-use Rattle.viz_mesh_trip.specs.MeshTrip.{points_in_file}
-use Rattle.viz_mesh_trip.proofs.FrontLemmas.{gap-blank, gap-some}
-use Rattle.viz_mesh_trip.proofs.SectionStanding.{cells_gap, section_behind, stands-section}
-use Rattle.viz_mesh_trip.proofs.PointStanding.{numbers_of_points, points_gap, points_behind, stands-points}
-use Rattle.viz_mesh_trip.proofs.GridStanding.{key-next, stands-no_fields}
+use Rattle.viz_round_trip.specs.MeshTrip.{points_in_file}
+use Rattle.viz_round_trip.proofs.FrontLemmas.{gap-blank, gap-some}
+use Rattle.viz_round_trip.proofs.SectionStanding.{cells_gap, section_behind, stands-section}
+use Rattle.viz_round_trip.proofs.PointStanding.{numbers_of_points, points_gap, points_behind, stands-points}
+use Rattle.viz_round_trip.proofs.GridStanding.{key-next, stands-no_fields}
 
 -- ---- one section
 

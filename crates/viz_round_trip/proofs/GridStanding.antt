@@ -17,10 +17,10 @@ use Rattle.viz_mesh_read.specs.Grid.{one_field, fields, cells_keyword, cell_type
 use Rattle.viz_mesh_write.specs.MeshText.{size_of}
 use Rattle.viz_round_trip.proofs.StandingLemmas.{Stands, stands-gives, stands-follow, stands-demand, stands-none}
 use Rattle.viz_round_trip.proofs.WordStanding.{is_solid, word-solid, blank-nil, stands-next, stands-keyword, is_next-word}
-use Rattle.viz_mesh_trip.specs.MeshTrip.{points_in_file}
-use Rattle.viz_mesh_trip.proofs.FrontLemmas.{gap-blank}
-use Rattle.viz_mesh_trip.proofs.SectionStanding.{HasSize, StandTypes, cells_gap, section_behind, stands-section, types_gap, types_behind, stands-types}
-use Rattle.viz_mesh_trip.proofs.PointStanding.{numbers_of_points, points_gap, points_behind, stands-points}
+use Rattle.viz_round_trip.specs.MeshTrip.{points_in_file}
+use Rattle.viz_round_trip.proofs.FrontLemmas.{gap-blank}
+use Rattle.viz_round_trip.proofs.SectionStanding.{HasSize, StandTypes, cells_gap, section_behind, stands-section, types_gap, types_behind, stands-types}
+use Rattle.viz_round_trip.proofs.PointStanding.{numbers_of_points, points_gap, points_behind, stands-points}
 
 -- a word behind blanks, with a space behind it
 pub key-next : (r : Reading) (gap key behind : List ℕ) → IsBlank gap → is_solid key ≡ true → rest_of r ≡ gap ++ (key ++ 32 ∷ behind) → IsNextWord (rest_of r) gap key (32 ∷ behind)

@@ -9,8 +9,8 @@ use Rattle.viz_sheet.specs.Ranked.{IsCell}
 use Rattle.viz_mesh_read.specs.Pieces.{kept, vertices_of, lines_of, triangles_of, pieces_of, is_segment, is_triangle}
 use Rattle.viz_file_mesh.specs.GridPieces.{is_among, repeats_none, grid_piece, grid_pieces}
 use Rattle.viz_mesh_write.specs.Cells.{of_size}
-use Rattle.viz_mesh_trip.specs.MeshTrip.{by_kinds}
-use Rattle.viz_mesh_trip.proofs.PolyStanding.{kinds_of}
+use Rattle.viz_round_trip.specs.MeshTrip.{by_kinds}
+use Rattle.viz_round_trip.proofs.PolyStanding.{kinds_of}
 
 kept_whole : (test : Bool) (piece : List ℕ) → test ≡ true → kept test piece ≡ piece ∷ []
 kept_whole true piece e = refl

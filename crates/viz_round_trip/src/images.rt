@@ -1,5 +1,5 @@
-//! What is written is read again. A law is a function that does nothing: its contract holds of the
-//! definitions alone.
+//! Images that are written are read again. A law is a function that does nothing: its contract
+//! holds of the definitions alone.
 
 ghost use Rattle.std.specs.Prelude.{◌≡◌, ◌+◌, ℕ, Bool};
 ghost use Rattle.viz_base.specs.declared.node.Pick.TheVariants.{First};

@@ -31,9 +31,9 @@ use Rattle.viz_round_trip.proofs.NumberStanding.{stands-number}
 use Rattle.viz_round_trip.proofs.ValueStanding.{kind_wide}
 use Rattle.viz_round_trip.proofs.BlockStanding.{stands-line_end, stands-block}
 use Rattle.viz_round_trip.proofs.TypeStanding.{stands-type}
-use Rattle.viz_mesh_trip.specs.MeshTrip.{points_in_file}
-use Rattle.viz_mesh_trip.proofs.FrontLemmas.{AreInFront, gap_of, words-rows}
-use Rattle.viz_mesh_trip.proofs.SectionStanding.{stands-count_from}
+use Rattle.viz_round_trip.specs.MeshTrip.{points_in_file}
+use Rattle.viz_round_trip.proofs.FrontLemmas.{AreInFront, gap_of, words-rows}
+use Rattle.viz_round_trip.proofs.SectionStanding.{stands-count_from}
 
 -- ---- numbers in words
 

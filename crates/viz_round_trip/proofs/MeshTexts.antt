@@ -11,11 +11,11 @@ use Rattle.viz_mesh_write.specs.MeshText.{cell_numbers, size_of, coordinates, po
 use Rattle.viz_mesh_write.specs.Rows.{row_of, block_text}
 use Rattle.viz_mesh_write.specs.Cells.{of_size}
 use Rattle.viz_round_trip.proofs.AttributeStanding as attributes
-use Rattle.viz_mesh_trip.specs.MeshTrip.{scalars_in_file}
-use Rattle.viz_mesh_trip.proofs.FrontLemmas.{gap-some}
-use Rattle.viz_mesh_trip.proofs.SectionStanding.{cells_block, section_behind, type_row, types_behind}
-use Rattle.viz_mesh_trip.proofs.PointStanding.{points_behind}
-use Rattle.viz_mesh_trip.proofs.PolyStanding.{some_behind}
+use Rattle.viz_round_trip.specs.MeshTrip.{scalars_in_file}
+use Rattle.viz_round_trip.proofs.FrontLemmas.{gap-some}
+use Rattle.viz_round_trip.proofs.SectionStanding.{cells_block, section_behind, type_row, types_behind}
+use Rattle.viz_round_trip.proofs.PointStanding.{points_behind}
+use Rattle.viz_round_trip.proofs.PolyStanding.{some_behind}
 
 -- ---- points
 
