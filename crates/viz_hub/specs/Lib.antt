@@ -1,3 +1,3 @@
-pub mod Answers
 pub mod Passes
+pub mod Answers
 pub mod Steps

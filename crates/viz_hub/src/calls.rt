@@ -2,14 +2,14 @@
 
 ghost use Rattle.std.specs.Prelude.{◌≡◌, ◌<◌, ◌≤◌, [], length, IfOk, IfErr, true};
 ghost use Rattle.viz_turn.specs.Tales.{HasNoOther, once};
-ghost use Rattle.viz_turn.specs.Known.{numbers, first_pass, at_seen, elder, younger, one, IsWhole, GoesFurther, IsFresh};
-ghost use Rattle.viz_turn.specs.Passes.{known};
 ghost use Rattle.viz_core.specs.History.{by_of, network_of, IsLegal};
 ghost use Rattle.viz_hub.specs.Answers.{Answers};
-ghost use Rattle.viz_hub.specs.Passes.{Looks};
+ghost use Rattle.viz_hub.specs.Passes.{numbers, first_pass, at_seen, elder, younger, one, IsWhole, GoesFurther, IsFresh, Looks};
+ghost use Rattle.viz_hub.specs.Steps.Places.{shown};
 
 use crate::hub::{Hub, Journal, Pass, Pin};
-use crate::place::Place;
+use crate::place::{NONE, Place};
+use crate::sent::Sent;
 use crate::turns::{edit_by, front_by, join_by, pin_by, split_by};
 use std::alloc::{AllocError, Global};
 use std::sync::Wait;
@@ -19,7 +19,7 @@ use viz_network::Edit;
 use viz_turn::Turn;
 
 fn place_of(pass: Pass) -> Place
-    ensures { known result.pass ≡ pass }
+    ensures { shown result ≡ pass }
 {
     let Pass { place } = pass;
     match place {
@@ -29,7 +29,7 @@ fn place_of(pass: Pass) -> Place
 }
 
 fn pass_of(place: Place) -> Pass
-    ensures { result ≡ known place.pass }
+    ensures { result ≡ shown place }
 {
     Pass { place: Some(place) }
 }
@@ -45,7 +45,11 @@ impl Hub {
     {
         match Turn::start(alloc, Core::new(alloc, limit, capacity)?) {
             Ok((turn, pass)) => {
-                let place = Place { pass, count: 0 };
+                let place = Place {
+                    pass,
+                    count: 0,
+                    told: NONE,
+                };
                 Ok((Hub { turn }, pass_of(place)))
             }
             Err(_) => Err(AllocError),
@@ -112,7 +116,7 @@ impl Hub {
         requires belongs { pass.turn ≡ self.now }
         ensures first { result.0 ≡ elder result.1.number pass }
         ensures second { result.1 ≡ younger result.1.number pass }
-        ensures fresh { IsFresh by_of result.1.number pass }
+        ensures fresh { IsFresh result.1.number pass }
     {
         let (first, second) = split_by(&self.turn, rt, place_of(pass));
         (pass_of(first), pass_of(second))
@@ -124,8 +128,8 @@ impl Hub {
         requires kept_belongs { kept.turn ≡ self.now }
         requires ended_belongs { ended.turn ≡ self.now }
         ensures joined { result ≡ one kept ended }
-        ensures kept_further { GoesFurther by_of kept result.seen }
-        ensures ended_further { GoesFurther by_of ended result.seen }
+        ensures kept_further { GoesFurther kept result.seen }
+        ensures ended_further { GoesFurther ended result.seen }
     {
         pass_of(join_by(&self.turn, place_of(kept), place_of(ended)))
     }
@@ -135,12 +139,16 @@ impl Hub {
         requires belongs { pass.turn ≡ self }
         ensures legal { IsLegal result.entries }
         ensures within { length result.entries ≤ self.mark }
-        ensures further { GoesFurther by_of pass result.entries }
+        ensures further { GoesFurther pass result.entries }
         ensures whole { IsWhole pass → HasNoOther by_of (numbers pass) result.entries }
         ensures distinct { once (numbers pass) ≡ true }
     {
         let Hub { turn } = self;
-        let Place { pass, count: _ } = place_of(pass);
+        let Place {
+            pass,
+            count: _,
+            told: _,
+        } = place_of(pass);
         let core = turn.close(rt, pass);
         Journal {
             entries: Items::new(core.history()),
@@ -155,6 +163,26 @@ impl Pass {
     {
         match &self.place {
             Some(place) => place.pass.number(),
+            None => unreachable!(),
+        }
+    }
+
+    /// How often this pass published, modulo 2^64.
+    pub fn sent(&self) -> u64
+        ensures value { result ≡ self.now.sent }
+    {
+        match &self.place {
+            Some(place) => place.told.sent,
+            None => unreachable!(),
+        }
+    }
+
+    /// What this pass published last.
+    pub fn last(&self) -> Option<Sent>
+        ensures value { result ≡ self.now.last }
+    {
+        match &self.place {
+            Some(place) => place.told.last,
             None => unreachable!(),
         }
     }

@@ -11,10 +11,12 @@ mod calls;
 mod hub;
 mod laws;
 mod place;
+mod sent;
 mod turns;
 
 pub use hub::{Hub, Journal, Pass, Pin};
 pub use laws::{journal_is_of_joined_passes, own_gains_this_entry};
+pub use sent::Sent;
 
 #[cfg(test)]
 mod tests;

@@ -7,6 +7,7 @@ use Rattle.viz_core.specs.declared.entry.Entry.{Entry}
 use Rattle.viz_core.specs.declared.pinned.Pinned.{Pinned}
 use Rattle.viz_core.specs.History.{own_of, network_of}
 use Rattle.viz_core.specs.Machine.{State}
+use Rattle.viz_hub.specs.Passes.{PassKnown}
 
 -- the hub that a turn is of
 abbrev pub hub_of : Turn State Entry → Identity
@@ -17,6 +18,6 @@ abbrev pub count_of : Known Entry → ℕ
 count_of p = length (own_of p.number p.seen)
 
 -- the network of what the pass has seen
-pub record IsPinned (p : Known Entry) (pinned : Pinned) : Type 0 where
+pub record IsPinned (p : PassKnown) (pinned : Pinned) : Type 0 where
   pub at : pinned.at ≡ length p.seen
   pub network : pinned.net ≡ network_of p.seen
