@@ -1,17 +1,13 @@
 -- What is true of a history stays true, and is true in its network (VTK User's Guide, "The visualization pipeline": modification times).
-use Rattle.std.specs.Prelude.{◌≡◌, List, ◌++◌, Option, Ok}
+use Rattle.std.specs.Prelude.{List, ◌++◌, Ok}
 use Rattle.viz_cache.specs.declared.stored.Stored.{Stored}
 use Rattle.viz_dataset.specs.declared.dataset.Dataset.{Dataset}
 use Rattle.viz_network.specs.declared.edit.Edit.{Edit}
-use Rattle.viz_network.specs.Cone.{Tree, cone_of}
+use Rattle.viz_network.specs.Cone.{cone_of}
 use Rattle.viz_network.specs.History.{net_of}
 use Rattle.viz_network.specs.Network.{Network}
-use Rattle.viz_piece.specs.declared.request.Part.{Part}
-use Rattle.viz_piece.specs.declared.request.Request.{Request}
-use Rattle.viz_piece.specs.Pieces.{Division, IsAnswer}
-use Rattle.viz_scratch.specs.Scratch.{IsScratchOf, IsScratch}
-use Rattle.viz_kept.specs.Divided.{IsDivided}
-use Rattle.viz_kept.specs.True.{HasStamp, IsMadeIn, IsTrueIn, IsTrueOf, AreMadeIn, AreTrueIn, AreTrueOf}
+use Rattle.viz_scratch.specs.Scratch.{IsScratch}
+use Rattle.viz_kept.specs.True.{HasStamp, IsDatasetPart, IsTrueIn, AreMadeIn, AreTrueIn, AreTrueOf}
 
 -- what is true of a history is true of every longer one
 abbrev pub TrueOfLonger : Type 0
@@ -25,16 +21,10 @@ MadeIsTrue = (edits more : List Edit) (items : List Stored) → AreMadeIn (net_o
 abbrev pub TrueInNetwork : Type 0
 TrueInNetwork = (edits : List Edit) (items : List Stored) → AreTrueOf edits items → AreTrueIn (net_of edits) items
 
--- a dataset is shared out so that a part answers a request of it
-pub record IsPartOf (cone : Option Tree) (whole : Dataset) (request : Request) (part : Part) : Type 0 where
-  pub division : Division
-  pub divided : IsDivided cone whole division
-  pub answers : IsAnswer whole division request part
-
 -- a true part whose node has its stamp is a part of every dataset that the node gives
 abbrev pub TruePartAnswers : Type 0
 TruePartAnswers = (net : Network) (item : Stored) → IsTrueIn net item → HasStamp net item.key → (whole : Dataset) → IsScratch net item.key.node.0 (Ok whole)
-    → IsPartOf (cone_of net item.key.node.0) whole item.key.request item.part
+    → IsDatasetPart (cone_of net item.key.node.0) whole item.key.request item.part
 
 -- a true part whose node has its stamp is of a node that gives a dataset
 abbrev pub TruePartIsGiven : Type 0

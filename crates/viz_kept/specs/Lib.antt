@@ -2,3 +2,4 @@ pub mod True
 pub mod Divided
 pub mod Whole
 pub mod Laws
+pub mod Steps

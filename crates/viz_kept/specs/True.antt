@@ -14,13 +14,17 @@ use Rattle.viz_piece.specs.Pieces.{Division, IsAnswer}
 use Rattle.viz_scratch.specs.Scratch.{IsScratchOf}
 use Rattle.viz_kept.specs.Divided.{IsDivided}
 
--- a part answers a request of what the node at the foot of a cone gives from scratch, as that is shared out
-pub record IsNodePart (cone : Option Tree) (request : Request) (part : Part) : Type 0 where
-  pub whole : Dataset
+-- a part answers a request of a dataset of the node at the foot of a cone, as that is shared out
+pub record IsDatasetPart (cone : Option Tree) (whole : Dataset) (request : Request) (part : Part) : Type 0 where
   pub division : Division
-  pub given : IsScratchOf cone (Ok whole)
   pub divided : IsDivided cone whole division
   pub answers : IsAnswer whole division request part
+
+-- a part answers a request of the dataset that the node at the foot of a cone gives from scratch
+pub record IsNodePart (cone : Option Tree) (request : Request) (part : Part) : Type 0 where
+  pub whole : Dataset
+  pub given : IsScratchOf cone (Ok whole)
+  pub one : IsDatasetPart cone whole request part
 
 -- the node of a key is in the network, and has the key's stamp there
 abbrev pub HasStamp : Network → Key → Type 0

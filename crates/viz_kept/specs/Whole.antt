@@ -14,6 +14,6 @@ abbrev pub whole_request : Dataset → Request
 whole_request (dataset.Image image) = Block image.extent
 whole_request (dataset.Mesh sheets) = Piece 0 1 0
 
--- the part answers the request of every node that gives this dataset
+-- the part answers the request of each node that gives this dataset
 pub record IsWholePart (whole : Dataset) (request : Request) (part : Part) : Type 0 where
   pub each : (cone : Option Tree) → IsScratchOf cone (Ok whole) → IsNodePart cone request part

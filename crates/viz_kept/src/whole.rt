@@ -1,7 +1,8 @@
 //! A whole dataset as one part.
 
-ghost use Rattle.std.specs.Prelude.{◌≡◌, IfOk, IsSome};
+ghost use Rattle.std.specs.Prelude.{◌≡◌, map, IfOk, IsSome};
 ghost use Rattle.viz_network.specs.Network.{node_of};
+ghost use Rattle.viz_kept.specs.Steps.{own_part, AreSheets};
 ghost use Rattle.viz_kept.specs.True.{IsMadeIn};
 ghost use Rattle.viz_kept.specs.Whole.{IsWholePart, whole_request};
 
@@ -14,19 +15,36 @@ use viz_piece::{Part, PartSheet, Request};
 use viz_scratch::scratch;
 use viz_sheet::Sheet;
 
-// A sheet as one more part of those so far.
-fn with_own(mut parts: Vec<PartSheet>, sheet: Sheet) -> Result<Vec<PartSheet>, AllocError> {
-    parts.push(PartSheet::own(sheet))?;
-    Ok(parts)
+// Says the rule of each sheet; it does nothing.
+fn know_all(sheets: &[Sheet])
+    ensures { AreSheets sheets.now }
+{
+    for sheet in sheets {
+        sheet.known();
+    }
 }
 
 // All sheets as parts whose cells are all their own.
-fn own_parts(alloc: Global, sheets: Vec<Sheet>) -> Result<Vec<PartSheet>, AllocError> {
-    let mut parts = Vec::with_capacity(alloc, sheets.len())?;
-    for sheet in sheets {
-        parts = with_own(parts, sheet)?;
-    }
-    Ok(parts)
+fn own_parts(alloc: Global, sheets: Vec<Sheet>) -> Result<Vec<PartSheet>, AllocError>
+    ensures parts { IfOk result (λ parts. parts.items ≡ map own_part sheets.items) }
+    ensures sheets { AreSheets sheets.items }
+{
+    know_all(&sheets);
+    sheets.into_iter().map(|sheet| PartSheet::own(sheet)).collect(alloc)
+}
+
+// All sheets of a mesh as one part.
+fn whole_mesh(alloc: Global, sheets: Vec<Sheet>) -> Result<(Request, Part), AllocError>
+    ensures request { IfOk result (λ whole. whole.0 ≡ whole_request (Dataset.Mesh sheets.items)) }
+    ensures part { IfOk result (λ whole. IsWholePart (Dataset.Mesh sheets.items) whole.0 whole.1) }
+{
+    let parts = own_parts(alloc, sheets)?;
+    let request = Request::Piece {
+        p: 0,
+        n: 1,
+        ghosts: 0,
+    };
+    Ok((request, Part::Mesh(parts)))
 }
 
 /// The whole dataset as a part, with the request that it answers: the extent of an image, and the
@@ -37,15 +55,7 @@ pub fn whole_part(alloc: Global, dataset: Dataset) -> Result<(Request, Part), Al
 {
     match dataset {
         Dataset::Image(image) => Ok((Request::Block(image.extent()), Part::Image(image))),
-        Dataset::Mesh(mesh) => {
-            let parts = own_parts(alloc, mesh.into_sheets())?;
-            let request = Request::Piece {
-                p: 0,
-                n: 1,
-                ghosts: 0,
-            };
-            Ok((request, Part::Mesh(parts)))
-        }
+        Dataset::Mesh(mesh) => whole_mesh(alloc, mesh.into_sheets()),
     }
 }
 
