@@ -1,6 +1,7 @@
 //! What becomes of published parts.
 
-ghost use Rattle.std.specs.Prelude.{◌≡◌, ◌+◌, IsTrue, ◌↔◌, length};
+ghost use Rattle.std.specs.Prelude.{◌≡◌, ◌+◌, ◌-◌, ◌^◌, ◌<◌, List, [], ◌∷◌, ◌++◌, length};
+ghost use Rattle.viz_cache.specs.declared.stored.Stored.{Stored as Item};
 ghost use Rattle.viz_core.specs.Publishing.{all_brought, is_stale, TakesIn};
 
 use viz_cache::{Cache, Key, Stored};
@@ -31,6 +32,43 @@ fn finds_stale(net: &Net, item: &Stored) -> bool
     net.stamp(item.key.node) != Some(item.key.stamp)
 }
 
+// Takes a part in, and counts it.
+fn take_one(cache: &mut Cache, net: &Net, item: &Stored, count: Kept) -> Kept
+    requires few { count.kept + count.stale + count.unkept < 2 ^ 64 - 1 }
+    ensures takes { (before : List Item) (entries : List Item)
+        → TakesIn net.now cache.old.capacity before entries count cache.old.entries
+        → TakesIn net.now cache.old.capacity (before ++ item.now ∷ []) entries result
+            cache.new.entries }
+    ensures capacity { cache.new.capacity ≡ cache.old.capacity }
+    ensures count {
+        result.kept + result.stale + result.unkept ≡ count.kept + count.stale + count.unkept + 1 }
+{
+    let Kept {
+        kept,
+        stale,
+        unkept,
+    } = count;
+    if finds_stale(net, item) {
+        return Kept {
+            kept,
+            stale: stale + 1,
+            unkept,
+        };
+    }
+    match cache.put(item) {
+        Ok(()) => Kept {
+            kept: kept + 1,
+            stale,
+            unkept,
+        },
+        Err(_) => Kept {
+            kept,
+            stale,
+            unkept: unkept + 1,
+        },
+    }
+}
+
 /// Takes the parts in, one after the other: a stale one is dropped, and any other goes first.
 pub fn take_in(cache: &mut Cache, net: &Net, made: &[Stored]) -> Kept
     ensures takes {
@@ -38,19 +76,13 @@ pub fn take_in(cache: &mut Cache, net: &Net, made: &[Stored]) -> Kept
     ensures capacity { cache.new.capacity ≡ cache.old.capacity }
     ensures count { result.kept + result.stale + result.unkept ≡ length made.now }
 {
-    let (mut kept, mut stale, mut unkept) = (0, 0, 0);
+    let mut count = Kept {
+        kept: 0,
+        stale: 0,
+        unkept: 0,
+    };
     for item in made {
-        if finds_stale(net, item) {
-            stale += 1;
-        } else if cache.put(item).is_ok() {
-            kept += 1;
-        } else {
-            unkept += 1;
-        }
+        count = take_one(cache, net, item, count);
     }
-    Kept {
-        kept,
-        stale,
-        unkept,
-    }
+    count
 }
