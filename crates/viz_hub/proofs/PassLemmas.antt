@@ -1,8 +1,9 @@
 -- The entries of a pass in a history that goes further than it has seen.
-use Rattle.std.proofs.Common.{◌≡◌, ℕ, ◌+◌, ◌≤◌, Bool, true, false, not, cond, List, [], ◌∷◌, ◌++◌, length, length-append, append-nil, Option, refl, sym, ap, ◌∙◌, subst, arith}
+use Rattle.std.proofs.Common.{◌≡◌, ℕ, ◌+◌, ◌%◌, ◌^◌, ◌≤◌, Bool, true, false, not, cond, List, [], ◌∷◌, ◌++◌, length, length-append, append-nil, Option, Some, refl, sym, ap, ◌∙◌, subst, arith}
 use mathlib.Core.Option.{some}
 use lib.ListN.{get_elem?}
 use Rattle.std.proofs.lemmas.Bool.{and_parts, not-true}
+use Rattle.std.proofs.lemmas.List.{map-append}
 use Rattle.viz_turn.specs.Tales.{has, once, clear, HasNoOther}
 use Rattle.viz_turn.specs.Known.{Known}
 use Rattle.viz_turn.specs.Known as turn
@@ -10,14 +11,18 @@ use Rattle.atomic_table.proofs.Lists.{at_longer}
 use Rattle.viz_turn.proofs.ListLemmas.{has_head, has_tail}
 use Rattle.viz_turn.proofs.TaleLemmas.{entries_stay}
 use Rattle.viz_turn.proofs.LawLemmas.{one_stays, one_grows, ended_stays, no_other}
+use Rattle.viz_cache.specs.declared.stored.Stored.{Stored}
+use Rattle.viz_kept.specs.True.{AreMadeIn, AreTrueOf}
+use Rattle.viz_kept.proofs.TrueLemmas.{all_made_true}
 use Rattle.viz_network.specs.declared.edit.Edit.{Edit}
 use Rattle.viz_core.specs.declared.entry.Entry.{Entry}
 use Rattle.viz_core.specs.declared.entry.EditAnswer.{EditAnswer}
 use Rattle.viz_core.specs.declared.entry.EditAnswer.TheVariants.{Done, Refused, Full, Memory}
-use Rattle.viz_core.specs.History.{by_of, own_of}
+use Rattle.viz_core.specs.History.{by_of, own_of, edits_of, network_of}
 use Rattle.viz_hub.specs.Answers.{Answers, next_entry, gained}
 use Rattle.viz_hub.specs.declared.sent.Sent.{Sent}
 use Rattle.viz_hub.specs.Passes.{PassKnown, as_known, with_sent, numbers, GoesFurther, Looks}
+use Rattle.viz_hub.specs.Publishing.{Sends}
 use Rattle.viz_hub.specs.Steps.Turns.{count_of}
 
 -- the entries of the pass are those that it had seen
@@ -61,6 +66,20 @@ looks_more sent last p q h is on = record {
   same = ap (with_sent sent last) (is ∙ ap (turn.at_seen p) (sym (ap (λ k. k.seen) is)));
   further = subst (λ l. turn.GoesFurther by_of p l) (sym (ap (λ k. k.seen) is)) on;
 }
+
+-- and has published once more
+pub sends_more : (sent : Sent) (often : ℕ) (last : Option Sent) (next : ℕ) (p q : Known Entry) (h : List Entry) → next ≡ (often + 1) % 2 ^ 64 → q ≡ turn.at_seen p h → turn.GoesFurther by_of p h
+    → Sends sent (with_sent often last p) (with_sent next (Some sent) q)
+sends_more sent often last next p q h counts is on = record {
+  same = ap (λ n. with_sent n (Some sent) q) counts ∙ ap (with_sent ((often + 1) % 2 ^ 64) (Some sent)) (is ∙ ap (turn.at_seen p) (sym (ap (λ k. k.seen) is)));
+  further = subst (λ l. turn.GoesFurther by_of p l) (sym (ap (λ k. k.seen) is)) on;
+}
+
+-- what is made in the network of what a pass knows is true of a history that goes further
+pub made_goes_on : (p : Known Entry) (h : List Entry) (made : List Stored) → turn.GoesFurther by_of p h → AreMadeIn (network_of p.seen) made → AreTrueOf (edits_of h) made
+made_goes_on p h made on are =
+    subst (λ l. AreTrueOf (edits_of l) made) (sym on.1)
+    (subst (λ edits. AreTrueOf edits made) (sym (map-append (λ e. e.edit) p.seen on.0)) (all_made_true (edits_of p.seen) (edits_of on.0) made are))
 
 -- an answer's entries of the pass's number
 pub answers_own : (p : PassKnown) (edit : Edit) (answer : EditAnswer) (seen : List Entry) → Answers p edit answer seen → own_of p.number seen ≡ own_of p.number p.seen ++ gained p edit answer

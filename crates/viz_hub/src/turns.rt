@@ -1,16 +1,22 @@
 //! What a pass does in a turn of its own.
 
-ghost use Rattle.std.specs.Prelude.{◌≡◌, [], length, IfOk, true};
+ghost use Rattle.std.specs.Prelude.{◌≡◌, ◌+◌, [], length, count_by, IfOk, true};
 ghost use Rattle.viz_turn.specs.Tales.{once};
+ghost use Rattle.viz_kept.specs.True.{AreMadeIn};
+ghost use Rattle.viz_core.specs.History.{network_of};
+ghost use Rattle.viz_core.specs.Publishing.{is_stale};
 ghost use Rattle.viz_hub.specs.Answers.{Answers};
 ghost use Rattle.viz_hub.specs.Passes.{numbers, at_seen, elder, younger, one, GoesFurther, IsFresh, Looks};
+ghost use Rattle.viz_hub.specs.Publishing.{Sends};
 ghost use Rattle.viz_hub.specs.Steps.Places.{shown};
 ghost use Rattle.viz_hub.specs.Steps.Turns.{hub_of, IsPinned};
 
-use crate::place::{NONE, Place};
+use crate::place::{NONE, Place, Told};
+use crate::sent::Sent;
 use std::alloc::{AllocError, Global};
 use std::sync::Wait;
-use viz_core::{Core, EditAnswer, Pinned};
+use viz_cache::{Key, Stored};
+use viz_core::{Core, EditAnswer, Kept, Pinned};
 use viz_network::Edit;
 use viz_turn::Turn;
 
@@ -41,6 +47,33 @@ pub(crate) fn pin_by<R: Wait>(
     let pinned = held.state().pin(alloc);
     let pass = turn.give(held);
     (Place { pass, count, told }, pinned)
+}
+
+// The made parts stay true of all that others have added to the history.
+pub(crate) fn publish_by<R: Wait>(
+    turn: &Turn<Core>,
+    rt: &R,
+    place: Place,
+    sent: Sent,
+    used: &[Key],
+    made: &[Stored],
+) -> (Place, Kept)
+    requires belongs { (shown place).turn ≡ hub_of turn.now }
+    requires made { AreMadeIn (network_of (shown place).seen) made.now }
+    ensures sends { Sends sent (shown place) (shown result.0) }
+    ensures count { result.1.kept + result.1.stale + result.1.unkept ≡ length made.now }
+    ensures stale { result.1.stale
+        ≡ count_by (is_stale (network_of (shown result.0).seen)) made.now }
+{
+    let Place { pass, count, told } = place;
+    let mut held = turn.take(rt, pass);
+    let kept = held.state().publish(used, made);
+    let pass = turn.give(held);
+    let told = Told {
+        sent: told.sent.wrapping_add(1),
+        last: Some(sent),
+    };
+    (Place { pass, count, told }, kept)
 }
 
 pub(crate) fn edit_by<R: Wait>(
