@@ -14,9 +14,13 @@ next_entry p edit = entry p.number (next p.number p.seen) edit
 
 -- others' entries, and behind them, where the edit is accepted, the next entry of the pass; `at` entries in all
 abbrev pub Answers : PassKnown → Edit → EditAnswer → List Entry → Type 0
-Answers p edit (Done at) seen = (others : List Entry) × GoesFurther p others × (seen ≡ others ++ next_entry p edit ∷ []) × (at ≡ length seen) × (length others < p.turn.mark)
+Answers p edit (Done at) seen =
+    (others : List Entry) × GoesFurther p others × (seen ≡ others ++ next_entry p edit ∷ [])
+    × (at ≡ length seen) × (length others < p.turn.mark)
     × (apply (length others + 1) edit (network_of others) ≡ Ok (network_of seen))
-Answers p edit (Refused r at) seen = GoesFurther p seen × (at ≡ length seen) × (length seen < p.turn.mark) × (apply (length seen + 1) edit (network_of seen) ≡ Err r)
+Answers p edit (Refused r at) seen =
+    GoesFurther p seen × (at ≡ length seen) × (length seen < p.turn.mark)
+    × (apply (length seen + 1) edit (network_of seen) ≡ Err r)
 Answers p edit (Full at) seen = GoesFurther p seen × (at ≡ length seen) × (at ≡ p.turn.mark)
 Answers p edit Memory seen = GoesFurther p seen × (length seen < p.turn.mark)
 

@@ -27,7 +27,14 @@ pub record PinKnown : Type 0 where
 
 -- what it knows of the history, as a pass of a turn
 abbrev pub as_known : PassKnown → Known Entry
-as_known p = record { turn = p.turn; number = p.number; ended = p.ended; born = p.born; seen = p.seen }
+as_known p =
+    record {
+      turn = p.turn;
+      number = p.number;
+      ended = p.ended;
+      born = p.born;
+      seen = p.seen;
+    }
 
 -- a pass of a turn, which published so often and this last
 abbrev pub with_sent : ℕ → Option Sent → Known Entry → PassKnown

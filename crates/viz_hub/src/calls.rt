@@ -6,7 +6,8 @@ ghost use Rattle.viz_kept.specs.True.{AreMadeIn, AreTrueIn};
 ghost use Rattle.viz_core.specs.History.{by_of, network_of, IsLegal};
 ghost use Rattle.viz_core.specs.Publishing.{is_stale};
 ghost use Rattle.viz_hub.specs.Answers.{Answers};
-ghost use Rattle.viz_hub.specs.Passes.{numbers, first_pass, at_seen, elder, younger, one, IsWhole, GoesFurther, IsFresh, Looks};
+ghost use Rattle.viz_hub.specs.Passes.{numbers, first_pass, at_seen, elder, younger, one};
+ghost use Rattle.viz_hub.specs.Passes.{IsWhole, GoesFurther, IsFresh, Looks};
 ghost use Rattle.viz_hub.specs.Publishing.{publication, Sends};
 ghost use Rattle.viz_hub.specs.Steps.Places.{shown};
 
