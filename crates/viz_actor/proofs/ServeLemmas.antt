@@ -7,7 +7,7 @@ use Rattle.viz_base.specs.declared.call.Call.TheVariants.{Read}
 use Rattle.viz_base.specs.declared.call.ReadAnswer.TheVariants as read
 use Rattle.viz_base.specs.declared.port.Port as port
 use Rattle.viz_turn.specs.Tales.{has, clear, GoesOn}
-use Rattle.viz_turn.specs.Known.{Known, numbers, GoesFurther}
+use Rattle.viz_hub.specs.Passes.{PassKnown, numbers, GoesFurther}
 use Rattle.viz_turn.proofs.ListLemmas.{has_head, has_cons}
 use Rattle.viz_turn.proofs.TaleLemmas.{clear_sub}
 use Rattle.viz_network.specs.declared.edit.Edit.{Edit}
@@ -45,7 +45,7 @@ places_same ps old new g =
     ap (places ps) g.1 ∙ places_append_from ps 1 old g.0 ∙ ap (λ t. places ps old ++ t) (places_clear ps (1 + length old) g.0 g.2) ∙ append-nil (places ps old)
 
 -- of the pass's own number alone
-pub own_further : (p : Known Entry) (h : List Entry) → GoesFurther by_of p h → GoesOn by_of (p.number ∷ []) p.seen h
+pub own_further : (p : PassKnown) (h : List Entry) → GoesFurther p h → GoesOn by_of (p.number ∷ []) p.seen h
 own_further p h g = (
   g.0,
   g.1,
@@ -57,7 +57,7 @@ pub longer : (ps : List ℕ) (old new : List Entry) → GoesOn by_of ps old new 
 longer ps old new g = omega (arith, ap length g.1, length-append old g.0)
 
 -- a look at the history adds no entry of the pass
-pub looked : (p : Known Entry) (new : List Entry) → GoesFurther by_of p new
+pub looked : (p : PassKnown) (new : List Entry) → GoesFurther p new
     → Extends p.seen new × (places (p.number ∷ []) new ≡ places (p.number ∷ []) p.seen ++ []) × (length p.seen ≤ length new)
 looked p new g =
     let on = own_further p new g in
@@ -70,7 +70,7 @@ pub whole_network : (h : List Entry) → network_of (take (length h) h) ≡ netw
 whole_network h = ap network_of (take-all h)
 
 -- the line of an edit's answer tells it
-pub edits_told : (p : Known Entry) (e : Edit) (new : List Entry) (a : EditAnswer) → Answers p e a new → Edits p.turn.mark p.number e (edit_line a) p.seen new
+pub edits_told : (p : PassKnown) (e : Edit) (new : List Entry) (a : EditAnswer) → Answers p e a new → Edits p.turn.mark p.number e (edit_line a) p.seen new
 edits_told p e new (answer.Done n) h =
     let others = h.0 in
     let x : Entry = next_entry p e in
@@ -139,7 +139,7 @@ quiet_audit net n node (line.File at cells points ran) t = absurd t
 quiet_audit net n node line.ReadFault t = absurd t
 quiet_audit net n node line.WriteFault t = absurd t
 
-module _ {P : Type 0} (m : port.Ghosts P) (p : Known Entry) (h : List Entry) (on : GoesFurther by_of p h) where
+module _ {P : Type 0} (m : port.Ghosts P) (p : PassKnown) (h : List Entry) (on : GoesFurther p h) where
   -- an update of the network of what the pass has seen then
   pub serves_update : (node file : List ℕ) (pieces workers : ℕ) (l : Line) (before after : P) → Updates m (network_of h) (length h) node file l before after
       → Serves m p.turn.mark p.number (update node file pieces workers) l p.seen h before after

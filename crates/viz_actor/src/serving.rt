@@ -1,7 +1,7 @@
 //! Commands, one after the other.
 
 ghost use Rattle.std.specs.Prelude.{◌≡◌, ◌+◌, ◌≤◌, ◌∷◌, [], length, vec_capacity, IfOk};
-ghost use Rattle.viz_turn.specs.Known.{at_seen};
+ghost use Rattle.viz_hub.specs.Passes.{at_seen};
 ghost use Rattle.viz_network.specs.declared.edit.Edit.TheVariants as edits;
 ghost use Rattle.viz_script.specs.Orders.{seen};
 ghost use Rattle.viz_account.specs.Served.{Serves};

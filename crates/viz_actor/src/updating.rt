@@ -1,8 +1,8 @@
 //! Updates and audits of a pinned network.
 
 ghost use Rattle.std.specs.Prelude.{◌≡◌, IfSome, length};
-ghost use Rattle.viz_turn.specs.Known.{at_seen, GoesFurther};
-ghost use Rattle.viz_core.specs.History.{by_of, network_of};
+ghost use Rattle.viz_hub.specs.Passes.{at_seen, GoesFurther};
+ghost use Rattle.viz_core.specs.History.{network_of};
 ghost use Rattle.viz_account.specs.Answers.{line_of, at_of, audit_line_of, audit_at_of};
 ghost use Rattle.viz_account.specs.Laws.{IsClosedLine};
 ghost use Rattle.viz_account.specs.Lines.{TellsAudit};
@@ -62,7 +62,7 @@ pub fn update<R: Threads + Wait + Sync, P: Port, G: Gate + Sync>(
 ) -> (Pass, Answer)
     requires belongs { pass.turn ≡ hub.now }
     ensures same { result.0 ≡ at_seen pass result.0.seen }
-    ensures further { GoesFurther by_of pass result.0.seen }
+    ensures further { GoesFurther pass result.0.seen }
     ensures at { IfSome (at_of result.1) (λ n. n ≡ length result.0.seen) }
     ensures updates { Updates P.Port (network_of result.0.seen) (length result.0.seen) sink.now
         file.now (line_of result.1) port.old port.new }
@@ -90,7 +90,7 @@ pub fn audit_node<R: Threads + Wait + Sync, G: Gate + Sync>(
 ) -> (Pass, AuditAnswer)
     requires belongs { pass.turn ≡ hub.now }
     ensures same { result.0 ≡ at_seen pass result.0.seen }
-    ensures further { GoesFurther by_of pass result.0.seen }
+    ensures further { GoesFurther pass result.0.seen }
     ensures at { IfSome (audit_at_of result.1) (λ n. n ≡ length result.0.seen) }
     ensures tells { TellsAudit (network_of result.0.seen) (length result.0.seen) node.now
         (audit_line_of result.1) }

@@ -1,3 +1,4 @@
 pub mod Machine
+pub mod Publishing
 pub mod History
 pub mod Kept

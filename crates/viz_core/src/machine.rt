@@ -1,30 +1,36 @@
-//! The history with its network.
+//! The history with its network and the kept parts.
 
-ghost use Rattle.std.specs.Prelude.{◌≡◌, ◌<◌, ◌≤◌, length, IfOk, OnOk};
-ghost use Rattle.viz_core.specs.History.{network_of, next, IsLegal};
-ghost use Rattle.viz_core.specs.Machine.{IsFirst, IsPinOf, Stays, Replies};
+ghost use Rattle.std.specs.Prelude.{◌≡◌, ◌+◌, ◌<◌, ◌≤◌, length, map, IfOk, OnOk};
+ghost use Rattle.std.specs.List.{IsDistinct};
+ghost use Rattle.viz_cache.specs.Keys.{same_key};
+ghost use Rattle.viz_kept.specs.True.{AreTrueIn, AreTrueOf};
+ghost use Rattle.viz_core.specs.History.{edits_of, network_of, next, IsLegal};
+ghost use Rattle.viz_core.specs.Machine.{IsFirst, IsPinOf, Stays, Replies, Publishes};
 
 use crate::entry::{EditAnswer, Entry};
 use crate::pinned::Pinned;
+use crate::publishing::{Kept, bring_all, take_in};
 use std::alloc::{AllocError, Global};
 use std::marker::Model;
 use viz_base::Items;
+use viz_cache::{Cache, Key, Stored};
+use viz_kept::true_of_longer;
 use viz_network::{ApplyStop, Edit, Net};
 use viz_turn::Story;
 
-/// A legal history with its network. Contracts see the history, its limit, and the kept parts, of
-/// which there are none yet.
+/// A legal history with its network, and kept parts that are true of it. Contracts see the history,
+/// its limit, and the kept parts, the most recently used first.
 #[derive(Drop)]
 pub struct Core {
     history: Vec<Entry>,
     // The network of the history.
     net: Net,
     limit: u32,
-    capacity: u32,
+    cache: Cache,
 }
 
 impl Model for Core {
-    ghost use Rattle.std.specs.Prelude.{[], ◌-◌};
+    ghost use Rattle.std.specs.Prelude.{◌-◌};
     ghost use Rattle.std.specs.Vec.{vec_capacity, vec_len};
     ghost use Rattle.viz_core.specs.Machine.{State};
     ghost use Rattle.viz_core.specs.Kept.{IsKept};
@@ -34,12 +40,12 @@ impl Model for Core {
     ghost view = { λ core. record {
       history = core.history.items;
       limit = core.limit;
-      capacity = core.capacity;
-      cache = [];
+      capacity = core.cache.capacity;
+      cache = core.cache.entries;
       spare = vec_capacity core.history - vec_len core.history;
     } };
 
-    ghost invariant = { λ core. IsKept core.history.items core.limit core.net };
+    ghost invariant = { λ core. IsKept core.history.items core.limit core.net core.cache.entries };
 }
 
 impl Story for Core {
@@ -65,7 +71,7 @@ impl Core {
             history: Vec::new(alloc),
             net: Net::new(alloc),
             limit,
-            capacity,
+            cache: Cache::new(alloc, capacity)?,
         })
     }
 
@@ -108,16 +114,34 @@ impl Core {
         &self.net
     }
 
-    /// A copy of the network, with the number of entries that it is of. The bytes of its files
-    /// aren't copied.
+    /// A copy of the network, with the number of entries that it is of, and all kept parts. The bytes
+    /// of files and the parts aren't copied. `Err` is want of memory.
     pub fn pin(&self, alloc: Global) -> Result<Pinned, AllocError>
         ensures ok { IfOk result (λ pinned. IsPinOf self.now pinned) }
+        ensures true_of { IfOk result (λ pinned. AreTrueOf (edits_of self.now.history) pinned.entries) }
+        ensures true_in { IfOk result (λ pinned. AreTrueIn pinned.net pinned.entries) }
+        ensures distinct { IfOk result (λ pinned. IsDistinct same_key (map (λ e. e.key) pinned.entries)) }
+        ensures within { IfOk result (λ pinned. length pinned.entries ≤ self.now.capacity) }
     {
+        true_of_longer();
         Ok(Pinned {
             at: self.history.len() as u32,
             net: self.net.copy()?,
-            entries: Items::new(Vec::new(alloc)),
+            entries: Items::new(self.cache.entries(alloc)?),
         })
+    }
+
+    /// Takes made parts in: brings the parts that were used to the front, in their order, and then
+    /// puts the made ones in front, in theirs. A part whose node is gone or was stamped since is
+    /// stale, and isn't kept; one that memory has no room for is dropped. Parts are shared, and aren't
+    /// copied.
+    pub fn publish(&mut self, used: &[Key], made: &[Stored]) -> Kept
+        requires made { AreTrueOf (edits_of self.old.history) made.now }
+        ensures publishes { Publishes used.now made.now self.old result self.new }
+        ensures count { result.kept + result.stale + result.unkept ≡ length made.now }
+    {
+        bring_all(&mut self.cache, used);
+        take_in(&mut self.cache, &self.net, made)
     }
 
     /// The number of entries.
@@ -139,7 +163,7 @@ impl Core {
             history,
             net: _,
             limit: _,
-            capacity: _,
+            cache: _,
         } = self;
         history
     }

@@ -10,6 +10,6 @@ use viz_network::Net;
 pub struct Pinned {
     pub at: u32,
     pub net: Net,
-    /// None are kept yet.
+    /// The most recently used first.
     pub entries: Items<Stored>,
 }

@@ -1,3 +1,4 @@
-pub mod Answers
 pub mod Passes
+pub mod Answers
+pub mod Publishing
 pub mod Steps

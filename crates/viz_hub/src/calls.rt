@@ -1,25 +1,30 @@
 //! The calls on a hub.
 
-ghost use Rattle.std.specs.Prelude.{◌≡◌, ◌<◌, ◌≤◌, [], length, IfOk, IfErr, true};
+ghost use Rattle.std.specs.Prelude.{◌≡◌, ◌+◌, ◌<◌, ◌≤◌, [], length, count_by, IfOk, IfErr, true};
 ghost use Rattle.viz_turn.specs.Tales.{HasNoOther, once};
-ghost use Rattle.viz_turn.specs.Known.{numbers, first_pass, at_seen, elder, younger, one, IsWhole, GoesFurther, IsFresh};
-ghost use Rattle.viz_turn.specs.Passes.{known};
+ghost use Rattle.viz_kept.specs.True.{AreMadeIn, AreTrueIn};
 ghost use Rattle.viz_core.specs.History.{by_of, network_of, IsLegal};
+ghost use Rattle.viz_core.specs.Publishing.{is_stale};
 ghost use Rattle.viz_hub.specs.Answers.{Answers};
-ghost use Rattle.viz_hub.specs.Passes.{Looks};
+ghost use Rattle.viz_hub.specs.Passes.{numbers, first_pass, at_seen, elder, younger, one};
+ghost use Rattle.viz_hub.specs.Passes.{IsWhole, GoesFurther, IsFresh, Looks};
+ghost use Rattle.viz_hub.specs.Publishing.{publication, Sends};
+ghost use Rattle.viz_hub.specs.Steps.Places.{shown};
 
 use crate::hub::{Hub, Journal, Pass, Pin};
-use crate::place::Place;
-use crate::turns::{edit_by, front_by, join_by, pin_by, split_by};
+use crate::place::{NONE, Place};
+use crate::sent::Sent;
+use crate::turns::{edit_by, front_by, join_by, pin_by, publish_by, split_by};
 use std::alloc::{AllocError, Global};
 use std::sync::Wait;
-use viz_base::Items;
-use viz_core::{Core, EditAnswer, Pinned};
+use viz_base::{Items, NodeId, Shape};
+use viz_cache::{Key, Stored};
+use viz_core::{Core, EditAnswer, Kept, Pinned};
 use viz_network::Edit;
 use viz_turn::Turn;
 
 fn place_of(pass: Pass) -> Place
-    ensures { known result.pass ≡ pass }
+    ensures { shown result ≡ pass }
 {
     let Pass { place } = pass;
     match place {
@@ -29,7 +34,7 @@ fn place_of(pass: Pass) -> Place
 }
 
 fn pass_of(place: Place) -> Pass
-    ensures { result ≡ known place.pass }
+    ensures { result ≡ shown place }
 {
     Pass { place: Some(place) }
 }
@@ -45,7 +50,11 @@ impl Hub {
     {
         match Turn::start(alloc, Core::new(alloc, limit, capacity)?) {
             Ok((turn, pass)) => {
-                let place = Place { pass, count: 0 };
+                let place = Place {
+                    pass,
+                    count: 0,
+                    told: NONE,
+                };
                 Ok((Hub { turn }, pass_of(place)))
             }
             Err(_) => Err(AllocError),
@@ -82,11 +91,12 @@ impl Hub {
         at
     }
 
-    /// The network of the whole history, all of which the pass then has seen. `Err` is want of
-    /// memory, and hands the pass back.
+    /// The network of the whole history, all of which the pass then has seen, and all kept parts.
+    /// `Err` is want of memory, and hands the pass back.
     pub fn pin<R: Wait>(&self, rt: &R, alloc: Global, pass: Pass) -> Result<Pin, Pass>
         requires belongs { pass.turn ≡ self.now }
         ensures ok { IfOk result (λ pin. Looks pass pin.pass) }
+        ensures true_in { IfOk result (λ pin. AreTrueIn (network_of pin.pass.seen) pin.entries) }
         ensures err { IfErr result (λ back. Looks pass back) }
     {
         let (place, pinned) = pin_by(&self.turn, rt, alloc, place_of(pass));
@@ -95,6 +105,36 @@ impl Hub {
             Ok(pinned) => Ok(Pin { pass, pinned }),
             Err(_) => Err(pass),
         }
+    }
+
+    /// Hands in the parts that were made for a node in the network of the pin, and the keys of the
+    /// kept ones that were used, and gives the pass back. The parts are shared, and aren't copied.
+    /// The history stays as it is. Of the made parts some are kept, those are stale whose node is
+    /// gone or was stamped since, and for the others memory lacked.
+    pub fn publish<R: Wait>(
+        &self,
+        rt: &R,
+        pin: Pin,
+        sink: NodeId,
+        shape: &Shape,
+        used: &[Key],
+        made: &[Stored],
+    ) -> (Pass, Kept)
+        requires belongs { pin.pass.turn ≡ self.now }
+        requires made { AreMadeIn (network_of pin.pass.seen) made.now }
+        ensures sends { Sends (publication pin.pass.seen sink shape.now) pin.pass result.0 }
+        ensures count { result.1.kept + result.1.stale + result.1.unkept ≡ length made.now }
+        ensures stale { result.1.stale
+            ≡ count_by (is_stale (network_of result.0.seen)) made.now }
+    {
+        let Pin { pass, pinned } = pin;
+        let sent = Sent {
+            at: pinned.at,
+            sink,
+            shape: *shape,
+        };
+        let (place, kept) = publish_by(&self.turn, rt, place_of(pass), sent, used, made);
+        (pass_of(place), kept)
     }
 
     /// Gives the pass of a pin back, and lets its network go.
@@ -112,7 +152,7 @@ impl Hub {
         requires belongs { pass.turn ≡ self.now }
         ensures first { result.0 ≡ elder result.1.number pass }
         ensures second { result.1 ≡ younger result.1.number pass }
-        ensures fresh { IsFresh by_of result.1.number pass }
+        ensures fresh { IsFresh result.1.number pass }
     {
         let (first, second) = split_by(&self.turn, rt, place_of(pass));
         (pass_of(first), pass_of(second))
@@ -124,8 +164,8 @@ impl Hub {
         requires kept_belongs { kept.turn ≡ self.now }
         requires ended_belongs { ended.turn ≡ self.now }
         ensures joined { result ≡ one kept ended }
-        ensures kept_further { GoesFurther by_of kept result.seen }
-        ensures ended_further { GoesFurther by_of ended result.seen }
+        ensures kept_further { GoesFurther kept result.seen }
+        ensures ended_further { GoesFurther ended result.seen }
     {
         pass_of(join_by(&self.turn, place_of(kept), place_of(ended)))
     }
@@ -135,12 +175,16 @@ impl Hub {
         requires belongs { pass.turn ≡ self }
         ensures legal { IsLegal result.entries }
         ensures within { length result.entries ≤ self.mark }
-        ensures further { GoesFurther by_of pass result.entries }
+        ensures further { GoesFurther pass result.entries }
         ensures whole { IsWhole pass → HasNoOther by_of (numbers pass) result.entries }
         ensures distinct { once (numbers pass) ≡ true }
     {
         let Hub { turn } = self;
-        let Place { pass, count: _ } = place_of(pass);
+        let Place {
+            pass,
+            count: _,
+            told: _,
+        } = place_of(pass);
         let core = turn.close(rt, pass);
         Journal {
             entries: Items::new(core.history()),
@@ -158,14 +202,35 @@ impl Pass {
             None => unreachable!(),
         }
     }
+
+    /// How often this pass published, modulo 2^64.
+    pub fn sent(&self) -> u64
+        ensures value { result ≡ self.now.sent }
+    {
+        match &self.place {
+            Some(place) => place.told.sent,
+            None => unreachable!(),
+        }
+    }
+
+    /// What this pass published last.
+    pub fn last(&self) -> Option<Sent>
+        ensures value { result ≡ self.now.last }
+    {
+        match &self.place {
+            Some(place) => place.told.last,
+            None => unreachable!(),
+        }
+    }
 }
 
 impl Pin {
-    /// The network of what the pass has seen, and the number of its entries.
+    /// The network of what the pass has seen, the number of its entries, and the kept parts.
     pub fn pinned(&self) -> &Pinned
         ensures at { result.now.at ≡ length self.now.pass.seen }
         ensures network { result.now.net ≡ network_of self.now.pass.seen }
         ensures entries { result.now.entries ≡ self.now.entries }
+        ensures true_in { AreTrueIn (network_of self.now.pass.seen) result.now.entries }
     {
         &self.pinned
     }

@@ -22,8 +22,8 @@ impl Model for Hub {
     ghost view = { λ hub. hub_of hub.turn };
 }
 
-/// What one caller knows of the history. It may go to another thread. Others go on without a pass
-/// that was dropped, but no pass is whole any more that would need it.
+/// What one caller knows of the history, and what it published. It may go to another thread. Others
+/// go on without a pass that was dropped, but no pass is whole any more that would need it.
 #[derive(Drop)]
 pub struct Pass {
     // None only within a call.
@@ -32,11 +32,10 @@ pub struct Pass {
 
 impl Model for Pass {
     ghost use Rattle.std.specs.Prelude.{IsSome};
-    ghost use Rattle.viz_turn.specs.Known.{Known};
-    ghost use Rattle.viz_core.specs.declared.entry.Entry.{Entry as Made};
+    ghost use Rattle.viz_hub.specs.Passes.{PassKnown};
     ghost use Rattle.viz_hub.specs.Steps.Places.{known_of};
 
-    ghost Value = { Known Made };
+    ghost Value = { PassKnown };
 
     ghost view = { λ pass. known_of pass.place };
 

@@ -2,19 +2,24 @@
 //!
 //! Contract: an edit stands in the history once, behind all that its pass had seen, or is refused
 //! as the network of the history refuses it; what a pass has seen only grows, by entries of others
-//! and its own edits; a pin has the network of one prefix; a pass into which all others were joined
-//! closes with the whole history. Definitions: `specs/Answers.antt`, `specs/Passes.antt`, and those
-//! of viz_turn and viz_core that they name.
+//! and its own edits; a pin has the network of one prefix, and kept parts that are true in it; parts
+//! that are made in it are published, and the pass tells how often and what last; a pass into which
+//! all others were joined closes with the whole history. Definitions: `specs/Passes.antt`,
+//! `specs/Answers.antt`, `specs/Publishing.antt`, and those of viz_turn and viz_core that they name.
 #![tactic(auto)]
 
 mod calls;
 mod hub;
 mod laws;
 mod place;
+mod sent;
 mod turns;
 
 pub use hub::{Hub, Journal, Pass, Pin};
 pub use laws::{journal_is_of_joined_passes, own_gains_this_entry};
+pub use sent::Sent;
 
+#[cfg(test)]
+mod publish_tests;
 #[cfg(test)]
 mod tests;

@@ -23,7 +23,7 @@ struct Writer {
     count: u32,
 }
 
-fn word(text: &str) -> Result<Word, Fail> {
+pub(crate) fn word(text: &str) -> Result<Word, Fail> {
     Ok(Word::new(text.as_bytes()).ok_or("no name")?)
 }
 
@@ -50,7 +50,7 @@ fn radius_at(step: u32, index: u32) -> i64 {
     (index.wrapping_mul(step) % 9) as i64
 }
 
-fn begin(alloc: Global, limit: u32) -> Result<(Hub, Pass), AllocError>
+pub(crate) fn begin(alloc: Global, limit: u32) -> Result<(Hub, Pass), AllocError>
     requires { limit < 4294967295 }
     ensures pass { IfOk result (λ r. r.1.turn ≡ r.0) }
 {
@@ -66,7 +66,7 @@ fn edit<R: Wait>(rt: &R, hub: &Hub, pass: Pass, edit: Edit) -> (Pass, EditAnswer
     (pass, answer)
 }
 
-fn split<R: Wait>(rt: &R, hub: &Hub, pass: Pass) -> (Pass, Pass)
+pub(crate) fn split<R: Wait>(rt: &R, hub: &Hub, pass: Pass) -> (Pass, Pass)
     requires belongs { pass.turn ≡ hub.now }
     ensures first { result.0.turn ≡ hub.now }
     ensures second { result.1.turn ≡ hub.now }
@@ -74,7 +74,7 @@ fn split<R: Wait>(rt: &R, hub: &Hub, pass: Pass) -> (Pass, Pass)
     hub.split(rt, pass)
 }
 
-fn join(hub: &Hub, kept: Pass, ended: Pass) -> Pass
+pub(crate) fn join(hub: &Hub, kept: Pass, ended: Pass) -> Pass
     requires kept_belongs { kept.turn ≡ hub.now }
     requires ended_belongs { ended.turn ≡ hub.now }
     ensures pass { result.turn ≡ hub.now }
@@ -91,7 +91,7 @@ fn front<R: Wait>(rt: &R, hub: &Hub, pass: Pass) -> (Pass, u32)
     (pass, at)
 }
 
-fn pin<R: Wait>(rt: &R, alloc: Global, hub: &Hub, pass: Pass) -> Option<Pin>
+pub(crate) fn pin<R: Wait>(rt: &R, alloc: Global, hub: &Hub, pass: Pass) -> Option<Pin>
     requires belongs { pass.turn ≡ hub.now }
     ensures pin { IfSome result (λ pin. pin.pass.turn ≡ hub.now) }
 {
@@ -229,7 +229,13 @@ fn digits(entries: &[Entry]) -> u64 {
     all
 }
 
-fn wants<R: Wait + Abort>(rt: &R, hub: &Hub, pass: Pass, change: Edit, want: EditAnswer) -> Pass
+pub(crate) fn wants<R: Wait + Abort>(
+    rt: &R,
+    hub: &Hub,
+    pass: Pass,
+    change: Edit,
+    want: EditAnswer,
+) -> Pass
     requires belongs { pass.turn ≡ hub.now }
     ensures pass { result.turn ≡ hub.now }
 {

@@ -5,7 +5,8 @@ use Rattle.std.proofs.lemmas.List.Elements.{All-cons}
 use Rattle.std.proofs.Math.Seq.{drop-append_seam}
 use Rattle.viz_base.specs.declared.port.Port as port
 use Rattle.viz_turn.specs.Tales.{has, once, GoesOn}
-use Rattle.viz_turn.specs.Known.{Identity, Known, numbers, one, IsWhole, GoesFurther}
+use Rattle.viz_turn.specs.Known.{Identity}
+use Rattle.viz_hub.specs.Passes.{PassKnown, numbers, one, IsWhole, GoesFurther}
 use Rattle.viz_turn.proofs.ListLemmas.{has_left, has_right}
 use Rattle.viz_turn.proofs.TaleLemmas.{further_still, all_of_it}
 use Rattle.viz_core.specs.declared.entry.Entry.{Entry}
@@ -20,7 +21,7 @@ use Rattle.viz_phases.specs.declared.places.Place.{Place}
 use Rattle.viz_phases.specs.Places.{HasRoom, HaveRoom, work, Splits, Joins, EachServed, HasPass, without, new_rows, all_new_rows, untold, collected, IsTold, ActorsServed, counts_of, IsPhase}
 use Rattle.viz_phases.proofs.PhaseLemmas.{given, split_root, split_length, split_born, split_once, given_fresh, OneDid, Did, did}
 
-abbrev pub known_or : Known Entry → Option (Known Entry) → Known Entry
+abbrev pub known_or : PassKnown → Option PassKnown → PassKnown
 known_or d None = d
 known_or d (Some p) = p
 
@@ -35,12 +36,12 @@ module _ {P : Type 0} (m : port.Ghosts P) (limit : ℕ) (steps : List Step) wher
   did_ready hub before actor (k ∷ ks) (ls ∷ lines) (s ∷ ss) [] d = absurd d
   did_ready hub before actor (k ∷ ks) (ls ∷ lines) (s ∷ ss) (n ∷ ns) d = All-cons (HasPass hub) n ns (_, d.0.pass, refl) (did_ready hub before (actor + 1) ks lines ss ns d.1)
 
-  pub joined : (hub : Identity) (before : List Entry) (actor : ℕ) (ks : List ℕ) (lines : List (List Line)) (old new : List (Place P)) (root end : Known Entry)
+  pub joined : (hub : Identity) (before : List Entry) (actor : ℕ) (ks : List ℕ) (lines : List (List Line)) (old new : List (Place P)) (root end : PassKnown)
       → Did m limit steps hub before actor ks lines old new → Joins root new end
-      → (end.turn ≡ root.turn) × (end.number ≡ root.number) × (end.ended ≡ root.ended ++ ks) × (end.born ≡ root.born) × GoesFurther by_of root end.seen
+      → (end.turn ≡ root.turn) × (end.number ≡ root.number) × (end.ended ≡ root.ended ++ ks) × (end.born ≡ root.born) × GoesFurther root end.seen
       × ActorsServed m limit steps before end.seen actor ks lines old (map collected (map without new))
   joined hub before actor [] [] [] [] root end d j =
-      (ap (λ p. p.turn) j, ap (λ p. p.number) j, ap (λ p. p.ended) j ∙ sym (append-nil root.ended), ap (λ p. p.born) j, subst (λ (l : List Entry). GoesFurther by_of root l) (sym (ap (λ p. p.seen) j)) (all_of_it by_of (numbers root) root.seen), tt)
+      (ap (λ p. p.turn) j, ap (λ p. p.number) j, ap (λ p. p.ended) j ∙ sym (append-nil root.ended), ap (λ p. p.born) j, subst (λ (l : List Entry). GoesFurther root l) (sym (ap (λ p. p.seen) j)) (all_of_it by_of (numbers root) root.seen), tt)
   joined hub before actor [] [] [] (n ∷ ns) root end d j = absurd d
   joined hub before actor [] [] (s ∷ ss) new root end d j = absurd d
   joined hub before actor [] (ls ∷ lines) old new root end d j = absurd d
@@ -49,14 +50,14 @@ module _ {P : Type 0} (m : port.Ghosts P) (limit : ℕ) (steps : List Step) wher
   joined hub before actor (k ∷ ks) (ls ∷ lines) (s ∷ ss) [] root end d j = absurd d
   joined hub before actor (k ∷ ks) (ls ∷ lines) (s ∷ ss) (n ∷ ns) root end d j =
       let o = d.0 in
-      let q : Known Entry = record { turn = hub; number = k; ended = []; born = []; seen = o.seen } in
+      let q : PassKnown = record { turn = hub; number = k; ended = []; born = []; seen = o.seen; sent = 0; last = None } in
       let is : j.0 ≡ q = ap (known_or q) (sym j.2 ∙ o.pass) in
       let mid = j.1 in
       let mid_is : mid ≡ one root q = j.3 ∙ ap (one root) is in
       let r = joined hub before (actor + 1) ks lines ss ns mid end d.1 j.6 in
       let ended : mid.ended ≡ root.ended ++ k ∷ [] = ap (λ p. p.ended) mid_is in
       let nums : numbers mid ≡ root.number ∷ (root.ended ++ k ∷ []) = ap numbers mid_is in
-      let mine : GoesOn by_of (k ∷ []) o.seen mid.seen = subst (λ p. GoesFurther by_of p mid.seen) is j.5 in
+      let mine : GoesOn by_of (k ∷ []) o.seen mid.seen = subst (λ p. GoesFurther p mid.seen) is j.5 in
       let on : GoesOn by_of (root.number ∷ (root.ended ++ k ∷ [])) mid.seen end.seen = subst (λ ns. GoesOn by_of ns mid.seen end.seen) nums r.4 in (
         r.0 ∙ ap (λ p. p.turn) mid_is,
         r.1 ∙ ap (λ p. p.number) mid_is,
@@ -114,7 +115,7 @@ module _ {P : Type 0} (m : port.Ghosts P) (limit : ℕ) (steps : List Step) wher
 
   -- ---- the whole
 
-  pub phase_done : (root r end : Known Entry) (old mid new : List (Place P)) (rows now : List Row) → HaveRoom steps 1 old → Splits 1 root old mid r → EachServed m limit steps mid new → length new ≡ length mid
+  pub phase_done : (root r end : PassKnown) (old mid new : List (Place P)) (rows now : List Row) → HaveRoom steps 1 old → Splits 1 root old mid r → EachServed m limit steps mid new → length new ≡ length mid
       → Joins r new end → now ≡ rows ++ all_new_rows (map without new) → IsPhase m limit steps root old rows (map collected (map without new)) now end
   phase_done root r end old mid new rows now room h each len j told =
       let s = split_root 1 root old mid r h in

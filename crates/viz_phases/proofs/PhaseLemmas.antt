@@ -6,7 +6,8 @@ use Rattle.std.proofs.lemmas.List.Elements.{All-cons}
 use Rattle.std.proofs.lemmas.Bool.{false_from_ne_true}
 use Rattle.viz_base.specs.declared.port.Port as port
 use Rattle.viz_turn.specs.Tales.{has, once, clear}
-use Rattle.viz_turn.specs.Known.{Identity, Known, numbers, at_seen, elder, younger, IsFresh}
+use Rattle.viz_turn.specs.Known.{Identity}
+use Rattle.viz_hub.specs.Passes.{PassKnown, numbers, at_seen, elder, younger, IsFresh}
 use Rattle.viz_turn.proofs.ListLemmas.{has_head, has_tail, has_cons, once_cons}
 use Rattle.viz_core.specs.declared.entry.Entry.{Entry}
 use Rattle.viz_core.specs.History.{by_of}
@@ -19,26 +20,26 @@ use Rattle.viz_phases.specs.Places.{HasRoom, HaveRoom, with_pass, Splits, IsRead
 
 module _ {P : Type 0} where
   -- the numbers that were given
-  abbrev pub given : (actor : ℕ) (root : Known Entry) (old mid : List (Place P)) (new : Known Entry) → Splits actor root old mid new → List ℕ
+  abbrev pub given : (actor : ℕ) (root : PassKnown) (old mid : List (Place P)) (new : PassKnown) → Splits actor root old mid new → List ℕ
   given actor root [] [] new h = []
   given actor root [] (t ∷ ts) new h = []
   given actor root (s ∷ ss) [] new h = []
   given actor root (s ∷ ss) (t ∷ ts) new h = h.0 ∷ given (actor + 1) (elder h.0 root) ss ts new h.3
 
-  pub split_root : (actor : ℕ) (root : Known Entry) (old mid : List (Place P)) (new : Known Entry) → Splits actor root old mid new
+  pub split_root : (actor : ℕ) (root : PassKnown) (old mid : List (Place P)) (new : PassKnown) → Splits actor root old mid new
       → (new.turn ≡ root.turn) × (new.number ≡ root.number) × (new.ended ≡ root.ended) × (new.seen ≡ root.seen)
   split_root actor root [] [] new h = (ap (λ p. p.turn) h, ap (λ p. p.number) h, ap (λ p. p.ended) h, ap (λ p. p.seen) h)
   split_root actor root [] (t ∷ ts) new h = absurd h
   split_root actor root (s ∷ ss) [] new h = absurd h
   split_root actor root (s ∷ ss) (t ∷ ts) new h = split_root (actor + 1) (elder h.0 root) ss ts new h.3
 
-  pub split_length : (actor : ℕ) (root : Known Entry) (old mid : List (Place P)) (new : Known Entry) → Splits actor root old mid new → length mid ≡ length old
+  pub split_length : (actor : ℕ) (root : PassKnown) (old mid : List (Place P)) (new : PassKnown) → Splits actor root old mid new → length mid ≡ length old
   split_length actor root [] [] new h = refl
   split_length actor root [] (t ∷ ts) new h = absurd h
   split_length actor root (s ∷ ss) [] new h = absurd h
   split_length actor root (s ∷ ss) (t ∷ ts) new h = ap suc (split_length (actor + 1) (elder h.0 root) ss ts new h.3)
 
-  pub split_born : (actor : ℕ) (root : Known Entry) (old mid : List (Place P)) (new : Known Entry) (h : Splits actor root old mid new) (x : ℕ)
+  pub split_born : (actor : ℕ) (root : PassKnown) (old mid : List (Place P)) (new : PassKnown) (h : Splits actor root old mid new) (x : ℕ)
       → has x new.born ≡ true → (has x (given actor root old mid new h) ≡ true) ⊎ (has x root.born ≡ true)
   split_born actor root [] [] new h x b = inr (subst (λ p. has x p.born ≡ true) h b)
   split_born actor root [] (t ∷ ts) new h x b = absurd h
@@ -50,7 +51,7 @@ module _ {P : Type 0} where
       (split_born (actor + 1) (elder h.0 root) ss ts new h.3 x b)
 
   -- a number that was born before is given no more
-  not_given : (actor : ℕ) (root : Known Entry) (old mid : List (Place P)) (new : Known Entry) (h : Splits actor root old mid new) (x : ℕ)
+  not_given : (actor : ℕ) (root : PassKnown) (old mid : List (Place P)) (new : PassKnown) (h : Splits actor root old mid new) (x : ℕ)
       → has x root.born ≡ true → has x (given actor root old mid new h) ≡ false
   not_given actor root [] [] new h x b = refl
   not_given actor root [] (t ∷ ts) new h x b = absurd h
@@ -62,7 +63,7 @@ module _ {P : Type 0} where
       (λ (e : x ≡ h.0). true≢false (sym b ∙ ap (λ (z : ℕ). has z root.born) e ∙ h.1.born))
       (λ (i : has x more ≡ true). true≢false (sym i ∙ rest)) (has_cons x h.0 more y))
 
-  pub split_once : (actor : ℕ) (root : Known Entry) (old mid : List (Place P)) (new : Known Entry) (h : Splits actor root old mid new) → once (given actor root old mid new h) ≡ true
+  pub split_once : (actor : ℕ) (root : PassKnown) (old mid : List (Place P)) (new : PassKnown) (h : Splits actor root old mid new) → once (given actor root old mid new h) ≡ true
   split_once actor root [] [] new h = refl
   split_once actor root [] (t ∷ ts) new h = refl
   split_once actor root (s ∷ ss) [] new h = refl
@@ -71,7 +72,7 @@ module _ {P : Type 0} where
       (split_once (actor + 1) (elder h.0 root) ss ts new h.3)
 
   -- no number that is given is one of the root's
-  pub given_fresh : (actor : ℕ) (root : Known Entry) (old mid : List (Place P)) (new : Known Entry) (h : Splits actor root old mid new) (x : ℕ)
+  pub given_fresh : (actor : ℕ) (root : PassKnown) (old mid : List (Place P)) (new : PassKnown) (h : Splits actor root old mid new) (x : ℕ)
       → has x (given actor root old mid new h) ≡ true → has x (numbers root) ≡ false
   given_fresh actor root [] [] new h x i = absurd (true≢false (sym i))
   given_fresh actor root [] (t ∷ ts) new h x i = absurd h
@@ -81,7 +82,7 @@ module _ {P : Type 0} where
       (has_cons x h.0 (given (actor + 1) (elder h.0 root) ss ts new h.3) i)
 
   -- each place has a pass of the hub, and room
-  pub split_ready : (hub : Identity) (steps : List Step) (actor : ℕ) (root : Known Entry) (old mid : List (Place P)) (new : Known Entry) → root.turn ≡ hub → Splits actor root old mid new
+  pub split_ready : (hub : Identity) (steps : List Step) (actor : ℕ) (root : PassKnown) (old mid : List (Place P)) (new : PassKnown) → root.turn ≡ hub → Splits actor root old mid new
       → HaveRoom steps actor old → All (IsReady hub steps) mid
   split_ready hub steps actor root [] [] new is h room = λ k d b. absurd (omega (arith, b))
   split_ready hub steps actor root [] (t ∷ ts) new is h room = absurd h
@@ -94,7 +95,7 @@ module _ {P : Type 0} where
 pub record OneDid {P : Type 0} (m : port.Ghosts P) (limit : ℕ) (steps : List Step) (hub : Identity) (before : List Entry) (k actor : ℕ)
     (lines : List Line) (s n : Place P) : Type 0 where
   pub seen : List Entry
-  pub pass : n.pass ≡ Some (record { turn = hub; number = k; ended = []; born = []; seen = seen })
+  pub pass : n.pass ≡ Some (record { turn = hub; number = k; ended = []; born = []; seen = seen; sent = 0; last = None })
   pub fresh : clear by_of (k ∷ []) before ≡ true
   pub added : n.lines.items ≡ s.lines.items ++ lines
   pub served : ServesAll m limit k (commands_of actor steps) lines before seen s.port n.port
@@ -108,12 +109,12 @@ module _ {P : Type 0} (m : port.Ghosts P) (limit : ℕ) (steps : List Step) wher
   Did hub before actor (k ∷ ks) (ls ∷ lines) (s ∷ ss) (n ∷ ns) = OneDid m limit steps hub before k actor ls s n × Did hub before (actor + 1) ks lines ss ns
   Did hub before actor ks lines ss ns = ⊥
 
-  served_by : (p : Known Entry) (s n : Place P) (o : Option (Known Entry)) → n.pass ≡ o → PassServed m limit steps (Some p) o s n
+  served_by : (p : PassKnown) (s n : Place P) (o : Option PassKnown) → n.pass ≡ o → PassServed m limit steps (Some p) o s n
       → (seen : List Entry) × (n.pass ≡ Some (at_seen p seen)) × AddsLines m limit p.number (commands_of s.actor steps) s.lines.items n.lines.items p.seen seen s.port n.port
   served_by p s n None e h = absurd h
   served_by p s n (Some q) e h = (q.seen, e ∙ ap Some h.0, h.1)
 
-  one_did : (root : Known Entry) (actor k : ℕ) (s n : Place P) → IsFresh by_of k root → PlaceServed m limit steps (with_pass s actor (younger k root)) n
+  one_did : (root : PassKnown) (actor k : ℕ) (s n : Place P) → IsFresh k root → PlaceServed m limit steps (with_pass s actor (younger k root)) n
       → (lines : List Line) × OneDid m limit steps root.turn root.seen k actor lines s n
   one_did root actor k s n fresh h =
       let o = served_by (younger k root) (with_pass s actor (younger k root)) n n.pass refl h.served in (
@@ -121,7 +122,7 @@ module _ {P : Type 0} (m : port.Ghosts P) (limit : ℕ) (steps : List Step) wher
         record { seen = o.0; pass = o.1; fresh = fresh.entries; added = o.2.added; served = o.2.served; capacity = h.capacity; told = h.told; actor_is = h.actor },
       )
 
-  pub did : (actor : ℕ) (root : Known Entry) (old mid new : List (Place P)) (r : Known Entry) (h : Splits actor root old mid r) → EachServed m limit steps mid new → length new ≡ length mid
+  pub did : (actor : ℕ) (root : PassKnown) (old mid new : List (Place P)) (r : PassKnown) (h : Splits actor root old mid r) → EachServed m limit steps mid new → length new ≡ length mid
       → (lines : List (List Line)) × Did root.turn root.seen actor (given actor root old mid r h) lines old new
   did actor root [] [] [] r h each len = ([], tt)
   did actor root [] [] (n ∷ ns) r h each len = absurd (omega (arith, len))

@@ -1,7 +1,7 @@
 -- There is room for the steps of a phase, and behind it for the others.
 use Rattle.std.proofs.Common.{◌≡◌, ℕ, zero, suc, ◌+◌, ◌≤◌, List, [], ◌∷◌, ◌++◌, length, length-append, vec_capacity, refl, sym, ap, ap₂, subst, ◌∙◌, arith}
 use Rattle.viz_base.specs.declared.port.Port as port
-use Rattle.viz_turn.specs.Known.{Known}
+use Rattle.viz_hub.specs.Passes.{PassKnown}
 use Rattle.viz_core.specs.declared.entry.Entry.{Entry}
 use Rattle.viz_script.specs.declared.order.Step.{Step}
 use Rattle.viz_report.specs.declared.line.Line.{Line}
@@ -63,16 +63,16 @@ module _ {P : Type 0} where
 
   module _ (m : port.Ghosts P) (limit : ℕ) where
     -- a phase of steps
-    pub chunk_of : (steps : List Step) (root : Known Entry) (old : List (Place P)) (rows : List Row) (new : List (Place P)) (now : List Row) (joined : Known Entry) → (length steps ≡ 0 → ⊥)
+    pub chunk_of : (steps : List Step) (root : PassKnown) (old : List (Place P)) (rows : List Row) (new : List (Place P)) (now : List Row) (joined : PassKnown) → (length steps ≡ 0 → ⊥)
         → IsPhase m limit steps root old rows new now joined → RunsChunk m limit steps root old rows new now joined
     chunk_of [] root old rows new now joined some p = absurd (some refl)
     chunk_of (s ∷ steps) root old rows new now joined some p = p
 
-    pub chunk_none : (steps : List Step) (root : Known Entry) (old : List (Place P)) (rows : List Row) → length steps ≡ 0 → RunsChunk m limit steps root old rows old rows root
+    pub chunk_none : (steps : List Step) (root : PassKnown) (old : List (Place P)) (rows : List Row) → length steps ≡ 0 → RunsChunk m limit steps root old rows old rows root
     chunk_none [] root old rows none = (refl, refl, refl)
     chunk_none (s ∷ steps) root old rows none = absurd (omega (arith, none))
 
-    pub chunk_room : (chunk later : List Step) (root : Known Entry) (old : List (Place P)) (rows : List Row) (new : List (Place P)) (now : List Row) (joined : Known Entry)
+    pub chunk_room : (chunk later : List Step) (root : PassKnown) (old : List (Place P)) (rows : List Row) (new : List (Place P)) (now : List Row) (joined : PassKnown)
         → RunsChunk m limit chunk root old rows new now joined → HaveRoom (chunk ++ later) 1 old
         → (joined.turn ≡ root.turn) × HaveRoom later 1 new × (length now ≡ length rows + work chunk 1 (length old))
     chunk_room [] later root old rows new now joined r h =
@@ -89,11 +89,11 @@ module _ {P : Type 0} where
     )
 
     -- no phase is left
-    pub runs_none : (left phase : ℕ) (steps : List Step) (root : Known Entry) (old : List (Place P)) (rows : List Row) → left ≡ 0 → Runs m limit (chunks_from left phase steps) root old rows old rows root
+    pub runs_none : (left phase : ℕ) (steps : List Step) (root : PassKnown) (old : List (Place P)) (rows : List Row) → left ≡ 0 → Runs m limit (chunks_from left phase steps) root old rows old rows root
     runs_none left phase steps root old rows none = subst (λ n. Runs m limit (chunks_from n phase steps) root old rows old rows root) (sym none) (refl, refl, refl)
 
     -- a phase, and those behind it
-    pub runs_more : (left rest phase : ℕ) (steps now later : List Step) (root mid end : Known Entry) (old places new : List (Place P)) (rows told all : List Row) → left ≡ suc rest
+    pub runs_more : (left rest phase : ℕ) (steps now later : List Step) (root mid end : PassKnown) (old places new : List (Place P)) (rows told all : List Row) → left ≡ suc rest
         → now ≡ in_front phase steps → later ≡ behind phase steps → RunsChunk m limit now root old rows places told mid
         → Runs m limit (chunks_from rest (phase + 1) later) mid places told new all end → Runs m limit (chunks_from left phase steps) root old rows new all end
     runs_more left rest phase steps now later root mid end old places new rows told all is front back chunk run =

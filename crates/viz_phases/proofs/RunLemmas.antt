@@ -3,7 +3,7 @@ use Rattle.std.proofs.Common.{◌≡◌, ℕ, zero, suc, ◌+◌, ◌≤◌, ◌
 use Rattle.std.proofs.lemmas.Bool.{false_from_ne_true}
 use Rattle.viz_base.specs.declared.port.Port as port
 use Rattle.viz_turn.specs.Tales.{has, once, clear, GoesOn}
-use Rattle.viz_turn.specs.Known.{Known, numbers, IsWhole, GoesFurther}
+use Rattle.viz_hub.specs.Passes.{PassKnown, numbers, IsWhole, GoesFurther}
 use Rattle.viz_turn.proofs.ListLemmas.{has_head, has_tail, has_cons, has_left, has_right, has_either}
 use Rattle.viz_turn.proofs.TaleLemmas.{clear_left, clear_sub, further_still, all_of_it}
 use Rattle.viz_core.specs.declared.entry.Entry.{Entry}
@@ -38,30 +38,30 @@ empties_flat (a ∷ xs) = empties_flat xs
 module _ {P : Type 0} (m : port.Ghosts P) (limit : ℕ) where
   -- ---- the pass
 
-  chunk_later : (chunk : List Step) (root : Known Entry) (old : List (Place P)) (rows : List Row) (new : List (Place P)) (now : List Row) (mid : Known Entry) → RunsChunk m limit chunk root old rows new now mid
-      → ((x : ℕ) → has x (numbers root) ≡ true → has x (numbers mid) ≡ true) × GoesFurther by_of root mid.seen
+  chunk_later : (chunk : List Step) (root : PassKnown) (old : List (Place P)) (rows : List Row) (new : List (Place P)) (now : List Row) (mid : PassKnown) → RunsChunk m limit chunk root old rows new now mid
+      → ((x : ℕ) → has x (numbers root) ≡ true → has x (numbers mid) ≡ true) × GoesFurther root mid.seen
   chunk_later [] root old rows new now mid r =
-      (λ x h. subst (λ p. has x (numbers p) ≡ true) (sym r.0) h, subst (λ p. GoesFurther by_of root p.seen) (sym r.0) (all_of_it by_of (numbers root) root.seen))
+      (λ x h. subst (λ p. has x (numbers p) ≡ true) (sym r.0) h, subst (λ p. GoesFurther root p.seen) (sym r.0) (all_of_it by_of (numbers root) root.seen))
   chunk_later (s ∷ steps) root old rows new now mid r =
       let nums : numbers mid ≡ numbers root ++ r.passes = ap₂ (λ (x : ℕ) (l : List ℕ). x ∷ l) r.number r.ended in
       (λ x h. subst (λ (ns : List ℕ). has x ns ≡ true) (sym nums) (has_left x (numbers root) r.passes h), r.later)
 
   -- the numbers of a pass stay its own, and its list goes on
-  pub runs_later : (chunks : List (List Step)) (root : Known Entry) (old : List (Place P)) (rows : List Row) (new : List (Place P)) (now : List Row) (end : Known Entry) → Runs m limit chunks root old rows new now end
-      → ((x : ℕ) → has x (numbers root) ≡ true → has x (numbers end) ≡ true) × GoesFurther by_of root end.seen
+  pub runs_later : (chunks : List (List Step)) (root : PassKnown) (old : List (Place P)) (rows : List Row) (new : List (Place P)) (now : List Row) (end : PassKnown) → Runs m limit chunks root old rows new now end
+      → ((x : ℕ) → has x (numbers root) ≡ true → has x (numbers end) ≡ true) × GoesFurther root end.seen
   runs_later [] root old rows new now end r =
-      (λ x h. subst (λ p. has x (numbers p) ≡ true) (sym r.0) h, subst (λ p. GoesFurther by_of root p.seen) (sym r.0) (all_of_it by_of (numbers root) root.seen))
+      (λ x h. subst (λ p. has x (numbers p) ≡ true) (sym r.0) h, subst (λ p. GoesFurther root p.seen) (sym r.0) (all_of_it by_of (numbers root) root.seen))
   runs_later (chunk ∷ chunks) root old rows new now end r =
       let a = chunk_later chunk root old rows r.1 r.2 r.0 r.3 in
       let b = runs_later chunks r.0 r.1 r.2 new now end r.4 in
       (λ x h. b.0 x (a.0 x h), further_still by_of (numbers r.0) (numbers root) root.seen r.0.seen end.seen a.0 a.1 b.1)
 
-  chunk_turn : (chunk : List Step) (root : Known Entry) (old : List (Place P)) (rows : List Row) (new : List (Place P)) (now : List Row) (mid : Known Entry) → RunsChunk m limit chunk root old rows new now mid
+  chunk_turn : (chunk : List Step) (root : PassKnown) (old : List (Place P)) (rows : List Row) (new : List (Place P)) (now : List Row) (mid : PassKnown) → RunsChunk m limit chunk root old rows new now mid
       → (mid.turn ≡ root.turn) × (IsWhole root → IsWhole mid)
   chunk_turn [] root old rows new now mid r = (ap (λ p. p.turn) r.0, λ w. subst IsWhole (sym r.0) w)
   chunk_turn (s ∷ steps) root old rows new now mid r = (r.turn, r.whole)
 
-  pub runs_turn : (chunks : List (List Step)) (root : Known Entry) (old : List (Place P)) (rows : List Row) (new : List (Place P)) (now : List Row) (end : Known Entry) → Runs m limit chunks root old rows new now end
+  pub runs_turn : (chunks : List (List Step)) (root : PassKnown) (old : List (Place P)) (rows : List Row) (new : List (Place P)) (now : List Row) (end : PassKnown) → Runs m limit chunks root old rows new now end
       → (end.turn ≡ root.turn) × (IsWhole root → IsWhole end)
   runs_turn [] root old rows new now end r = (ap (λ p. p.turn) r.0, λ w. subst IsWhole (sym r.0) w)
   runs_turn (chunk ∷ chunks) root old rows new now end r =

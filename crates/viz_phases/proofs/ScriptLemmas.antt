@@ -6,7 +6,8 @@ use mathlib.Core.Option.{some, some-ne-none}
 use lib.ListN.{get_elem?}
 use Rattle.viz_base.specs.declared.port.Port as port
 use Rattle.viz_turn.specs.Tales.{has, once, clear, entries_of, HasNoOther}
-use Rattle.viz_turn.specs.Known.{Identity, Known, first_pass, numbers, IsWhole, GoesFurther}
+use Rattle.viz_turn.specs.Known.{Identity}
+use Rattle.viz_hub.specs.Passes.{PassKnown, first_pass, numbers, IsWhole, GoesFurther}
 use Rattle.viz_turn.proofs.ListLemmas.{has_cons, same_at}
 use Rattle.viz_turn.proofs.TaleLemmas.{further_still}
 use Rattle.viz_turn.proofs.LawLemmas.{no_other}
@@ -89,17 +90,17 @@ module _ {P : Type 0} (m : port.Ghosts P) (limit : ℕ) where
 
   -- ---- the account
 
-  none_of_first : (t : Identity) (chunks : List (List Step)) (h : List Entry) (end : Known Entry) (old new : List (Place P)) (rows now : List Row)
-      → Runs m limit chunks (first_pass t) old rows new now end → GoesFurther by_of end h → clear by_of (0 ∷ []) h ≡ true
+  none_of_first : (t : Identity) (chunks : List (List Step)) (h : List Entry) (end : PassKnown) (old new : List (Place P)) (rows now : List Row)
+      → Runs m limit chunks (first_pass t) old rows new now end → GoesFurther end h → clear by_of (0 ∷ []) h ≡ true
   none_of_first t chunks h end old new rows now r on =
       let l = runs_later m limit chunks (first_pass t) old rows new now end r in
       let all = further_still by_of (numbers end) (0 ∷ []) [] end.seen h l.0 l.1 on in
       subst (λ (l : List Entry). clear by_of (0 ∷ []) l ≡ true) (sym all.1) all.2
 
-  pub seated_account : (t : Identity) (phases : ℕ) (bytes : List ℕ) (steps : List Step) (h : List Entry) (end : Known Entry) (old new : List (Place P)) (now : List Row)
+  pub seated_account : (t : Identity) (phases : ℕ) (bytes : List ℕ) (steps : List Step) (h : List Entry) (end : PassKnown) (old new : List (Place P)) (now : List Row)
       → script_of (length old) bytes ≡ Ok (map stepped steps) → All IsIdle old
       → Runs m limit (chunks_from phases 1 steps) (first_pass t) old [] new now end
-      → IsLegal h → length h ≤ limit → GoesFurther by_of end h → (IsWhole end → HasNoOther by_of (numbers end) h)
+      → IsLegal h → length h ≤ limit → GoesFurther end h → (IsWhole end → HasNoOther by_of (numbers end) h)
       → (told : List (List (List Line))) × IsAccountOf m limit (by_actor (length old) phases (map stepped steps)) h told (ports_of old) (ports_of new) × (now ≡ report_rows phases told)
   seated_account t phases bytes steps h end old new now script idle runs legal within on whole =
       let chunks = chunks_from phases 1 steps in

@@ -4,7 +4,7 @@ use Rattle.std.proofs.lemmas.Bool.{false_from_ne_true}
 use Rattle.std.proofs.lemmas.List.{length-map}
 use Rattle.viz_base.specs.declared.port.Port as port
 use Rattle.viz_turn.specs.Tales.{has, once, clear, GoesOn}
-use Rattle.viz_turn.specs.Known.{Known, numbers, GoesFurther}
+use Rattle.viz_hub.specs.Passes.{PassKnown, numbers, GoesFurther}
 use Rattle.viz_turn.proofs.ListLemmas.{has_head, has_tail, has_cons, has_left, has_right, has_either}
 use Rattle.viz_turn.proofs.TaleLemmas.{clear_left, clear_sub, clear_both, further_still}
 use Rattle.viz_core.specs.declared.entry.Entry.{Entry}
@@ -22,8 +22,8 @@ use Rattle.viz_phases.proofs.LaterLemmas.{AreLater}
 use Rattle.viz_phases.proofs.RunLemmas.{scripts_from, empties, empties_flat, runs_later, later_length, none_later, idle_later, phase_later, actors_length, actors_counts, actors_fresh}
 
 -- what phases came to: each actor's passes, lines by phase, and the ends of phases
-pub record IsTale {P : Type 0} (m : port.Ghosts P) (limit : ℕ) (chunks : List (List Step)) (h : List Entry) (root : Known Entry) (old : List (Place P)) (rows : List Row)
-    (new : List (Place P)) (now : List Row) (end : Known Entry) : Type 0 where
+pub record IsTale {P : Type 0} (m : port.Ghosts P) (limit : ℕ) (chunks : List (List Step)) (h : List Entry) (root : PassKnown) (old : List (Place P)) (rows : List Row)
+    (new : List (Place P)) (now : List Row) (end : PassKnown) : Type 0 where
   pub passes : List (List ℕ)
   pub told : List (List (List Line))
   pub ends : List ℕ
@@ -52,7 +52,7 @@ rows_behind n counts next lines told len is =
 
 module _ {P : Type 0} (m : port.Ghosts P) (limit : ℕ) where
   -- a phase without steps in front of such phases
-  idle_tale : (chunks : List (List Step)) (h : List Entry) (root end : Known Entry) (old new : List (Place P)) (rows now : List Row) → GoesFurther by_of root h
+  idle_tale : (chunks : List (List Step)) (h : List Entry) (root end : PassKnown) (old new : List (Place P)) (rows now : List Row) → GoesFurther root h
       → IsTale m limit chunks h root old rows new now end → IsTale m limit ([] ∷ chunks) h root old rows new now end
   idle_tale chunks h root end old new rows now on t =
       let lens = later_length m limit h (length root.seen) t.passes (scripts_from (length old) 1 chunks) t.told t.ends (ports_of old) (ports_of new) t.later in
@@ -73,8 +73,8 @@ module _ {P : Type 0} (m : port.Ghosts P) (limit : ℕ) where
       }
 
   -- a phase in front of such phases
-  phase_tale : (chunk : List Step) (chunks : List (List Step)) (h : List Entry) (root mid end : Known Entry) (old places new : List (Place P)) (rows mid_rows now : List Row)
-      → IsPhase m limit chunk root old rows places mid_rows mid → GoesFurther by_of mid h
+  phase_tale : (chunk : List Step) (chunks : List (List Step)) (h : List Entry) (root mid end : PassKnown) (old places new : List (Place P)) (rows mid_rows now : List Row)
+      → IsPhase m limit chunk root old rows places mid_rows mid → GoesFurther mid h
       → IsTale m limit chunks h mid places mid_rows new now end → IsTale m limit (chunk ∷ chunks) h root old rows new now end
   phase_tale chunk chunks h root mid end old places new rows mid_rows now p on t =
       let nums : numbers mid ≡ numbers root ++ p.passes = ap₂ (λ (x : ℕ) (l : List ℕ). x ∷ l) p.number p.ended in
@@ -117,18 +117,18 @@ module _ {P : Type 0} (m : port.Ghosts P) (limit : ℕ) where
             (sym (rows_behind (length chunks) (counts_of old) (counts_of places) p.lines t.told told_len (actors_counts m limit chunk root.seen mid.seen 1 p.passes p.lines old places p.actors)));
       }
 
-  chunk_tale : (chunk : List Step) (chunks : List (List Step)) (h : List Entry) (root mid end : Known Entry) (old places new : List (Place P)) (rows mid_rows now : List Row)
-      → RunsChunk m limit chunk root old rows places mid_rows mid → GoesFurther by_of mid h
+  chunk_tale : (chunk : List Step) (chunks : List (List Step)) (h : List Entry) (root mid end : PassKnown) (old places new : List (Place P)) (rows mid_rows now : List Row)
+      → RunsChunk m limit chunk root old rows places mid_rows mid → GoesFurther mid h
       → IsTale m limit chunks h mid places mid_rows new now end → IsTale m limit (chunk ∷ chunks) h root old rows new now end
   chunk_tale [] chunks h root mid end old places new rows mid_rows now r on t =
-      idle_tale chunks h root end old new rows now (subst (λ p. GoesFurther by_of p h) r.0 on)
+      idle_tale chunks h root end old new rows now (subst (λ p. GoesFurther p h) r.0 on)
       (subst (λ p. IsTale m limit chunks h p old rows new now end) r.0
       (subst (λ l. IsTale m limit chunks h mid l rows new now end) r.1 (subst (λ l. IsTale m limit chunks h mid places l new now end) r.2 t)))
   chunk_tale (s ∷ steps) chunks h root mid end old places new rows mid_rows now r on t = phase_tale (s ∷ steps) chunks h root mid end old places new rows mid_rows now r on t
 
   -- the phases of a run
-  pub runs_tale : (chunks : List (List Step)) (h : List Entry) (root end : Known Entry) (old new : List (Place P)) (rows now : List Row) → Runs m limit chunks root old rows new now end
-      → GoesFurther by_of end h → IsTale m limit chunks h root old rows new now end
+  pub runs_tale : (chunks : List (List Step)) (h : List Entry) (root end : PassKnown) (old new : List (Place P)) (rows now : List Row) → Runs m limit chunks root old rows new now end
+      → GoesFurther end h → IsTale m limit chunks h root old rows new now end
   runs_tale [] h root end old new rows now r on = record {
     passes = empties old;
     told = empties old;
@@ -142,5 +142,5 @@ module _ {P : Type 0} (m : port.Ghosts P) (limit : ℕ) where
   }
   runs_tale (chunk ∷ chunks) h root end old new rows now r on =
       let l = runs_later m limit chunks r.0 r.1 r.2 new now end r.4 in
-      let mid_on : GoesFurther by_of r.0 h = further_still by_of (numbers end) (numbers r.0) r.0.seen end.seen h l.0 l.1 on in
+      let mid_on : GoesFurther r.0 h = further_still by_of (numbers end) (numbers r.0) r.0.seen end.seen h l.0 l.1 on in
       chunk_tale chunk chunks h root r.0 end old r.1 new rows r.2 now r.3 mid_on (runs_tale chunks h r.0 end r.1 new r.2 now r.4 on)

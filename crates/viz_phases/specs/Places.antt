@@ -2,7 +2,8 @@
 use Rattle.std.specs.Prelude.{◌≡◌, ℕ, zero, suc, ◌+◌, ◌<◌, ◌≤◌, true, false, List, [], ◌∷◌, ◌++◌, length, map, drop, Option, None, Some, IfSome, vec_capacity, slice_index_or}
 use Rattle.viz_base.specs.declared.port.Port as port
 use Rattle.viz_turn.specs.Tales.{has, once, clear, GoesOn}
-use Rattle.viz_turn.specs.Known.{Identity, Known, numbers, at_seen, elder, younger, one, IsWhole, GoesFurther, IsFresh}
+use Rattle.viz_turn.specs.Known.{Identity}
+use Rattle.viz_hub.specs.Passes.{PassKnown, numbers, at_seen, elder, younger, one, IsWhole, GoesFurther, IsFresh}
 use Rattle.viz_core.specs.declared.entry.Entry.{Entry}
 use Rattle.viz_core.specs.History.{by_of}
 use Rattle.viz_script.specs.declared.order.Step.{Step}
@@ -33,14 +34,14 @@ work steps actor (suc count) = length (commands_of actor steps) + work steps (ac
 -- ---- one phase: passes are split off
 
 -- the place of this actor with a pass
-abbrev pub with_pass : {P : Type 0} → Place P → ℕ → Known Entry → Place P
+abbrev pub with_pass : {P : Type 0} → Place P → ℕ → PassKnown → Place P
 with_pass s actor p = record { actor = actor; pass = Some p; port = s.port; lines = s.lines; told = s.told }
 
 -- each place gets a pass of its own, with a number of its own
-abbrev pub Splits : {P : Type 0} → ℕ → Known Entry → List (Place P) → List (Place P) → Known Entry → Type 0
+abbrev pub Splits : {P : Type 0} → ℕ → PassKnown → List (Place P) → List (Place P) → PassKnown → Type 0
 Splits actor root [] [] new = new ≡ root
 Splits actor root (s ∷ ss) (t ∷ ts) new =
-    (k : ℕ) × IsFresh by_of k root × (t ≡ with_pass s actor (younger k root)) × Splits (actor + 1) (elder k root) ss ts new
+    (k : ℕ) × IsFresh k root × (t ≡ with_pass s actor (younger k root)) × Splits (actor + 1) (elder k root) ss ts new
 Splits actor root ss ts new = ⊥
 
 -- ---- each actor works
@@ -52,7 +53,7 @@ pub record IsReady {P : Type 0} (hub : Identity) (steps : List Step) (s : Place 
 
 module _ {P : Type 0} (m : port.Ghosts P) (limit : ℕ) (steps : List Step) where
   -- the pass has seen more, and the commands were served in between
-  abbrev pub PassServed : Option (Known Entry) → Option (Known Entry) → Place P → Place P → Type 0
+  abbrev pub PassServed : Option PassKnown → Option PassKnown → Place P → Place P → Type 0
   PassServed (Some p) (Some q) s t =
       (q ≡ at_seen p q.seen) × AddsLines m limit p.number (commands_of s.actor steps)
       s.lines.items t.lines.items p.seen q.seen s.port t.port
@@ -71,15 +72,15 @@ module _ {P : Type 0} (m : port.Ghosts P) (limit : ℕ) (steps : List Step) wher
 -- ---- the passes are joined
 
 -- the passes of the places, joined one after the other
-abbrev pub Joins : {P : Type 0} → Known Entry → List (Place P) → Known Entry → Type 0
+abbrev pub Joins : {P : Type 0} → PassKnown → List (Place P) → PassKnown → Type 0
 Joins root [] new = new ≡ root
 Joins root (s ∷ ss) new =
-    (p mid : Known Entry) × (s.pass ≡ Some p) × (mid ≡ one root p)
-    × GoesFurther by_of root mid.seen × GoesFurther by_of p mid.seen × Joins mid ss new
+    (p mid : PassKnown) × (s.pass ≡ Some p) × (mid ≡ one root p)
+    × GoesFurther root mid.seen × GoesFurther p mid.seen × Joins mid ss new
 
 -- a pass of this hub is there
 abbrev pub HasPass : {P : Type 0} → Identity → Place P → Type 0
-HasPass hub s = (p : Known Entry) × (s.pass ≡ Some p) × (p.turn ≡ hub)
+HasPass hub s = (p : PassKnown) × (s.pass ≡ Some p) × (p.turn ≡ hub)
 
 -- the place without its pass
 abbrev pub without : {P : Type 0} → Place P → Place P
@@ -135,14 +136,14 @@ counts_of ss = map (λ s. length s.lines.items + 1) ss
 
 -- a phase: each place had a pass of its own, with these numbers, and the new lines became rows
 pub record IsPhase {P : Type 0} (m : port.Ghosts P) (limit : ℕ) (steps : List Step)
-    (root : Known Entry) (old : List (Place P)) (rows : List Row)
-    (new : List (Place P)) (rows_now : List Row) (joined : Known Entry) : Type 0 where
+    (root : PassKnown) (old : List (Place P)) (rows : List Row)
+    (new : List (Place P)) (rows_now : List Row) (joined : PassKnown) : Type 0 where
   pub passes : List ℕ
   pub lines : List (List Line)
   pub turn : joined.turn ≡ root.turn
   pub number : joined.number ≡ root.number
   pub ended : joined.ended ≡ root.ended ++ passes
-  pub later : GoesFurther by_of root joined.seen
+  pub later : GoesFurther root joined.seen
   pub whole : IsWhole root → IsWhole joined
   pub distinct : once passes ≡ true
   pub fresh : (x : ℕ) → has x passes ≡ true → has x (numbers root) ≡ false

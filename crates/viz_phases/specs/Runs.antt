@@ -1,7 +1,7 @@
 -- Phases, one after the other. Words of private contracts alone.
 use Rattle.std.specs.Prelude.{◌≡◌, ℕ, ◌+◌, ◌≤◌, List, [], ◌∷◌, length, map, vec_capacity}
 use Rattle.viz_base.specs.declared.port.Port as port
-use Rattle.viz_turn.specs.Known.{Known}
+use Rattle.viz_hub.specs.Passes.{PassKnown}
 use Rattle.viz_core.specs.declared.entry.Entry.{Entry}
 use Rattle.viz_script.specs.declared.order.Step.{Step}
 use Rattle.viz_script.specs.Script.{Stepped, phase_limit}
@@ -15,17 +15,17 @@ use Rattle.viz_phases.specs.Places.{IsPhase}
 
 module _ {P : Type 0} (m : port.Ghosts P) (limit : ℕ) where
   -- the steps of a phase were served, where there are any
-  abbrev pub RunsChunk : List Step → Known Entry → List (Place P) → List Row
-      → List (Place P) → List Row → Known Entry → Type 0
+  abbrev pub RunsChunk : List Step → PassKnown → List (Place P) → List Row
+      → List (Place P) → List Row → PassKnown → Type 0
   RunsChunk [] root old rows new now joined = (joined ≡ root) × (new ≡ old) × (now ≡ rows)
   RunsChunk (s ∷ steps) root old rows new now joined = IsPhase m limit (s ∷ steps) root old rows new now joined
 
   -- the steps of all these phases were
-  abbrev pub Runs : List (List Step) → Known Entry → List (Place P) → List Row
-      → List (Place P) → List Row → Known Entry → Type 0
+  abbrev pub Runs : List (List Step) → PassKnown → List (Place P) → List Row
+      → List (Place P) → List Row → PassKnown → Type 0
   Runs [] root old rows new now joined = (joined ≡ root) × (new ≡ old) × (now ≡ rows)
   Runs (chunk ∷ chunks) root old rows new now joined =
-      (mid : Known Entry) × (places : List (Place P)) × (told : List Row) × RunsChunk chunk root old rows places told mid
+      (mid : PassKnown) × (places : List (Place P)) × (told : List Row) × RunsChunk chunk root old rows places told mid
       × Runs chunks mid places told new now joined
 
 -- the ports of places

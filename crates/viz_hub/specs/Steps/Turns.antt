@@ -3,10 +3,12 @@ use Rattle.std.specs.Prelude.{◌≡◌, ℕ, length}
 use Rattle.viz_turn.specs.declared.turn.Turn.{Turn}
 use Rattle.viz_turn.specs.Known.{Identity, Known}
 use Rattle.viz_turn.specs.Passes.{identity}
+use Rattle.viz_kept.specs.True.{AreTrueIn}
 use Rattle.viz_core.specs.declared.entry.Entry.{Entry}
 use Rattle.viz_core.specs.declared.pinned.Pinned.{Pinned}
 use Rattle.viz_core.specs.History.{own_of, network_of}
 use Rattle.viz_core.specs.Machine.{State}
+use Rattle.viz_hub.specs.Passes.{PassKnown}
 
 -- the hub that a turn is of
 abbrev pub hub_of : Turn State Entry → Identity
@@ -16,7 +18,8 @@ hub_of turn = identity (λ s. s.limit) turn
 abbrev pub count_of : Known Entry → ℕ
 count_of p = length (own_of p.number p.seen)
 
--- the network of what the pass has seen
-pub record IsPinned (p : Known Entry) (pinned : Pinned) : Type 0 where
+-- the network of what the pass has seen, and kept parts that are true in it
+pub record IsPinned (p : PassKnown) (pinned : Pinned) : Type 0 where
   pub at : pinned.at ≡ length p.seen
   pub network : pinned.net ≡ network_of p.seen
+  pub parts : AreTrueIn (network_of p.seen) pinned.entries

@@ -1,6 +1,6 @@
 use Rattle.std.proofs.Common.{◌≡◌, ◌+◌, ◌∙◌, ◌++◌, [], ◌∷◌, take, length, length-append, sym, ap, subst, refl, arith}
 use Rattle.std.proofs.lemmas.List.{take_more}
-use Rattle.viz_turn.specs.Known.{at_seen}
+use Rattle.viz_hub.specs.Passes.{at_seen}
 use Rattle.viz_actor.specs.Serving.{commands_of, AddsLines}
 use Rattle.viz_actor.proofs.ServeLemmas.{commands_next, commands_within, adds_none, adds_more, adds_length}
 use Rattle.viz_actor.proofs.serving.serve_steps.Goals as goal

@@ -1,5 +1,5 @@
 use Rattle.std.proofs.Common.{◌≡◌, take, vec_capacity}
-use Rattle.viz_turn.specs.Known.{at_seen}
+use Rattle.viz_hub.specs.Passes.{at_seen}
 use Rattle.viz_actor.specs.Serving.{commands_of, AddsLines}
 use Rattle.viz_actor.proofs.serving.serve_steps.Given as goal
 

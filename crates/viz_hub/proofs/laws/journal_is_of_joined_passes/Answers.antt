@@ -1,4 +1,4 @@
-use Rattle.viz_turn.specs.Known.{numbers}
+use Rattle.viz_hub.specs.Passes.{numbers}
 use Rattle.viz_turn.proofs.LawLemmas.{one_stays}
 use Rattle.viz_core.specs.History.{by_of}
 use Rattle.viz_hub.proofs.PassLemmas.{journal_is_seen}

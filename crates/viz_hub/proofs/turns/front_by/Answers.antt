@@ -2,7 +2,7 @@ use Rattle.std.proofs.Common.{◌∙◌, sym, ap, subst}
 use Rattle.viz_turn.specs.Known.{GoesFurther}
 use Rattle.viz_turn.specs.Passes.{known}
 use Rattle.viz_core.specs.History.{by_of}
-use Rattle.viz_hub.proofs.PassLemmas.{same_count}
+use Rattle.viz_hub.proofs.PassLemmas.{same_count, looks_more}
 use Rattle.viz_hub.proofs.turns.front_by.Goals as goal
 
 pub invariant_of-result : goal.invariant_of-result
@@ -12,3 +12,8 @@ invariant_of-result g c =
     record {
       counted = same_count c.args.place.count p (known c.give-pass.result) c.args.place.counted (ap (λ k. k.number) same) (subst (λ l. GoesFurther by_of p l) (sym (ap (λ k. k.seen) same)) c.take-held.ensures.further);
     }
+
+pub returns-clause-looks : goal.returns-clause-looks
+returns-clause-looks g c =
+    let p = known c.args.place.pass in
+    looks_more c.args.place.told.sent c.args.place.told.last p (known c.give-pass.result) _ (c.give-pass.ensures.same ∙ c.take-held.ensures.same) c.take-held.ensures.further

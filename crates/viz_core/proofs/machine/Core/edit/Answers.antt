@@ -9,7 +9,7 @@ pub apply-requires : goal.apply-requires
 apply-requires c =
     let h = c.self.inside.history.items in
     let many : length h ≡ c.len-at.result = search arith in
-    record { later = subst (λ n. IsPast (n + 1) c.self.inside.net) many (past_of_kept h c.self.inside.limit c.self.inside.net c.self.invariant) }
+    record { later = subst (λ n. IsPast (n + 1) c.self.inside.net) many (past_of_kept h c.self.inside.limit c.self.inside.net c.self.inside.cache.entries c.self.invariant) }
 
 pub invariant_of-self-in-Ok : goal.invariant_of-self-in-Ok
 invariant_of-self-in-Ok c =
@@ -18,7 +18,7 @@ invariant_of-self-in-Ok c =
     let counted : c.args.count ≡ next c.args.pass h = c.requires.next ∙ ap (λ s. next c.args.pass s.history) (sym c.self.view_is) in
     let made : apply (length h + 1) c.args.edit c.self.inside.net ≡ Ok c.apply.new.self = subst (λ n. apply (n + 1) c.args.edit c.self.inside.net ≡ Ok c.apply.new.self) many c.in-Ok.ensures.applies in
     rw (c.push_reserved.ensures.items, c.reserve.ensures.items)
-    (kept_more h c.self.inside.limit c.self.inside.net c.apply.new.self (entry c.args.pass c.args.count c.args.edit) c.self.invariant (search arith) made counted)
+    (kept_more h c.self.inside.limit c.self.inside.net c.apply.new.self c.self.inside.cache.entries (entry c.args.pass c.args.count c.args.edit) c.self.invariant (search arith) made counted)
 
 pub returns-in-Ok : goal.returns-in-Ok
 returns-in-Ok c =

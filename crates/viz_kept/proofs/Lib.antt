@@ -1,0 +1,3 @@
+pub mod TrueLemmas
+pub mod DividedLemmas
+pub mod WholeLemmas

@@ -1,0 +1,5 @@
+use Rattle.viz_kept.proofs.TrueLemmas.{all_made_true}
+use Rattle.viz_kept.proofs.laws.made_is_true.Goals as goal
+
+pub returns : goal.returns
+returns c = all_made_true

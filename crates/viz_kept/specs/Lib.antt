@@ -1,0 +1,5 @@
+pub mod True
+pub mod Divided
+pub mod Whole
+pub mod Laws
+pub mod Steps
