@@ -84,46 +84,46 @@ whole_piece sheets rule = record {
   matched = length-map sheets own_part;
   owned = length-map sheets all_own;
   each = λ k s p below.
-    let sheet = get_or sheets k s in
-    let own = get_or-map all_own sheets k s [] below in
-    let part = get_or-map own_part sheets k s p below in
-    subst (λ o. IsSheetPart sheet o 0 (get_or (map own_part sheets) k p)) (sym own)
-    (subst (IsSheetPart sheet (all_own sheet) 0) (sym part) (whole_part_of sheet (All-get_or IsSheet sheets k s below rule.each)));
+      let sheet = get_or sheets k s in
+      let own = get_or-map all_own sheets k s [] below in
+      let part = get_or-map own_part sheets k s p below in
+      subst (λ o. IsSheetPart sheet o 0 (get_or (map own_part sheets) k p)) (sym own)
+      (subst (IsSheetPart sheet (all_own sheet) 0) (sym part) (whole_part_of sheet (All-get_or IsSheet sheets k s below rule.each)));
 }
 
 pub mesh_is_whole : (sheets : List SheetData) (parts : Vec PartSheetData Global) → AreSheets sheets → parts.items ≡ map own_part sheets
     → IsWholePart (dataset.Mesh sheets) (Piece 0 1 0) (part.Mesh parts)
 mesh_is_whole sheets parts rule is = record {
   each = λ cone given.
-    let d = whole_division cone (dataset.Mesh sheets) in
-    let piece = subst (λ owns. IsPieceOf sheets owns 0 (map own_part sheets)) (sym (d.1.only sheets refl)) (whole_piece sheets rule) in
-    record {
-      whole = dataset.Mesh sheets;
-      given = given;
-      one = record { division = d.0; divided = d.1.divided; answers = (omega arith, subst (IsPieceOf sheets (d.0 0 1) 0) (sym is) piece) };
-    };
+      let d = whole_division cone (dataset.Mesh sheets) in
+      let piece = subst (λ owns. IsPieceOf sheets owns 0 (map own_part sheets)) (sym (d.1.only sheets refl)) (whole_piece sheets rule) in
+      record {
+        whole = dataset.Mesh sheets;
+        given = given;
+        one = record { division = d.0; divided = d.1.divided; answers = (omega arith, subst (IsPieceOf sheets (d.0 0 1) 0) (sym is) piece) };
+      };
 }
 
 pub image_is_whole : (image : ImageData) → IsImage image → IsWholePart (dataset.Image image) (Block image.extent) (part.Image image)
 image_is_whole image rule = record {
   each = λ cone given.
-    let d = whole_division cone (dataset.Image image) in
-    record {
-      whole = dataset.Image image;
-      given = given;
-      one = record {
-        division = d.0;
-        divided = d.1.divided;
-        answers = record {
-          whole_is = rule;
-          part_is = rule;
-          within = record {
-            x = record { first = omega arith; last = omega arith };
-            y = record { first = omega arith; last = omega arith };
-            z = record { first = omega arith; last = omega arith };
+      let d = whole_division cone (dataset.Image image) in
+      record {
+        whole = dataset.Image image;
+        given = given;
+        one = record {
+          division = d.0;
+          divided = d.1.divided;
+          answers = record {
+            whole_is = rule;
+            part_is = rule;
+            within = record {
+              x = record { first = omega arith; last = omega arith };
+              y = record { first = omega arith; last = omega arith };
+              z = record { first = omega arith; last = omega arith };
+            };
+            same = record { extent = refl; origin = refl; spacing = refl; kind = refl; values = λ i j k has. refl };
           };
-          same = record { extent = refl; origin = refl; spacing = refl; kind = refl; values = λ i j k has. refl };
         };
       };
-    };
 }
