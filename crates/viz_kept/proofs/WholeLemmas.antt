@@ -1,20 +1,16 @@
 -- A whole dataset is a part of itself.
-use Rattle.std.proofs.Common.{◌≡◌, ℕ, ◌<◌, ◌≤◌, Bool, Global, true, Option, Some, Ok, Vec, List, [], ◌∷◌, length, map, get_or, replicate, refl, sym, ap, subst, ◌∙◌, arith}
+use Rattle.std.proofs.Common.{◌≡◌, ℕ, ◌<◌, Global, true, Some, Vec, List, [], ◌∷◌, length, map, get_or, replicate, refl, sym, ap, subst, ◌∙◌, arith}
 use Rattle.std.specs.List.{Contains}
 use Rattle.std.proofs.lemmas.List.{get_or-map, length-map}
 use Rattle.std.proofs.lemmas.List.Elements.{All-get_or}
 use Rattle.std.proofs.lemmas.Option.{same_Some}
 use Rattle.viz_dataset.specs.Images.{ImageData, IsImage}
-use Rattle.viz_dataset.specs.declared.dataset.Dataset.{Dataset}
 use Rattle.viz_dataset.specs.declared.dataset.Dataset.TheVariants as dataset
-use Rattle.viz_network.specs.Cone.{Tree}
 use Rattle.viz_sheet.specs.Sheet.{SheetData, IsSheet}
 use Rattle.viz_piece.specs.Parts.{PartSheetData}
-use Rattle.viz_piece.specs.Pieces.{Division, IsAnswer, IsSheetPart, IsPieceOf}
+use Rattle.viz_piece.specs.Pieces.{IsSheetPart, IsPieceOf}
 use Rattle.viz_piece.specs.Seen.{Seen, AreSeen, seen_as, cells_seen, levels_seen, owned_seen, whole_seen}
-use Rattle.viz_piece.specs.declared.request.Part.{Part}
 use Rattle.viz_piece.specs.declared.request.Part.TheVariants as part
-use Rattle.viz_piece.specs.declared.request.Request.{Request}
 use Rattle.viz_piece.specs.declared.request.Request.TheVariants.{Block, Piece}
 use Rattle.viz_kept.specs.Steps.{own_part, AreSheets}
 use Rattle.viz_kept.specs.Whole.{IsWholePart}

@@ -1,5 +1,5 @@
-//! What true parts keep. A law is a function that does nothing: its contract holds of the definitions
-//! alone.
+//! What true parts keep. A law is a function that does nothing: its contract holds of the
+//! definitions alone.
 
 ghost use Rattle.viz_kept.specs.Laws.{
   MadeIsTrue,
