@@ -1,5 +1,5 @@
 -- How made parts are taken in, and which parts are kept then (docs/DEFINITIONS.md, "Kept parts").
-use Rattle.std.specs.Prelude.{◌≡◌, ℕ, Bool, true, false, not, nat_eq, if◌then◌else◌, List, [], ◌∷◌, length, filter, count_by}
+use Rattle.std.specs.Prelude.{◌≡◌, ℕ, Bool, false, not, nat_eq, if◌then◌else◌, List, [], ◌∷◌, length, filter, count_by}
 use Rattle.std.specs.Option.{option_map_or}
 use Rattle.viz_cache.specs.declared.stored.Key.{Key}
 use Rattle.viz_cache.specs.declared.stored.Stored.{Stored}
