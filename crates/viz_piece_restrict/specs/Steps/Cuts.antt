@@ -1,0 +1,21 @@
+-- Parts of meshes cut sheet by sheet.
+use Rattle.std.specs.Prelude.{◌≡◌, ℕ, ◌<◌, Bool, List, length, slice_index_or}
+use Rattle.viz_mesh_meaning.specs.Cells.{with_cells}
+use Rattle.viz_piece.specs.Parts.{PartSheetData}
+use Rattle.viz_piece.specs.Pieces.{IsSheetPart, own_share}
+use Rattle.viz_sheet.specs.Kept.{kept}
+use Rattle.viz_sheet.specs.Sheet.{SheetData, IsSheet, KeepPoints}
+
+-- the sheet of the marked cells
+pub record IsKeptSheet (s : SheetData) (keeps : List Bool) (made : SheetData) : Type 0 where
+  pub whole_is : IsSheet s
+  pub made_is : IsSheet made
+  pub cells : made.cells ≡ kept keeps s.cells
+  pub points : KeepPoints made.names made.points s.names s.points
+  pub value : made ≡ with_cells s (kept keeps s.cells)
+
+-- of each sheet, which has all cells, the piece p of n of its cells in turn
+pub record ArePieces (p n ghosts : ℕ) (parts cuts : List PartSheetData) : Type 0 where
+  pub size : length cuts ≡ length parts
+  pub each : (k : ℕ) (d : PartSheetData) → k < length parts
+      → IsSheetPart (slice_index_or parts k d).sheet (own_share p n (length (slice_index_or parts k d).sheet.cells)) ghosts (slice_index_or cuts k d)
