@@ -1,5 +1,5 @@
 -- Parts cut from parts: what is kept for one request serves another that it covers (VTK User's Guide, "Streaming").
-use Rattle.std.specs.Prelude.{◌≡◌, ◌⊎◌, ℕ, ◌<◌, ◌≤◌, List}
+use Rattle.std.specs.Prelude.{◌≡◌, ◌⊎◌, ◌<◌, ◌≤◌, List}
 use Rattle.viz_dataset.specs.declared.dataset.Dataset.{Dataset}
 use Rattle.viz_dataset.specs.declared.dataset.Dataset.TheVariants.{Image as WholeImage, Mesh as WholeMesh}
 use Rattle.viz_piece.specs.Pieces.{Division, IsAnswer, in_turn}

@@ -1,6 +1,6 @@
 //! Marks of the ranks of cells that came in last.
 
-ghost use Rattle.std.specs.Prelude.{◌≡◌, ◌<◌, ◌↔◌, [], true, All, IsTrue, cond, length};
+ghost use Rattle.std.specs.Prelude.{◌≡◌, ◌<◌, ◌↔◌, [], true, All, cond, length};
 ghost use Rattle.viz_sheet.specs.Arrays.{ranks_in};
 ghost use Rattle.viz_sheet.specs.Steps.Marking.{IsMarkedBy};
 ghost use Rattle.viz_piece_restrict.specs.Steps.Levels.{AreMarkedTo};
@@ -52,12 +52,13 @@ fn mark_cells<C: RankCell>(
 
 /// Whether a cell is there with one level.
 fn is_at(there: bool, level: u32, wanted: u32) -> bool
-    ensures { IsTrue result ↔ ((there ≡ true) × (level ≡ wanted)) }
+    ensures { (result ≡ true) ↔ ((there ≡ true) × (level ≡ wanted)) }
 {
     there && level == wanted
 }
 
 /// Marks the ranks of a cell, if it is wanted.
+#[tactic(auto, using(viz_sheet::proofs::MarkingLemmas::none_marked))]
 fn mark_if(marks: &mut [bool], wanted: bool, cell: &[u32])
     requires { All (λ r. r < length marks.old) cell.now }
     ensures { IsMarkedBy marks.old (cond wanted cell.now []) marks.new }

@@ -1,6 +1,6 @@
 //! Parts of meshes, sheet by sheet.
 
-ghost use Rattle.std.specs.Prelude.{◌≡◌, ◌<◌, IfOk, map};
+ghost use Rattle.std.specs.Prelude.{◌≡◌, ◌<◌, IfOk, length, map};
 ghost use Rattle.viz_piece_filters.specs.Filters.{trimmed_part};
 ghost use Rattle.viz_piece_restrict.specs.Steps.Cuts.{ArePieces};
 
@@ -33,7 +33,7 @@ pub(crate) fn pieces_in_turn(
     ghosts: u32,
 ) -> Result<Vec<PartSheet>, AllocError>
     requires { p < n }
-    ensures { IfOk result (λ v. ArePieces p n ghosts parts.now v.items) }
+    ensures { IfOk result (λ v. ArePieces p n ghosts (length parts.now) parts.now v.items) }
 {
     let mut cuts = Vec::with_capacity(alloc, parts.len())?;
     for part in parts {

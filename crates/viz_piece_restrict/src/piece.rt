@@ -4,7 +4,7 @@ ghost use Rattle.std.specs.Prelude.{◌≡◌, ◌+◌, ◌++◌, ◌<◌, ◌�
 ghost use Rattle.viz_extent.specs.Slabs.{share_begin};
 ghost use Rattle.viz_piece.specs.Pieces.{IsSheetPart, own_range, own_share};
 
-use crate::growth::{Grown, levels_around};
+use crate::growth::levels_around;
 use crate::keeping::{kept_items, kept_sheet};
 use std::alloc::{AllocError, Global};
 use viz_piece::PartSheet;
@@ -23,9 +23,9 @@ pub fn piece_of(
     requires matched { length own.items ≡ length sheet.now.cells }
     ensures part { IfOk result (IsSheetPart sheet.now own.items ghosts) }
 {
-    let Grown { there, levels } = levels_around(alloc, sheet, own, ghosts)?;
-    let cut = kept_sheet(alloc, sheet, &there)?;
-    let levels = kept_items(alloc, &there, &levels)?;
+    let around = levels_around(alloc, sheet, own, ghosts)?;
+    let cut = kept_sheet(alloc, sheet, &around.there)?;
+    let levels = kept_items(alloc, &around.there, &around.levels)?;
     Ok(PartSheet::new(cut, levels))
 }
 

@@ -2,6 +2,7 @@
 
 ghost use Rattle.std.specs.Prelude.{◌≡◌, IfOk, length, map, nat_le};
 ghost use Rattle.viz_piece_filters.specs.Filters.{trimmed_part};
+ghost use Rattle.viz_sheet.specs.Kept.{kept};
 
 use crate::keeping::kept_sheet;
 use std::alloc::{AllocError, Global};
@@ -14,7 +15,7 @@ pub(crate) fn trimmed(alloc: Global, part: &PartSheet, ghosts: u32) -> Result<Pa
     part.known();
     let keeps = near_cells(alloc, part, ghosts)?;
     let sheet = kept_sheet(alloc, part.sheet(), &keeps)?;
-    let levels = near_levels(alloc, part, ghosts)?;
+    let levels = kept_levels(alloc, part, &keeps)?;
     Ok(PartSheet::new(sheet, levels))
 }
 
@@ -31,26 +32,18 @@ fn near_cells(alloc: Global, part: &PartSheet, ghosts: u32) -> Result<Vec<bool>,
     Ok(keeps)
 }
 
-/// Their levels.
-fn near_levels(alloc: Global, part: &PartSheet, ghosts: u32) -> Result<Vec<u32>, AllocError>
-    ensures { IfOk result (λ v. v.items ≡ near_items ghosts part.now.levels part.now.levels) }
+/// The levels of the marked cells.
+#[tactic(auto, using(viz_sheet::proofs::KeptLemmas::more))]
+fn kept_levels(alloc: Global, part: &PartSheet, keeps: &[bool]) -> Result<Vec<u32>, AllocError>
+    requires { length keeps.now ≡ length part.now.levels }
+    ensures { IfOk result (λ v. v.items ≡ kept keeps.now part.now.levels) }
 {
     part.known();
-    let count = part.sheet().cell_count();
-    let mut levels = Vec::with_capacity(alloc, count)?;
-    for i in 0..count {
-        push_near(&mut levels, part.level(i), ghosts)?;
+    let mut levels = Vec::with_capacity(alloc, part.sheet().cell_count())?;
+    for i in 0..part.sheet().cell_count() {
+        if keeps[i] {
+            levels.push(part.level(i))?;
+        }
     }
     Ok(levels)
-}
-
-/// Adds a level, if it is at most so much.
-fn push_near(levels: &mut Vec<u32>, level: u32, ghosts: u32) -> Result<(), AllocError>
-    ensures { IfOk result (λ _. levels.new.items
-        ≡ levels.old.items ++ (if nat_le level ghosts then level ∷ [] else [])) }
-{
-    if level <= ghosts {
-        levels.push(level)?;
-    }
-    Ok(())
 }

@@ -14,8 +14,8 @@ pub record IsKeptSheet (s : SheetData) (keeps : List Bool) (made : SheetData) : 
   pub points : KeepPoints made.names made.points s.names s.points
   pub value : made ≡ with_cells s (kept keeps s.cells)
 
--- of each sheet, which has all cells, the piece p of n of its cells in turn
-pub record ArePieces (p n ghosts : ℕ) (parts cuts : List PartSheetData) : Type 0 where
-  pub size : length cuts ≡ length parts
-  pub each : (k : ℕ) (d : PartSheetData) → k < length parts
+-- of the first sheets, so many, which have all cells, the piece p of n of its cells in turn
+pub record ArePieces (p n ghosts count : ℕ) (parts cuts : List PartSheetData) : Type 0 where
+  pub size : length cuts ≡ count
+  pub each : (k : ℕ) (d : PartSheetData) → k < count
       → IsSheetPart (slice_index_or parts k d).sheet (own_share p n (length (slice_index_or parts k d).sheet.cells)) ghosts (slice_index_or cuts k d)
