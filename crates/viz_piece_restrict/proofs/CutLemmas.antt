@@ -1,5 +1,5 @@
 -- Parts of datasets cut from parts.
-use Rattle.std.proofs.Common.{◌≡◌, ℕ, ◌<◌, ◌≤◌, Bool, List, [], length, get_or, map, sym, subst, ◌∙◌, ⊎_elim, arith}
+use Rattle.std.proofs.Common.{refl, inl, ap, ◌≡◌, ℕ, ◌<◌, ◌≤◌, Bool, List, [], length, get_or, map, sym, subst, ◌∙◌, ⊎_elim, arith}
 use Rattle.std.proofs.lemmas.List.{get_or-map, length-map}
 use Rattle.viz_dataset.specs.Images.{ImageData, IsImage, IsRestricted}
 use Rattle.viz_dataset.specs.declared.dataset.Dataset.{Dataset}
@@ -19,8 +19,8 @@ use Rattle.viz_piece_stitch.specs.Steps.Columns.{IsMesh, sheets_in}
 use Rattle.viz_piece_stitch.proofs.MeshLemmas.{as_piece}
 use Rattle.viz_piece_stitch.proofs.WholeLemmas.{no_part, only_is_whole}
 use Rattle.viz_sheet.specs.Sheet.{SheetData}
-use Rattle.viz_piece_restrict.specs.Restricting.{IsCut, IsSamePiece, LetsCut}
-use Rattle.viz_piece_restrict.specs.Steps.Cuts.{ArePieces}
+use Rattle.viz_piece_restrict.specs.Restricting.{IsCut, IsSamePiece, IsSomeAnswer, LetsCut}
+use Rattle.viz_piece_restrict.specs.Steps.Cuts.{ArePieces, AreWholes, all_own}
 
 -- ---- images
 
@@ -140,9 +140,82 @@ pieces-cut (Piece q m more) p n ghosts part cut covers one other mesh are = reco
     by_whole (WholeImage whole) division lets h = absurd h
     by_whole (WholeMesh sheets) division lets h = (one, ⊎_elim (λ same. absurd (other same)) (λ turns. by_turn sheets division turns.0 turns.1 h.1) lets)
 
--- the same part, where the requests are equal
-pub same-cut : (kept wanted : Request) (part cut : Part) → kept ≡ wanted → cut ≡ part → IsCut kept wanted part cut
-same-cut kept wanted part cut e is = record {
-  answers = λ whole division lets h.
-      subst (λ c. IsAnswer whole division wanted c) (sym is) (subst (λ r. IsAnswer whole division r part) e h);
+-- ---- what is cut is a part of some dataset
+
+pub some-image : (kept : Request) (block : Bounds) (image : ImageData) (cut : Part) → IsSomeAnswer kept (Image image) → IsCut kept (Block block) (Image image) cut → IsSomeAnswer (Block block) cut
+some-image kept block image cut some is = record {
+  whole = some.whole;
+  division = some.division;
+  answers = is.answers some.whole some.division (lets some.whole kept some.answers) some.answers;
 }
+  where
+    lets : (whole : Dataset) (r : Request) → IsAnswer whole some.division r (Image image) → LetsCut whole some.division r (Block block)
+    lets (WholeImage whole) r h = tt
+    lets (WholeMesh sheets) (Block b) h = absurd h
+    lets (WholeMesh sheets) (Piece p n ghosts) h = absurd h.1
+
+pub some-trimmed : (kept wanted : Request) (part cut : Part) → IsSomeAnswer kept part → IsSamePiece kept wanted → IsCut kept wanted part cut → IsSomeAnswer wanted cut
+some-trimmed kept wanted part cut some same is = record {
+  whole = some.whole;
+  division = some.division;
+  answers = is.answers some.whole some.division (lets some.whole) some.answers;
+}
+  where
+    lets : (whole : Dataset) → LetsCut whole some.division kept wanted
+    lets (WholeImage whole) = tt
+    lets (WholeMesh sheets) = inl same
+
+-- pieces by cells in turn are those of the mesh of these sheets
+pub some-pieces : (p n ghosts : ℕ) (parts : List PartSheetData) (cut : Part) → p < n → IsMesh cut → ArePieces p n ghosts (length parts) parts (sheets_in cut) → IsSomeAnswer (Piece p n ghosts) cut
+some-pieces p n ghosts parts cut one mesh are =
+    let sheets : List SheetData = map (λ (u : PartSheetData). u.sheet) parts in
+    record {
+      whole = WholeMesh sheets;
+      division = in_turn sheets;
+      answers = (
+        one,
+        to_piece sheets (in_turn sheets p n) ghosts cut mesh (record {
+          matched = are.size ∙ sym (length-map parts (λ (u : PartSheetData). u.sheet));
+          owned = length-map sheets (λ (u : SheetData). own_share p n (length u.cells));
+          each = λ k s d l.
+              let b : k < length parts = omega (arith, l, length-map parts (λ (u : PartSheetData). u.sheet)) in
+              subst (λ own. IsSheetPart (get_or sheets k s) own ghosts (get_or (sheets_in cut) k d)) (sym (get_or-map (λ (u : SheetData). own_share p n (length u.cells)) sheets k s [] l))
+              (subst (λ (u : SheetData). IsSheetPart u (own_share p n (length u.cells)) ghosts (get_or (sheets_in cut) k d)) (sym (get_or-map (λ (u : PartSheetData). u.sheet) parts k d s b))
+              (are.each k d b));
+        }),
+      );
+    }
+
+-- ---- all of a dataset
+
+pub image-is : (image : ImageData) (division : Division) → IsImage image → IsAnswer (WholeImage image) division (Block image.extent) (Image image)
+image-is image division h = record {
+  whole_is = h;
+  part_is = h;
+  within = record {
+    x = record { first = omega arith; last = omega arith };
+    y = record { first = omega arith; last = omega arith };
+    z = record { first = omega arith; last = omega arith };
+  };
+  same = record { extent = refl; origin = refl; spacing = refl; kind = refl; values = λ i j k at. refl };
+}
+
+pub some-whole_image : (image : ImageData) → IsImage image → IsSomeAnswer (Block image.extent) (Image image)
+some-whole_image image h = record { whole = WholeImage image; division = λ p n. []; answers = image-is image (λ p n. []) h }
+
+pub mesh-is : (sheets : List SheetData) (part : Part) → IsMesh part → AreWholes sheets (sheets_in part) → IsAnswer (WholeMesh sheets) (in_turn sheets) (Piece 0 1 0) part
+mesh-is sheets part mesh are = (
+  omega arith,
+  to_piece sheets (in_turn sheets 0 1) 0 part mesh (record {
+    matched = ap length are.value ∙ length-map sheets all_own;
+    owned = length-map sheets (λ (u : SheetData). own_share 0 1 (length u.cells));
+    each = λ k s d l.
+        subst (λ own. IsSheetPart (get_or sheets k s) own 0 (get_or (sheets_in part) k d)) (sym (get_or-map (λ (u : SheetData). own_share 0 1 (length u.cells)) sheets k s [] l))
+        (subst (λ (p : PartSheetData). IsSheetPart (get_or sheets k s) (own_share 0 1 (length (get_or sheets k s).cells)) 0 p)
+        (sym (ap (λ ps. get_or ps k d) are.value ∙ get_or-map all_own sheets k s d l))
+        (are.parts_are k s l));
+  }),
+)
+
+pub some-whole_mesh : (sheets : List SheetData) (part : Part) → IsMesh part → AreWholes sheets (sheets_in part) → IsSomeAnswer (Piece 0 1 0) part
+some-whole_mesh sheets part mesh are = record { whole = WholeMesh sheets; division = in_turn sheets; answers = mesh-is sheets part mesh are }

@@ -5,3 +5,4 @@ pub mod LevelLemmas
 pub mod KeepLemmas
 pub mod PieceLemmas
 pub mod CutLemmas
+pub mod RequestLemmas

@@ -1,17 +1,18 @@
 -- Pieces of sheets.
-use Rattle.std.proofs.Common.{◌≡◌, ℕ, ◌+◌, ◌-◌, ◌<◌, ◌≤◌, Bool, true, false, List, [], ◌∷◌, ◌++◌, length, get_or, replicate, sym, ap, subst, ◌∙◌, ⊎_elim, length-append, arith}
+use Rattle.std.proofs.Common.{refl, zero, suc, ap₂, append-nil, ◌≡◌, ℕ, ◌+◌, ◌-◌, ◌<◌, ◌≤◌, Bool, true, false, List, [], ◌∷◌, ◌++◌, length, get_or, replicate, sym, ap, subst, ◌∙◌, ⊎_elim, length-append, arith}
 use Rattle.std.proofs.lemmas.Bool.{cases_lt}
-use Rattle.std.proofs.lemmas.List.{get_or_append_left, get_or_push, length-replicate, length_push}
+use Rattle.std.proofs.lemmas.List.{get_or_append_left, get_or_push, length-replicate, length_push, map_push}
+use Rattle.std.proofs.lemmas.List.Elements.{All-push}
 use Rattle.viz_extent.specs.Slabs.{share_begin}
-use Rattle.viz_extent.proofs.SlabLemmas.{begins_within, shares_rise}
+use Rattle.viz_extent.proofs.SlabLemmas.{first_begins, last_ends, begins_within, shares_rise}
 use Rattle.viz_piece.specs.Parts.{PartSheetData}
 use Rattle.viz_piece.specs.Pieces.{IsSheetPart, own_range, own_share}
 use Rattle.viz_sheet.specs.Kept.{kept}
 use Rattle.viz_sheet.specs.Sheet.{SheetData, IsSheet, KeepPoints}
 use Rattle.viz_sheet.proofs.KeptLemmas.{kept-lengths}
-use Rattle.viz_piece_restrict.specs.Steps.Cuts.{ArePieces, IsKeptSheet}
+use Rattle.viz_piece_restrict.specs.Steps.Cuts.{ArePieces, AreWholes, IsKeptSheet, all_own}
 use Rattle.viz_piece_restrict.specs.Steps.Levels.{IsGrown, seen_in}
-use Rattle.viz_piece_restrict.proofs.SeenLemmas.{cells-seen_in, levels-seen_in, owned-seen_in, whole-seen_in}
+use Rattle.viz_piece_restrict.proofs.SeenLemmas.{start-seen, cells-seen_in, levels-seen_in, owned-seen_in, whole-seen_in}
 
 -- a level for each kept cell
 pub kept-matched : (s t : SheetData) (there : List Bool) (levels left : List ℕ) → length levels ≡ length s.cells → IsKeptSheet s there t → left ≡ kept there levels → length left ≡ length t.cells
@@ -75,3 +76,45 @@ pieces-more p n ghosts i parts cuts item cut at is h = record {
         subst (λ q. IsTurnPiece p n ghosts (get_or parts q d) (get_or (cuts ++ cut ∷ []) q d)) (sym same)
         (subst (λ x. IsTurnPiece p n ghosts x (get_or (cuts ++ cut ∷ []) i d)) (sym (at d))
         (subst (IsTurnPiece p n ghosts item) (sym (get_or_push cuts cut d i h.size)) is))
+
+-- ---- all cells own
+
+kept-all : {X : Type 0} (n : ℕ) (xs : List X) → length xs ≡ n → kept (replicate n true) xs ≡ xs
+kept-all zero [] e = refl
+kept-all zero (x ∷ xs) e = absurd (omega (arith, e))
+kept-all (suc n) [] e = absurd (omega (arith, e))
+kept-all (suc n) (x ∷ xs) e = ap (λ r. x ∷ r) (kept-all n xs (omega (arith, e)))
+
+own-all : (n : ℕ) → own_share 0 1 n ≡ replicate n true
+own-all n =
+    ap₂ (own_range n) (first_begins 1 n (omega arith)) (last_ends 1 n (omega arith))
+    ∙ ap₂ (λ (a b : ℕ). replicate 0 false ++ (replicate a true ++ replicate b false)) {x = n - 0} {y = n} {u = n - n} {v = 0} (omega arith) (omega arith)
+    ∙ append-nil (replicate n true)
+
+pub whole-part : (s : SheetData) → IsSheet s → IsSheetPart s (own_share 0 1 (length s.cells)) 0 (all_own s)
+whole-part s h =
+    let n : ℕ = length s.cells in
+    let own : List Bool = own_share 0 1 n in
+    let zeros : List ℕ = replicate n 0 in
+    let counted : length own ≡ n = length-own_share 0 1 n (omega arith) in
+    record {
+      whole_is = h;
+      sheet_is = h;
+      part_is = record {
+        seen = seen_in s.cells own own zeros;
+        covered = whole-seen_in s.cells own own zeros;
+        owned = owned-seen_in s.cells own own zeros counted;
+        rule = start-seen s.cells own;
+        cells = cells-seen_in s.cells own own zeros counted ∙ ap (λ ms. kept ms s.cells) (own-all n) ∙ kept-all n s.cells refl;
+        levels = levels-seen_in s.cells own own zeros counted (length-replicate n 0) ∙ ap (λ ms. kept ms zeros) (own-all n) ∙ kept-all n zeros (length-replicate n 0);
+        points = λ k d l. (k, l, refl, refl);
+      };
+    }
+
+-- one sheet more
+pub wholes-more : (sheets : List SheetData) (parts : List PartSheetData) (s : SheetData) (part : PartSheetData)
+    → part ≡ all_own s → IsSheetPart s (own_share 0 1 (length s.cells)) 0 (all_own s) → AreWholes sheets parts → AreWholes (sheets ++ s ∷ []) (parts ++ part ∷ [])
+wholes-more sheets parts s part e is h = record {
+  value = ap₂ (λ ps q. ps ++ q ∷ []) h.value e ∙ sym (map_push all_own sheets s);
+  parts_are = All-push (λ u. IsSheetPart u (own_share 0 1 (length u.cells)) 0 (all_own u)) sheets s h.parts_are is;
+}

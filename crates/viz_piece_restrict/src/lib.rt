@@ -15,9 +15,11 @@ mod piece;
 mod restriction;
 mod taking;
 mod trimming;
+mod wholes;
 
 pub use piece::piece_of;
 pub use restriction::{restrict, restrict_shared};
+pub use wholes::{whole_image, whole_mesh};
 
 #[cfg(test)]
 mod tests;

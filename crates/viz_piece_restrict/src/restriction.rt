@@ -24,7 +24,8 @@ pub fn restrict(
     requires covers { Covers kept.now wanted.now }
     requires counted { IsOneOfMany wanted.now }
     requires answers { IsSomeAnswer kept.now part.now }
-    ensures cut { IfOk result (IsCut kept.now wanted.now part.now) }
+    ensures ok { IfOk result (IsCut kept.now wanted.now part.now) }
+    ensures answers { IfOk result (IsSomeAnswer wanted.now) }
 {
     match part {
         Part::Image(image) => restricted_image(alloc, image, kept, wanted),
@@ -43,7 +44,9 @@ pub fn restrict_shared(
     requires covers { Covers kept.now wanted.now }
     requires counted { IsOneOfMany wanted.now }
     requires answers { IsSomeAnswer kept.now part.now }
-    ensures cut { IfOk result (IsCut kept.now wanted.now part.now) }
+    ensures ok { IfOk result (IsCut kept.now wanted.now part.now) }
+    ensures answers { IfOk result (IsSomeAnswer wanted.now) }
+    ensures same { kept.now ≡ wanted.now → IfOk result (λ cut. cut ≡ part.now) }
 {
     if kept == wanted {
         return part.copy();
@@ -61,7 +64,8 @@ fn restricted_image(
 ) -> Result<Part, AllocError>
     requires covers { Covers kept.now wanted.now }
     requires answers { IsSomeAnswer kept.now (Part.Image image.now) }
-    ensures { IfOk result (IsCut kept.now wanted.now (Part.Image image.now)) }
+    ensures ok { IfOk result (IsCut kept.now wanted.now (Part.Image image.now)) }
+    ensures answers { IfOk result (IsSomeAnswer wanted.now) }
 {
     match wanted {
         Request::Block(block) => Ok(Part::Image(image.restrict(alloc, block)?)),
@@ -79,7 +83,8 @@ fn restricted_mesh(
     requires covers { Covers kept.now wanted.now }
     requires counted { IsOneOfMany wanted.now }
     requires answers { IsSomeAnswer kept.now (Part.Mesh parts.now) }
-    ensures { IfOk result (IsCut kept.now wanted.now (Part.Mesh parts.now)) }
+    ensures ok { IfOk result (IsCut kept.now wanted.now (Part.Mesh parts.now)) }
+    ensures answers { IfOk result (IsSomeAnswer wanted.now) }
 {
     match wanted {
         Request::Block(_) => unreachable!(),

@@ -15,5 +15,5 @@ loop-part-preserved c =
     let cut = c.in_ok-piece_in_turn.field-0 in
     let is : IsSheetPart item.sheet (own_share c.args.p c.args.n (length item.sheet.cells)) c.args.ghosts cut =
     subst (λ (s : SheetData). IsSheetPart s (own_share c.args.p c.args.n (length s.cells)) c.args.ghosts cut) c.sheet.ensures.value c.in_ok-piece_in_turn.ensures in
-    subst (λ (cuts : List PartSheetData). ArePieces c.args.p c.args.n c.args.ghosts (i + 1) parts cuts) (sym c.in_ok-push.ensures.items)
+    subst (λ (cuts : List PartSheetData). ArePieces c.args.p c.args.n c.args.ghosts (i + 1) parts cuts) (sym {A = List PartSheetData} c.in_ok-push.ensures.items)
     (pieces-more c.args.p c.args.n c.args.ghosts i parts c.loop-part.cuts.items item cut (λ d. get_or_default parts i d item c.loop-part-test.true ∙ sym c.part-item.is) is c.loop-part.invariant)
