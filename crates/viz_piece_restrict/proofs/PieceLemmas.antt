@@ -6,7 +6,8 @@ use Rattle.std.proofs.lemmas.List.Elements.{All-push}
 use Rattle.viz_extent.specs.Slabs.{share_begin}
 use Rattle.viz_extent.proofs.SlabLemmas.{first_begins, last_ends, begins_within, shares_rise}
 use Rattle.viz_piece.specs.Parts.{PartSheetData}
-use Rattle.viz_piece.specs.Pieces.{IsSheetPart, own_range, own_share}
+use Rattle.viz_piece_restrict.specs.Restricting.{IsGrownPart}
+use Rattle.viz_piece.specs.Pieces.{IsPartOf, IsSheetPart, own_range, own_share}
 use Rattle.viz_sheet.specs.Kept.{kept}
 use Rattle.viz_sheet.specs.Sheet.{SheetData, IsSheet, KeepPoints}
 use Rattle.viz_sheet.proofs.KeptLemmas.{kept-lengths}
@@ -19,21 +20,30 @@ pub kept-matched : (s t : SheetData) (there : List Bool) (levels left : List ℕ
 kept-matched s t there levels left e k is = ap length is ∙ kept-lengths there levels s.cells e ∙ sym (ap length k.cells)
 
 -- the kept cells with their levels are the piece
+piece-seen : (s t : SheetData) (own there : List Bool) (levels left : List ℕ) (ghosts : ℕ) (part : PartSheetData)
+    → length own ≡ length s.cells → IsGrown s own ghosts there levels → IsKeptSheet s there t → left ≡ kept there levels → part.sheet ≡ t → part.levels ≡ left
+    → IsPartOf s own ghosts part
+piece-seen s t own there levels left ghosts part o g k is sheet level = record {
+  seen = seen_in s.cells own there levels;
+  covered = whole-seen_in s.cells own there levels;
+  owned = owned-seen_in s.cells own there levels o;
+  rule = g.seen;
+  cells = cells-seen_in s.cells own there levels g.there_size ∙ sym k.cells ∙ ap (λ (u : SheetData). u.cells) (sym sheet);
+  levels = levels-seen_in s.cells own there levels g.there_size g.levels_size ∙ sym is ∙ sym level;
+  points = subst (λ (u : SheetData). KeepPoints u.names u.points s.names s.points) (sym sheet) k.points;
+}
+
 pub piece-made : (s t : SheetData) (own there : List Bool) (levels left : List ℕ) (ghosts : ℕ) (part : PartSheetData)
     → length own ≡ length s.cells → IsGrown s own ghosts there levels → IsKeptSheet s there t → left ≡ kept there levels → part.sheet ≡ t → part.levels ≡ left
-    → IsSheetPart s own ghosts part
+    → IsGrownPart s own ghosts part
+unfolding piece-seen
 piece-made s t own there levels left ghosts part o g k is sheet level = record {
-  whole_is = k.whole_is;
-  sheet_is = subst IsSheet (sym sheet) k.made_is;
   part_is = record {
-    seen = seen_in s.cells own there levels;
-    covered = whole-seen_in s.cells own there levels;
-    owned = owned-seen_in s.cells own there levels o;
-    rule = g.seen;
-    cells = cells-seen_in s.cells own there levels g.there_size ∙ sym k.cells ∙ ap (λ (u : SheetData). u.cells) (sym sheet);
-    levels = levels-seen_in s.cells own there levels g.there_size g.levels_size ∙ sym is ∙ sym level;
-    points = subst (λ (u : SheetData). KeepPoints u.names u.points s.names s.points) (sym sheet) k.points;
+    whole_is = k.whole_is;
+    sheet_is = subst IsSheet (sym sheet) k.made_is;
+    part_is = piece-seen s t own there levels left ghosts part o g k is sheet level;
   };
+  steps = g.steps;
 }
 
 -- marks of a range are as many as the cells

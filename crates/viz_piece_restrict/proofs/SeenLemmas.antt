@@ -1,11 +1,13 @@
 -- What is seen of cells, by which are there and with which levels.
-use Rattle.std.proofs.Common.{◌≡◌, ℕ, ◌<◌, Bool, true, false, Option, Some, None, List, [], ◌∷◌, ◌++◌, length, get_or, map, replicate, cond, refl, sym, ap, ap₂, subst, ◌∙◌, arith}
+use Rattle.std.proofs.Common.{◌+◌, ◌≡◌, ℕ, ◌<◌, Bool, true, false, Option, Some, None, List, [], ◌∷◌, ◌++◌, length, get_or, map, replicate, cond, refl, sym, ap, ap₂, subst, ◌∙◌, arith}
 use Rattle.std.specs.List.{Contains, range_with_len}
 use Rattle.std.proofs.lemmas.List.{get_or-replicate}
-use Rattle.viz_piece.specs.Seen.{Seen, AreSeen, cell_if, cells_seen, level_if, levels_seen, owned_seen, seen_as, whole_seen}
+use Rattle.std.proofs.lemmas.List.FromFn.{length-range_with_len, get_or-range_with_len}
+use Rattle.std.proofs.lemmas.Option.{none-some, same_Some}
+use Rattle.viz_piece.specs.Seen.{Seen, AreSeen, AreSteps, cell_if, cells_seen, level_if, levels_seen, owned_seen, seen_as, whole_seen}
 use Rattle.viz_piece_filters.specs.Growth.{grown_level, grown_seen, own_seen}
 use Rattle.viz_piece_filters.proofs.GrowthLemmas.{parts_start}
-use Rattle.viz_piece_filters.proofs.PartLemmas.{from_map}
+use Rattle.viz_piece_filters.proofs.PartLemmas.{from_map, into_map}
 use Rattle.viz_piece_stitch.proofs.WholeLemmas.{by_place}
 use Rattle.viz_sheet.specs.Kept.{kept}
 use Rattle.viz_piece_restrict.specs.Steps.Levels.{AreSameLevels, level_at, seen_at, seen_in}
@@ -92,3 +94,21 @@ pub stands : (cells : List Cell) (own there : List Bool) (levels : List ℕ) (s 
 stands cells own there levels s c =
     let from = from_map (seen_at cells own there levels) (range_with_len 0 (length cells)) s c in
     (from.0, in_range (length cells) from.0 from.1, from.2)
+
+-- each cell is seen
+pub sees : (cells : List Cell) (own there : List Bool) (levels : List ℕ) (k : ℕ) → k < length cells → Contains (seen_in cells own there levels) (seen_at cells own there levels k)
+sees cells own there levels k l =
+    into_map (seen_at cells own there levels) (range_with_len 0 (length cells)) k
+    (k, omega (arith, l, length-range_with_len 0 (length cells)), get_or-range_with_len 0 (length cells) k k l ∙ omega arith)
+
+level_zero : (b : Bool) (m : ℕ) → ◌≡◌ {A = Option ℕ} (cond b (Some 0) None) (Some (m + 1)) → ⊥
+level_zero true m e = absurd (omega (arith, same_Some 0 (m + 1) e))
+level_zero false m e = absurd (none-some (m + 1) e)
+
+-- own cells alone are no steps away
+pub start-steps : (cells : List Cell) (own : List Bool) → AreSteps (seen_in cells own own (replicate (length cells) 0))
+start-steps cells own s m c e =
+    let zeros : List ℕ = replicate (length cells) 0 in
+    let at = stands cells own own zeros s c in
+    let is : cond (get_or own at.0 false) (Some (get_or zeros at.0 0)) None ≡ Some (m + 1) = ap (λ (u : Seen). u.level) at.2 ∙ e in
+    absurd (level_zero (get_or own at.0 false) m (ap (λ (z : ℕ). cond (get_or own at.0 false) (Some z) None) (sym (get_or-replicate (length cells) at.0 0 0 at.1)) ∙ is))

@@ -1,8 +1,10 @@
 -- Parts cut from parts: what is kept for one request serves another that it covers (VTK User's Guide, "Streaming").
-use Rattle.std.specs.Prelude.{◌≡◌, ◌⊎◌, ◌<◌, ◌≤◌, List}
+use Rattle.std.specs.Prelude.{Bool, ℕ, ◌≡◌, ◌⊎◌, ◌<◌, ◌≤◌, List}
 use Rattle.viz_dataset.specs.declared.dataset.Dataset.{Dataset}
 use Rattle.viz_dataset.specs.declared.dataset.Dataset.TheVariants.{Image as WholeImage, Mesh as WholeMesh}
-use Rattle.viz_piece.specs.Pieces.{Division, IsAnswer, in_turn}
+use Rattle.viz_piece.specs.Pieces.{Division, IsAnswer, IsSheetPart, in_turn}
+use Rattle.viz_piece.specs.Parts.{PartSheetData}
+use Rattle.viz_piece.specs.Seen.{AreSteps}
 use Rattle.viz_piece.specs.declared.request.Part.{Part}
 use Rattle.viz_piece.specs.declared.request.Request.{Request}
 use Rattle.viz_piece.specs.declared.request.Request.TheVariants.{Block, Piece}
@@ -38,3 +40,8 @@ LetsCut (WholeMesh sheets) division kept wanted =
 -- a part is cut from a kept one: of each dataset and division that lets it be cut, for which the kept part answers its request, it answers the wanted one
 pub record IsCut (kept wanted : Request) (part cut : Part) : Type 0 where
   pub answers : (whole : Dataset) (division : Division) → LetsCut whole division kept wanted → IsAnswer whole division kept part → IsAnswer whole division wanted cut
+
+-- a part of a sheet whose ghost levels are the least numbers of steps from its own cells
+pub record IsGrownPart (whole : SheetData) (own : List Bool) (ghosts : ℕ) (part : PartSheetData) : Type 0 where
+  pub part_is : IsSheetPart whole own ghosts part
+  pub steps : AreSteps part_is.part_is.seen

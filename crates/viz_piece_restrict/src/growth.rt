@@ -41,7 +41,7 @@ fn grow_levels(
     levels: &mut [u32],
     ghosts: u32,
 )
-    requires marks { length marks.old ≡ length sheet.now.names }
+    requires marks { marks.old ≡ replicate (length sheet.now.names) false }
     requires there { length there.old ≡ length sheet.now.cells }
     requires levels { levels.old ≡ replicate (length sheet.now.cells) 0 }
     ensures { IsGrown sheet.now there.old ghosts there.new levels.new }

@@ -3,6 +3,7 @@
 ghost use Rattle.std.specs.Prelude.{◌≡◌, ◌+◌, ◌++◌, ◌<◌, ◌≤◌, IfOk, length, replicate};
 ghost use Rattle.viz_extent.specs.Slabs.{share_begin};
 ghost use Rattle.viz_piece.specs.Pieces.{IsSheetPart, own_range, own_share};
+ghost use Rattle.viz_piece_restrict.specs.Restricting.{IsGrownPart};
 
 use crate::growth::levels_around;
 use crate::keeping::{kept_items, kept_sheet};
@@ -21,7 +22,7 @@ pub fn piece_of(
     ghosts: u32,
 ) -> Result<PartSheet, AllocError>
     requires matched { length own.items ≡ length sheet.now.cells }
-    ensures part { IfOk result (IsSheetPart sheet.now own.items ghosts) }
+    ensures ok { IfOk result (IsGrownPart sheet.now own.items ghosts) }
 {
     let around = levels_around(alloc, sheet, own, ghosts)?;
     let cut = kept_sheet(alloc, sheet, &around.there)?;

@@ -1,4 +1,4 @@
-use Rattle.std.proofs.Common.{List, [], cond, get_or, sym, subst, ◌∙◌}
+use Rattle.std.proofs.Common.{Some, ap₂, Bool, ℕ, None, List, [], cond, get_or, sym, subst, ◌∙◌}
 use Rattle.std.proofs.lemmas.List.{get_or_default}
 use Rattle.std.proofs.lemmas.Option.{cond_some}
 use Rattle.viz_sheet.specs.Steps.Marking.{IsMarkedBy}
@@ -17,5 +17,6 @@ loop-i-preserved g c =
     c.is_at.result c.index-cells-i.result
     (λ d. get_or_default c.args.cells.now i d c.index-cells-i.result c.loop-i-test.true ∙ sym c.index-cells-i.is)
     (λ e. let parts = cond_some (get_or there i _) (get_or levels i 0) c.args.level e in c.is_at.ensures.1 (parts.0, parts.1))
+    (λ yes. let parts = c.is_at.ensures.0 yes in ap₂ (λ (t : Bool) (l : ℕ). cond t (Some l) None) parts.0 parts.1)
     c.loop-i.invariant
     (subst (λ (cell : List _). IsMarkedBy c.loop-i.marks (cond c.is_at.result cell []) c.mark_if.new.marks) c.listed.ensures c.mark_if.ensures)

@@ -19,7 +19,7 @@ returns c =
     let there = c.in_ok-around.around.there.items in
     let made = subst (λ ms. IsKeptSheet c.args.sheet.now ms c.in_ok-cut.cut) c.deref.ensures.value c.in_ok-cut.ensures in
     record {
-      part =
+      ok =
           piece-made c.args.sheet.now c.in_ok-cut.cut c.args.own.items there c.in_ok-around.around.levels.items c.in_ok-levels.levels.items c.args.ghosts c.new.result
           c.requires.matched c.in_ok-around.ensures made
           (c.in_ok-levels.ensures ∙ ap₂ kept c.deref-2.ensures.value c.deref-3.ensures.value)
