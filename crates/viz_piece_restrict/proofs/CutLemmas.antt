@@ -19,7 +19,7 @@ use Rattle.viz_piece_stitch.specs.Steps.Columns.{IsMesh, sheets_in}
 use Rattle.viz_piece_stitch.proofs.MeshLemmas.{as_piece}
 use Rattle.viz_piece_stitch.proofs.WholeLemmas.{no_part, only_is_whole}
 use Rattle.viz_sheet.specs.Sheet.{SheetData}
-use Rattle.viz_piece_restrict.specs.Restricting.{IsCut, IsSamePiece, IsSomeAnswer, LetsCut}
+use Rattle.viz_piece_restrict.specs.Restricting.{IsRestriction, IsSamePiece, IsSomeAnswer, LetsRestrict}
 use Rattle.viz_piece_restrict.specs.Steps.Cuts.{ArePieces, AreWholes, all_own}
 
 -- ---- images
@@ -53,7 +53,7 @@ block-of whole kept wanted image cut part h r valid = record {
   };
 }
 
-pub image-cut : (kept : Request) (block : Bounds) (image cut : ImageData) → Covers kept (Block block) → IsRestricted image block cut → IsImage cut → IsCut kept (Block block) (Image image) (Image cut)
+pub image-cut : (kept : Request) (block : Bounds) (image cut : ImageData) → Covers kept (Block block) → IsRestricted image block cut → IsImage cut → IsRestriction kept (Block block) (Image image) (Image cut)
 image-cut (Piece p n ghosts) block image cut covers r valid = absurd covers
 image-cut (Block kept) block image cut covers r valid = record { answers = λ whole division lets is. by_whole whole division is }
   where
@@ -78,7 +78,7 @@ trimmed-piece sheets owns more ghosts parts less h = record {
       (trimmed_chain more (get_or sheets k s) (get_or owns k []) ghosts (get_or parts k no_part) less (h.each k s no_part l));
 }
 
-pub trimmed-cut : (kept : Request) (p n ghosts : ℕ) (part cut : Part) → IsSamePiece kept (Piece p n ghosts) → IsMesh cut → sheets_in cut ≡ map (trimmed_part ghosts) (sheets_in part) → IsCut kept (Piece p n ghosts) part cut
+pub trimmed-cut : (kept : Request) (p n ghosts : ℕ) (part cut : Part) → IsSamePiece kept (Piece p n ghosts) → IsMesh cut → sheets_in cut ≡ map (trimmed_part ghosts) (sheets_in part) → IsRestriction kept (Piece p n ghosts) part cut
 trimmed-cut (Block block) p n ghosts part cut same mesh is = absurd same
 trimmed-cut (Piece q m more) p n ghosts part cut same mesh is = record { answers = λ whole division lets h. by_whole whole division h }
   where
@@ -119,7 +119,7 @@ module _ (sheets : List SheetData) (more : ℕ) (parts : List PartSheetData) (h 
   }
 
 pub pieces-cut : (kept : Request) (p n ghosts : ℕ) (part cut : Part) → Covers kept (Piece p n ghosts) → p < n → (IsSamePiece kept (Piece p n ghosts) → ⊥) → IsMesh cut
-    → ArePieces p n ghosts (length (sheets_in part)) (sheets_in part) (sheets_in cut) → IsCut kept (Piece p n ghosts) part cut
+    → ArePieces p n ghosts (length (sheets_in part)) (sheets_in part) (sheets_in cut) → IsRestriction kept (Piece p n ghosts) part cut
 pieces-cut (Block block) p n ghosts part cut covers one other mesh are = absurd covers
 pieces-cut (Piece q m more) p n ghosts part cut covers one other mesh are = record { answers = by_whole }
   where
@@ -136,32 +136,32 @@ pieces-cut (Piece q m more) p n ghosts part cut covers one other mesh are = reco
         to_piece sheets (division p n) ghosts cut mesh
         (subst (λ owns. IsPieceOf sheets owns ghosts (sheets_in cut)) (sym turn) (turn-piece sheets more (sheets_in part) whole_one p n ghosts (sheets_in cut) are))
 
-    by_whole : (whole : Dataset) (division : Division) → LetsCut whole division (Piece q m more) (Piece p n ghosts) → IsAnswer whole division (Piece q m more) part → IsAnswer whole division (Piece p n ghosts) cut
+    by_whole : (whole : Dataset) (division : Division) → LetsRestrict whole division (Piece q m more) (Piece p n ghosts) → IsAnswer whole division (Piece q m more) part → IsAnswer whole division (Piece p n ghosts) cut
     by_whole (WholeImage whole) division lets h = absurd h
     by_whole (WholeMesh sheets) division lets h = (one, ⊎_elim (λ same. absurd (other same)) (λ turns. by_turn sheets division turns.0 turns.1 h.1) lets)
 
 -- ---- what is cut is a part of some dataset
 
-pub some-image : (kept : Request) (block : Bounds) (image : ImageData) (cut : Part) → IsSomeAnswer kept (Image image) → IsCut kept (Block block) (Image image) cut → IsSomeAnswer (Block block) cut
+pub some-image : (kept : Request) (block : Bounds) (image : ImageData) (cut : Part) → IsSomeAnswer kept (Image image) → IsRestriction kept (Block block) (Image image) cut → IsSomeAnswer (Block block) cut
 some-image kept block image cut some is = record {
   whole = some.whole;
   division = some.division;
   answers = is.answers some.whole some.division (lets some.whole kept some.answers) some.answers;
 }
   where
-    lets : (whole : Dataset) (r : Request) → IsAnswer whole some.division r (Image image) → LetsCut whole some.division r (Block block)
+    lets : (whole : Dataset) (r : Request) → IsAnswer whole some.division r (Image image) → LetsRestrict whole some.division r (Block block)
     lets (WholeImage whole) r h = tt
     lets (WholeMesh sheets) (Block b) h = absurd h
     lets (WholeMesh sheets) (Piece p n ghosts) h = absurd h.1
 
-pub some-trimmed : (kept wanted : Request) (part cut : Part) → IsSomeAnswer kept part → IsSamePiece kept wanted → IsCut kept wanted part cut → IsSomeAnswer wanted cut
+pub some-trimmed : (kept wanted : Request) (part cut : Part) → IsSomeAnswer kept part → IsSamePiece kept wanted → IsRestriction kept wanted part cut → IsSomeAnswer wanted cut
 some-trimmed kept wanted part cut some same is = record {
   whole = some.whole;
   division = some.division;
   answers = is.answers some.whole some.division (lets some.whole) some.answers;
 }
   where
-    lets : (whole : Dataset) → LetsCut whole some.division kept wanted
+    lets : (whole : Dataset) → LetsRestrict whole some.division kept wanted
     lets (WholeImage whole) = tt
     lets (WholeMesh sheets) = inl same
 

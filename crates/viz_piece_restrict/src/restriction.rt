@@ -2,7 +2,7 @@
 
 ghost use Rattle.std.specs.Prelude.{◌≡◌, ◌<◌, ◌↔◌, IfOk, IsTrue};
 ghost use Rattle.viz_piece.specs.Pieces.{Covers};
-ghost use Rattle.viz_piece_restrict.specs.Restricting.{IsCut, IsOneOfMany, IsSamePiece, IsSomeAnswer};
+ghost use Rattle.viz_piece_restrict.specs.Restricting.{IsRestriction, IsOneOfMany, IsSamePiece, IsSomeAnswer};
 
 use crate::mesh::{pieces_in_turn, trimmed_parts};
 use std::alloc::{AllocError, Global};
@@ -24,7 +24,7 @@ pub fn restrict(
     requires covers { Covers kept.now wanted.now }
     requires counted { IsOneOfMany wanted.now }
     requires answers { IsSomeAnswer kept.now part.now }
-    ensures ok { IfOk result (IsCut kept.now wanted.now part.now) }
+    ensures ok { IfOk result (IsRestriction kept.now wanted.now part.now) }
     ensures answers { IfOk result (IsSomeAnswer wanted.now) }
 {
     match part {
@@ -44,7 +44,7 @@ pub fn restrict_shared(
     requires covers { Covers kept.now wanted.now }
     requires counted { IsOneOfMany wanted.now }
     requires answers { IsSomeAnswer kept.now part.now }
-    ensures ok { IfOk result (IsCut kept.now wanted.now part.now) }
+    ensures ok { IfOk result (IsRestriction kept.now wanted.now part.now) }
     ensures answers { IfOk result (IsSomeAnswer wanted.now) }
     ensures same { kept.now ≡ wanted.now → IfOk result (λ cut. cut ≡ part.now) }
 {
@@ -64,7 +64,7 @@ fn restricted_image(
 ) -> Result<Part, AllocError>
     requires covers { Covers kept.now wanted.now }
     requires answers { IsSomeAnswer kept.now (Part.Image image.now) }
-    ensures ok { IfOk result (IsCut kept.now wanted.now (Part.Image image.now)) }
+    ensures ok { IfOk result (IsRestriction kept.now wanted.now (Part.Image image.now)) }
     ensures answers { IfOk result (IsSomeAnswer wanted.now) }
 {
     match wanted {
@@ -83,7 +83,7 @@ fn restricted_mesh(
     requires covers { Covers kept.now wanted.now }
     requires counted { IsOneOfMany wanted.now }
     requires answers { IsSomeAnswer kept.now (Part.Mesh parts.now) }
-    ensures ok { IfOk result (IsCut kept.now wanted.now (Part.Mesh parts.now)) }
+    ensures ok { IfOk result (IsRestriction kept.now wanted.now (Part.Mesh parts.now)) }
     ensures answers { IfOk result (IsSomeAnswer wanted.now) }
 {
     match wanted {
