@@ -33,7 +33,7 @@ impl Model for Actor {
     ghost view = { λ actor. actor.core };
 
     ghost invariant = { λ actor. (own_of 1 actor.core.history ≡ actor.core.history)
-      × AreTrueOf (edits_of actor.core.history) actor.made.items };
+        × AreTrueOf (edits_of actor.core.history) actor.made.items };
 }
 
 impl Actor {
