@@ -31,15 +31,16 @@ abbrev pub IsInTurn : List SheetData → Division → Request → Type 0
 IsInTurn sheets division (Block block) = ⊥
 IsInTurn sheets division (Piece p n ghosts) = division p n ≡ in_turn sheets p n
 
--- a division lets a kept piece be restricted to a wanted one: it is the same piece, or both are cells in turn, as those of a file and of a merge are
+-- a division lets a kept piece be restricted to a wanted one: it is the same, or both are cells in turn, as in a file and in a merge
 abbrev pub LetsRestrict : Dataset → Division → Request → Request → Type 0
 LetsRestrict (WholeImage whole) division kept wanted = Unit {0}
 LetsRestrict (WholeMesh sheets) division kept wanted =
     IsSamePiece kept wanted ⊎ (IsInTurn sheets division kept × IsInTurn sheets division wanted)
 
--- the restriction of a kept part to a wanted request: of each dataset and division that lets it be restricted, for which the kept part answers its own request, it answers the wanted one
+-- the restriction of a kept part: of each dataset and division that lets it be made, it answers the wanted request where the part answers its own
 pub record IsRestriction (kept wanted : Request) (part restricted : Part) : Type 0 where
-  pub answers : (whole : Dataset) (division : Division) → LetsRestrict whole division kept wanted → IsAnswer whole division kept part → IsAnswer whole division wanted restricted
+  pub answers : (whole : Dataset) (division : Division) → LetsRestrict whole division kept wanted
+      → IsAnswer whole division kept part → IsAnswer whole division wanted restricted
 
 -- a part of a sheet whose ghost levels are the least numbers of steps from its own cells
 pub record IsGrownPart (whole : SheetData) (own : List Bool) (ghosts : ℕ) (part : PartSheetData) : Type 0 where

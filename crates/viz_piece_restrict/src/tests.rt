@@ -206,26 +206,43 @@ fn shows_piece(rt: &impl Abort, part: &Part, first: u32, levels: &[u32]) {
     }
 }
 
-// The first rank of a cell.
-fn first_rank(cell: &[u32]) -> usize {
-    match cell.first() {
-        Some(rank) => *rank as usize,
-        None => usize::MAX,
+// The level of a cell and its first rank, where there is one.
+fn cell_at(part: &PartSheet, i: usize) -> Option<(u32, u32)> {
+    if i >= part.sheet().cell_count() {
+        return None;
+    }
+    match part.sheet().cell(i).first() {
+        Some(rank) => Some((part.level(i), *rank)),
+        None => None,
+    }
+}
+
+// The first leaf of the first point and where the point lies along x, where there is one.
+fn first_point(sheet: &Sheet) -> Option<(u32, i128)> {
+    if sheet.point_count() == 0 {
+        return None;
+    }
+    match sheet.name(0).first() {
+        Some(leaf) => Some((*leaf, sheet.point(0).x())),
+        None => None,
     }
 }
 
 // The sheet has these levels, and its points are those from a first one on.
 fn shows_sheet(rt: &impl Abort, part: &PartSheet, first: u32, levels: &[u32]) {
-    let sheet = part.sheet();
-    assert_eq!(rt; sheet.cell_count(), levels.len(), "{levels:?}");
+    let mut rank: u32 = 0;
     for (i, level) in levels.iter().enumerate() {
-        assert!(rt; i < sheet.cell_count());
-        assert_eq!(rt; part.level(i), *level, "cell {i} of {levels:?}");
-        assert_eq!(rt; first_rank(sheet.cell(i)), i, "cell {i} of {levels:?}");
+        assert_eq!(rt;
+            cell_at(part, i),
+            Some((*level, rank)),
+            "cell {i} of {levels:?}"
+        );
+        rank = rank.saturating_add(1);
     }
-    if sheet.point_count() > 0 {
-        assert_eq!(rt; sheet.name(0), [first].as_slice(), "{levels:?}");
-        assert_eq!(rt; sheet.point(0).x(), i128::from(first), "{levels:?}");
+    assert_eq!(rt; part.sheet().cell_count(), levels.len(), "{levels:?}");
+    if !levels.is_empty() {
+        let want = Some((first, i128::from(first)));
+        assert_eq!(rt; first_point(part.sheet()), want, "{levels:?}");
     }
 }
 

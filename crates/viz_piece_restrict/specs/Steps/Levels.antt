@@ -43,13 +43,15 @@ pub record AreMarkedTo {X : Type 0} (ranks : X → List ℕ) (count : ℕ) (cell
   pub size : length new ≡ length old
   pub kept : (r : ℕ) → slice_index_or old r false ≡ true → slice_index_or new r false ≡ true
   pub added : (k : ℕ) (d : X) → k < count → level_at there levels k ≡ Some level → AreMarked new (ranks (slice_index_or cells k d))
-  pub only : (d : X) (r : ℕ) → slice_index_or new r false ≡ true → (slice_index_or old r false ≡ true) ⊎ HasRankAt ranks count cells there levels level d r
+  pub only : (d : X) (r : ℕ) → slice_index_or new r false ≡ true
+      → (slice_index_or old r false ≡ true) ⊎ HasRankAt ranks count cells there levels level d r
 
 -- the first cells, so many, come in where they have a marked rank; the others are as before
 pub record AreGrownTo {X : Type 0} (ranks : X → List ℕ) (count : ℕ) (cells : List X) (marks : List Bool) (next : ℕ) (there : List Bool) (levels : List ℕ) (now_there : List Bool) (now_levels : List ℕ) : Type 0 where
   pub there_size : length now_there ≡ length there
   pub levels_size : length now_levels ≡ length levels
-  pub each : (k : ℕ) (d : X) → k < count → level_at now_there now_levels k ≡ grown_level (is_any_marked marks (ranks (slice_index_or cells k d))) next (level_at there levels k)
+  pub each : (k : ℕ) (d : X) → k < count
+      → level_at now_there now_levels k ≡ grown_level (is_any_marked marks (ranks (slice_index_or cells k d))) next (level_at there levels k)
   pub others : (k : ℕ) → count ≤ k → level_at now_there now_levels k ≡ level_at there levels k
 
 -- each cell has the level that it had
@@ -65,7 +67,7 @@ pub record HasRankBefore (count : ℕ) (ranks : List (List ℕ)) (there : List B
   pub before : own_level < level
   pub has : Contains (slice_index_or ranks cell []) r
 
--- where growth stands after a level: a piece with so many ghost levels, the least numbers of steps, and marks of the ranks of its cells of the levels before
+-- where growth stands after a level: a piece with so many levels, least numbers of steps, and marks of its cells of the levels before
 pub record AreLevels (s : SheetData) (ranks : List (List ℕ)) (own : List Bool) (level : ℕ) (marks there : List Bool) (levels : List ℕ) : Type 0 where
   pub marks_size : length marks ≡ length s.names
   pub there_size : length there ≡ length s.cells
