@@ -1,1 +1,3 @@
+pub mod OnlyLemmas
+pub mod PieceLemmas
 pub mod SlabLemmas
