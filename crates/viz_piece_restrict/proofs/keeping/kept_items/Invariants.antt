@@ -1,0 +1,6 @@
+use Rattle.std.proofs.Common.{◌≡◌, take}
+use Rattle.viz_sheet.specs.Kept.{kept}
+use Rattle.viz_piece_restrict.proofs.keeping.kept_items.Given as goal
+
+abbrev pub invariant-loop-i : goal.invariant-loop-i
+invariant-loop-i g l = l.left.items ≡ kept (take l.i l.keeps) (take l.i l.items)

@@ -1,0 +1,2 @@
+pub mod Restricting
+pub mod Steps
