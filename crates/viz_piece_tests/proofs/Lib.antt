@@ -1,3 +1,2 @@
-pub mod OnlyLemmas
 pub mod PieceLemmas
 pub mod SlabLemmas

@@ -1,5 +1,5 @@
 -- Pieces that are cut in turn are all pieces.
-use Rattle.std.proofs.Common.{◌≡◌, ℕ, ◌+◌, ◌<◌, ◌≤◌, ⊎_elim, get_or, List, [], ◌∷◌, ◌++◌, length, map, refl, sym, ap, ap₂, subst, ◌∙◌, arith}
+use Rattle.std.proofs.Common.{◌≡◌, ℕ, ◌+◌, ◌<◌, ⊎_elim, get_or, List, [], ◌∷◌, ◌++◌, length, map, refl, sym, ap, ap₂, subst, ◌∙◌, arith}
 use Rattle.std.specs.List.{range_with_len}
 use Rattle.std.proofs.lemmas.Bool.{cases_lt}
 use Rattle.std.proofs.lemmas.List.{get_or-map, get_or_append_left, get_or_push, length-map, length_push}
@@ -19,10 +19,10 @@ shares-out : (sheets : List SheetData) (n : ℕ) → 0 < n → SharesOut (in_tur
 shares-out sheets n some = record {
   matched = λ p below. length-map sheets (λ s. own_share p n (length s.cells));
   all = λ k s below.
-    subst (AreAll (length (get_or sheets k s).cells))
-    (sym (map-same (λ p. get_or (in_turn sheets p n) k []) (λ p. own_share p n (length (get_or sheets k s).cells))
+      subst (AreAll (length (get_or sheets k s).cells))
+      (sym (map-same (λ p. get_or (in_turn sheets p n) k []) (λ p. own_share p n (length (get_or sheets k s).cells))
       (λ p. get_or-map (λ t. own_share p n (length t.cells)) sheets k s [] below) (range_with_len 0 n)))
-    (shares_are_all n (length (get_or sheets k s).cells) some);
+      (shares_are_all n (length (get_or sheets k s).cells) some);
 }
 
 -- pieces of n, all of them, are all pieces
@@ -33,8 +33,8 @@ all-pieces sheets n ghosts parts some cut = record {
   some = omega (arith, cut.size, some);
   shared = subst (SharesOut (in_turn sheets) sheets) (sym cut.size) (shares-out sheets n some);
   each = λ p part below.
-    subst (λ m. IsMeshPiece sheets (in_turn sheets p m) ghosts (get_or parts p part)) (sym cut.size)
-    (cut.each p part (omega (arith, below, cut.size)));
+      subst (λ m. IsMeshPiece sheets (in_turn sheets p m) ghosts (get_or parts p part)) (sym cut.size)
+      (cut.each p part (omega (arith, below, cut.size)));
 }
 
 -- one piece more
@@ -43,14 +43,14 @@ pub cut-more : (sheets : List SheetData) (n ghosts count : ℕ) (parts new : Lis
 cut-more sheets n ghosts count parts new part h piece is = record {
   size = ap length is ∙ length_push parts part ∙ ap (λ k. k + 1) h.size;
   each = λ p q below.
-    subst (λ ps. IsMeshPiece sheets (in_turn sheets p n) ghosts (get_or ps p q)) (sym is)
-    (⊎_elim
+      subst (λ ps. IsMeshPiece sheets (in_turn sheets p n) ghosts (get_or ps p q)) (sym is)
+      (⊎_elim
       (λ before.
-        subst (IsMeshPiece sheets (in_turn sheets p n) ghosts) (sym (get_or_append_left parts (part ∷ []) q p (omega (arith, before, h.size))))
-        (h.each p q before))
+      subst (IsMeshPiece sheets (in_turn sheets p n) ghosts) (sym (get_or_append_left parts (part ∷ []) q p (omega (arith, before, h.size))))
+      (h.each p q before))
       (λ from.
-        let last : count ≡ p = omega (arith, from, below) in
-        subst (IsMeshPiece sheets (in_turn sheets p n) ghosts) (sym (get_or_push parts part q p (h.size ∙ last)))
-        (subst (λ k. IsMeshPiece sheets (in_turn sheets k n) ghosts part) last piece))
+      let last : count ≡ p = omega (arith, from, below) in
+      subst (IsMeshPiece sheets (in_turn sheets p n) ghosts) (sym (get_or_push parts part q p (h.size ∙ last)))
+      (subst (λ k. IsMeshPiece sheets (in_turn sheets k n) ghosts part) last piece))
       (cases_lt p count));
 }

@@ -1,6 +1,7 @@
 //! Slabs of images of 1 to 7 planes, 1 to 9 of them, and put together again.
 
 use crate::all_slabs;
+use crate::tests::plain::begin;
 use std::alloc::{AllocError, Global};
 use std::process::Abort;
 use std::test::Fail;
@@ -93,11 +94,6 @@ fn shows_planes(rt: &impl Abort, image: &Image, kind: Kind8, first: u32, next: u
             "{first} {next} {i}"
         );
     }
-}
-
-// A plane at which share `p` of `n` begins, by the definition.
-fn begin(planes: u32, p: u32, n: u32) -> u32 {
-    p.saturating_mul(planes).checked_div(n).unwrap_or(0)
 }
 
 // The parts are those of the slabs that have planes, in turn.

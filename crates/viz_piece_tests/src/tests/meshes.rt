@@ -9,7 +9,7 @@ use std::test::Fail;
 use viz_dataset::Dataset;
 use viz_piece::{Part, PartSheet};
 use viz_piece_stitch::stitch;
-use viz_sheet::Sheet;
+use viz_sheet::{Mesh, Sheet};
 
 // A row of small points by names of one leaf, each cell of which has all but the first point of the
 // one before.
@@ -124,8 +124,8 @@ fn cut_and_stitched(
     if n == 0 || ghosts > more {
         return Err("a piece of some")?;
     }
-    let sheets = sheets_of(alloc, rows)?;
-    let parts = all_pieces(alloc, sheets, n, more, ghosts)?;
+    let mesh = Mesh::new(sheets_of(alloc, rows)?);
+    let parts = all_pieces(alloc, mesh, n, more, ghosts)?;
     shows_pieces(rt, alloc, &parts, rows, (n, ghosts))?;
     let whole = stitch(alloc, parts)?;
     shows_mesh(rt, alloc, &whole, rows)?;
@@ -180,9 +180,16 @@ fn cells_of_far_pieces_meet(rt: HostRuntime) -> Result<(), Fail> {
 
 #[test]
 fn sheets_are_stitched_apart(rt: HostRuntime) -> Result<(), Fail> {
-    let (long, short) = (round(Shape::Triangles, 31, 2, false), strip(Shape::Lines, 3, 4));
+    let (long, short) = (
+        round(Shape::Triangles, 31, 2, false),
+        strip(Shape::Lines, 3, 4),
+    );
     each_way(&rt, rt.alloc(), &[long, short])?;
-    each_way(&rt, rt.alloc(), &[short, strip(Shape::Vertices, 0, 0), long])?;
+    each_way(
+        &rt,
+        rt.alloc(),
+        &[short, strip(Shape::Vertices, 0, 0), long],
+    )?;
     // No sheets.
     each_way(&rt, rt.alloc(), &[])
 }

@@ -133,7 +133,11 @@ pub(super) fn levels_of(
     let next = begin(count, asked.p.saturating_add(1), asked.n);
     let mut levels = Vec::new(alloc);
     for i in 0..count {
-        levels.push(if first <= i && i < next { Some(0) } else { None })?;
+        levels.push(if first <= i && i < next {
+            Some(0)
+        } else {
+            None
+        })?;
     }
     for last in 0..asked.ghosts {
         levels = grown(alloc, cells, &levels, last)?;

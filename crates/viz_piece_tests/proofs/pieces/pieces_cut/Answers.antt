@@ -9,18 +9,10 @@ loop-p-init c = λ sheets only. record {
   each = λ p part below. absurd (omega (arith, below));
 }
 
-pub piece_trimmed-requires-clause-part : goal.piece_trimmed-requires-clause-part
-piece_trimmed-requires-clause-part c = record {
-  sheets = c.requires.whole.sheets;
-  piece = c.in_ok-part.ensures c.requires.whole.sheets c.requires.whole.only;
-}
-
 pub loop-p-preserved : goal.loop-p-preserved
 loop-p-preserved c = λ sheets only.
-    cut-more sheets c.args.n c.args.ghosts c.loop-p.p c.loop-p.parts.items c.push.new.self.items c.in_ok-piece_trimmed.field-0
-    (c.loop-p.invariant sheets only)
-    (c.in_ok-piece_trimmed.ensures sheets (c.in_ok-part.ensures sheets only))
-    c.in_ok-push.ensures.items
+    cut-more sheets c.args.n c.args.ghosts c.loop-p.p c.loop-p.parts.items c.push.new.self.items c.in_ok-piece_cut.field-0
+    (c.loop-p.invariant sheets only) (c.in_ok-piece_cut.ensures sheets only).1 c.in_ok-push.ensures.items
 
 pub returns : goal.returns
 returns c = λ sheets only.
