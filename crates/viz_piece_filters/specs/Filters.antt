@@ -27,13 +27,16 @@ selected_part all lo hi part = record {
 -- is a part of the selection of the whole
 abbrev pub SelectionsKeepParts : Type 0
 SelectionsKeepParts =
-    (all : Bool) (lo hi : ℤ) (whole : SheetData) (own : List Bool) (ghosts : ℕ) (part : PartSheetData)
+    (all : Bool) (lo hi : ℤ) (whole : SheetData) (own : List Bool) (ghosts : ℕ)
+    (part : PartSheetData)
     → IsSheet whole → IsSheet part.sheet → IsPartOf whole own ghosts part
-    → IsPartOf (selected all lo hi whole) (kept_selected all lo hi whole own) ghosts (selected_part all lo hi part)
+    → IsPartOf (selected all lo hi whole) (kept_selected all lo hi whole own) ghosts
+    (selected_part all lo hi part)
 
 -- an item for each cell of a section: that of the cell that it is in
 abbrev pub handed_section : {A : Type 0} → Form → SheetData → List A → List A
-handed_section f s items = handed_on items (counts (cells_in (λ n. is_inside_at f (point_of s n))) s.cells)
+handed_section f s items =
+    handed_on items (counts (cells_in (λ n. is_inside_at f (point_of s n))) s.cells)
 
 -- the section of a part: of its sheet, each cell with the level of the cell that it is in
 abbrev pub section_part : Form → PartSheetData → PartSheetData
@@ -46,7 +49,8 @@ section_part f part = record {
 abbrev pub SectionsKeepParts : Type 0
 SectionsKeepParts =
     (f : Form) (size : ℕ) (whole : SheetData) (own : List Bool) (ghosts : ℕ) (part : PartSheetData)
-    → IsSheet whole → AreNames size whole.names → IsSheet part.sheet → IsPartOf whole own ghosts part
+    → IsSheet whole → AreNames size whole.names → IsSheet part.sheet
+    → IsPartOf whole own ghosts part
     → IsPartOf (section_of f whole) (handed_section f whole own) ghosts (section_part f part)
 
 -- the items of cells whose level is at most so much
@@ -64,17 +68,23 @@ trimmed_part ghosts part = record {
 abbrev pub TrimmedKeepParts : Type 0
 TrimmedKeepParts =
     (more : ℕ) (whole : SheetData) (own : List Bool) (ghosts : ℕ) (part : PartSheetData)
-    → ghosts ≤ more → IsSheet part.sheet → IsPartOf whole own more part → IsPartOf whole own ghosts (trimmed_part ghosts part)
+    → ghosts ≤ more → IsSheet part.sheet → IsPartOf whole own more part
+    → IsPartOf whole own ghosts (trimmed_part ghosts part)
 
 -- an item for each cell of a boundary: that of the cell that it is a facet of
 abbrev pub handed_boundary : {A : Type 0} → SheetData → List A → List A
 handed_boundary s items = handed_on items (counts (lone_facets is_same_name s.cells) s.cells)
 
--- the boundary of a part: the facets of its cells up to a level that occur once among all its cells, each with the level of its cell
+-- the boundary of a part: the facets of its cells up to a level that occur once among all its
+-- cells, each with the level of its cell
 abbrev pub boundary_part : ℕ → PartSheetData → PartSheetData
 boundary_part ghosts part = record {
-  sheet = with_cells part.sheet (flat_map (lone_facets is_same_name part.sheet.cells) (near_items ghosts part.levels part.sheet.cells));
-  levels = handed_on (near_items ghosts part.levels part.levels) (counts (lone_facets is_same_name part.sheet.cells) (near_items ghosts part.levels part.sheet.cells));
+  sheet = with_cells part.sheet
+      (flat_map (lone_facets is_same_name part.sheet.cells)
+      (near_items ghosts part.levels part.sheet.cells));
+  levels = handed_on (near_items ghosts part.levels part.levels)
+      (counts (lone_facets is_same_name part.sheet.cells)
+      (near_items ghosts part.levels part.sheet.cells));
 }
 
 -- of a part with one level more, is a part of the boundary of the whole

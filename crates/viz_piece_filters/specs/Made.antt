@@ -27,16 +27,23 @@ made_part f point part = record {
 
 -- each name of a made cell has a parent among the names of the cell that it is made of
 abbrev pub HaveParents : (Cell → List Cell) → (Name → Name) → List Cell → Type 0
-HaveParents f parent cells = (c x : Cell) (n : Name) → Contains cells c → Contains (f c) x → Contains x n → Contains c (parent n)
+HaveParents f parent cells =
+    (c x : Cell) (n : Name) → Contains cells c → Contains (f c) x → Contains x n
+    → Contains c (parent n)
 
 -- two filters agree on some cells: in what they make of them, and in the points of its names
 pub record AgreeOn (some : List Cell) (f g : Cell → List Cell) (p q : Name → Point) : Type 0 where
   pub cells : (c : Cell) → Contains some c → g c ≡ f c
-  pub points : (c x : Cell) (n : Name) → Contains some c → Contains (f c) x → Contains x n → q n ≡ p n
+  pub points : (c x : Cell) (n : Name) → Contains some c → Contains (f c) x → Contains x n
+      → q n ≡ p n
 
--- what a filter makes of a part is a part of what is made of the whole, where the two agree on the part's cells
+-- what a filter makes of a part is a part of what is made of the whole, where the two agree on the
+-- part's cells
 abbrev pub MadeKeepParts : Type 0
 MadeKeepParts =
-    (f g : Cell → List Cell) (p q : Name → Point) (parent : Name → Name) (whole : SheetData) (own : List Bool) (ghosts : ℕ) (part : PartSheetData)
-    → HaveParents f parent whole.cells → AgreeOn part.sheet.cells f g p q → IsPartOf whole own ghosts part
-    → IsPartOf (made_sheet f p whole) (handed_on own (counts f whole.cells)) ghosts (made_part g q part)
+    (f g : Cell → List Cell) (p q : Name → Point) (parent : Name → Name) (whole : SheetData)
+    (own : List Bool) (ghosts : ℕ) (part : PartSheetData)
+    → HaveParents f parent whole.cells → AgreeOn part.sheet.cells f g p q
+    → IsPartOf whole own ghosts part
+    → IsPartOf (made_sheet f p whole) (handed_on own (counts f whole.cells)) ghosts
+    (made_part g q part)

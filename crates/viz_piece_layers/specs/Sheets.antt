@@ -30,13 +30,15 @@ abbrev pub TetrahedraPartsArePartOf : Type 0
 TetrahedraPartsArePartOf =
     (whole image : ImageData) (p n ghosts : ℕ) → IsImage whole → IsImage image → p < n
     → IsRestricted whole (seen_planes p n ghosts whole.extent) image
-    → IsPartOf (tetrahedra_sheet whole) (own_tets n whole.extent p) ghosts (tetrahedra_part p n ghosts whole image)
+    → IsPartOf (tetrahedra_sheet whole) (own_tets n whole.extent p) ghosts
+    (tetrahedra_part p n ghosts whole image)
 
 -- and the own positions of all pieces in turn are all positions
 abbrev pub SheetOwnsAreAll : Type 0
 SheetOwnsAreAll =
     (whole : ImageData) (n : ℕ) → IsImage whole → 0 < n
-    → AreAll (length (tetrahedra_sheet whole).cells) (map (own_tets n whole.extent) (range_with_len 0 n))
+    → AreAll (length (tetrahedra_sheet whole).cells)
+    (map (own_tets n whole.extent) (range_with_len 0 n))
 
 -- a sheet stays one with each leaf's number so much greater
 abbrev pub ShiftedIsSheet : Type 0
@@ -46,5 +48,7 @@ ShiftedIsSheet = (by : ℕ) (s : SheetData) → IsSheet s → IsSheet (shifted_s
 abbrev pub PiecesStitch : Type 0
 PiecesStitch =
     (whole : ImageData) (images : ℕ → ImageData) (n ghosts : ℕ) → IsImage whole → 0 < n
-    → ((p : ℕ) → p < n → IsImage (images p) × IsRestricted whole (seen_planes p n ghosts whole.extent) (images p))
-    → IsStitchedSheet (map (λ p. tetrahedra_part p n ghosts whole (images p)) (range_with_len 0 n)) (tetrahedra_sheet whole)
+    → ((p : ℕ) → p < n
+    → IsImage (images p) × IsRestricted whole (seen_planes p n ghosts whole.extent) (images p))
+    → IsStitchedSheet (map (λ p. tetrahedra_part p n ghosts whole (images p)) (range_with_len 0 n))
+    (tetrahedra_sheet whole)

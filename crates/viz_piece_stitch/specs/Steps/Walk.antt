@@ -1,5 +1,6 @@
 -- Names of parts among all names, and where a walk over names that ascend stands.
-use Rattle.std.specs.Prelude.{◌≡◌, ℕ, ◌<◌, ◌≤◌, ◌^◌, true, List, [], All, Contains, length, slice_index_or}
+use Rattle.std.specs.Prelude.{◌≡◌, ℕ, ◌<◌, ◌≤◌, ◌^◌, true, List, [], All, Contains, length}
+use Rattle.std.specs.Prelude.{slice_index_or}
 use Rattle.std.specs.Cmp.Lexicographic.{slice_cmp}
 use Rattle.std.specs.Ordering.{nat_cmp, is_lt}
 use Rattle.viz_sheet.specs.Ranked.{rank_of}
@@ -21,8 +22,10 @@ pub record AreAmong (names part : List (List ℕ)) : Type 0 where
 
 -- the first names, so many, come before one
 abbrev pub ComeBefore : List (List ℕ) → ℕ → List ℕ → Type 0
-ComeBefore names at n = (k : ℕ) → k < at → is_lt (slice_cmp nat_cmp (slice_index_or names k []) n) ≡ true
+ComeBefore names at n =
+    (k : ℕ) → k < at → is_lt (slice_cmp nat_cmp (slice_index_or names k []) n) ≡ true
 
 -- and before each of a part's names from an index on
 abbrev pub PrecedeFrom : List (List ℕ) → ℕ → List (List ℕ) → ℕ → Type 0
-PrecedeFrom names at part from = (j : ℕ) → from ≤ j → j < length part → ComeBefore names at (slice_index_or part j [])
+PrecedeFrom names at part from =
+    (j : ℕ) → from ≤ j → j < length part → ComeBefore names at (slice_index_or part j [])

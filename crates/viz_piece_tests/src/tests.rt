@@ -1,0 +1,6 @@
+//! Parts of images and of meshes against a plain slow program, by the definition.
+
+mod images;
+mod meshes;
+mod plain;
+mod sheets;
