@@ -59,6 +59,23 @@ kept_more h limit net made cache e k room p counted =
       parts = subst (λ edits. AreTrueOf edits cache) (sym (map-append (λ d. d.edit) h (e ∷ []))) (all_longer (edits_of h) (e.edit ∷ []) cache k.parts);
     }
 
+-- parts that are true of a history are so after an edit
+pub true_after : (pass count : ℕ) (edit : Edit) (old : State) (answer : EditAnswer) (new : State) (items : List Stored) → Replies pass count edit old answer new
+    → AreTrueOf (edits_of old.history) items → AreTrueOf (edits_of new.history) items
+true_after pass count edit old answer new items r t = by answer r
+  where
+    same : new.history ≡ old.history → AreTrueOf (edits_of new.history) items
+    same e = subst (λ h. AreTrueOf (edits_of h) items) (sym e) t
+
+    by : (a : EditAnswer) → Replies pass count edit old a new → AreTrueOf (edits_of new.history) items
+    by (Done at) r =
+        let x = entry pass count edit in
+        let longer = subst (λ edits. AreTrueOf edits items) (sym (map-append (λ d. d.edit) old.history (x ∷ []))) (all_longer (edits_of old.history) (edit ∷ []) items t) in
+        subst (λ h. AreTrueOf (edits_of h) items) (sym r.0.history) longer
+    by (Refused w at) r = same r.0.history
+    by (Full at) r = same r.0.history
+    by Memory r = same r.0.history
+
 -- other parts that are true of the history
 pub kept_parts : (h : List Entry) (limit : ℕ) (net : Network) (cache new : List Stored) → IsKept h limit net cache → AreTrueOf (edits_of h) new → IsKept h limit net new
 kept_parts h limit net cache new k parts = record { network = k.network; legal = k.legal; within = k.within; fits = k.fits; parts = parts }

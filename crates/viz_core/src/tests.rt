@@ -1,40 +1,49 @@
-//! One pass that edits: what each edit comes to, and what a pin keeps.
+//! One pass that edits and publishes: what each edit comes to, what a pin keeps, and which parts are
+//! kept.
 
 ghost use Rattle.std.specs.Prelude.{◌<◌};
 
-use crate::{Core, EditAnswer, Entry, Pinned};
+use crate::{Core, EditAnswer, Entry, Kept, Pinned};
 use std::alloc::{AllocError, Global};
 use std::marker::Model;
 use std::process::Abort;
 use std::test::Fail;
-use viz_base::Word;
+use viz_base::{Bytes, NodeId, Shared, Word};
+use viz_cache::{Key, Stored};
+use viz_kept::stored_whole;
 use viz_kinds::{Kind, Param, Value};
 use viz_network::{Edit, Refusal};
+use viz_piece::Request;
 
-// A core whose entries are all of pass 1.
+// A core whose entries are all of pass 1, and parts that were made of its nodes.
 #[derive(Drop)]
 struct Actor {
     core: Core,
+    made: Vec<Stored>,
 }
 
 impl Model for Actor {
     ghost use Rattle.std.specs.Prelude.{◌≡◌};
-    ghost use Rattle.viz_core.specs.History.{own_of};
+    ghost use Rattle.viz_core.specs.History.{edits_of, own_of};
     ghost use Rattle.viz_core.specs.Machine.{State};
+    ghost use Rattle.viz_kept.specs.True.{AreTrueOf};
 
     ghost Value = { State };
 
     ghost view = { λ actor. actor.core };
 
-    ghost invariant = { λ actor. own_of 1 actor.core.history ≡ actor.core.history };
+    ghost invariant = { λ actor. (own_of 1 actor.core.history ≡ actor.core.history)
+      × AreTrueOf (edits_of actor.core.history) actor.made.items };
 }
 
 impl Actor {
-    fn new(alloc: Global, limit: u32) -> Result<Actor, Fail>
-        requires { limit < 4294967295 }
+    fn new(alloc: Global, limit: u32, capacity: u32) -> Result<Actor, Fail>
+        requires limit { limit < 4294967295 }
+        requires capacity { 0 < capacity }
     {
-        let core = Core::new(alloc, limit, 1)?;
-        Ok(Actor { core })
+        let core = Core::new(alloc, limit, capacity)?;
+        let made = Vec::new(alloc);
+        Ok(Actor { core, made })
     }
 
     fn edit(&mut self, edit: Edit) -> EditAnswer {
@@ -55,8 +64,51 @@ impl Actor {
         self.core.net().find(&node).is_some()
     }
 
+    // Makes a part of all that the node gives now.
+    fn make(&mut self, alloc: Global, node: Word) -> Result<(), Fail> {
+        let id = self.core.net().find(&node).ok_or("no node")?;
+        if self.core.net().node(id).is_none() {
+            return Err("no node".into());
+        }
+        match stored_whole(alloc, self.core.net(), id) {
+            Ok(item) => Ok(self.made.push(item)?),
+            Err(_) => Err("no part".into()),
+        }
+    }
+
+    // Publishes the made parts from one on.
+    fn publish(&mut self, used: &[Key], first: usize) -> Result<Kept, Fail> {
+        if self.made.len() < first {
+            return Err("no part".into());
+        }
+        let kept = self.core.publish(used, &self.made[first..]);
+        Ok(kept)
+    }
+
+    // The key of a made part.
+    fn key(&self, index: usize) -> Option<Key> {
+        let item = self.made.get(index)?;
+        Some(item.key)
+    }
+
+    // Whether the made parts are an image's block and a mesh's only piece.
+    fn asks_for_all(&self) -> bool {
+        let (Some(image), Some(mesh)) = (self.key(0), self.key(1)) else {
+            return false;
+        };
+        matches!(image.request, Request::Block(_))
+            && matches!(
+                mesh.request,
+                Request::Piece {
+                    p: 0,
+                    n: 1,
+                    ghosts: 0
+                }
+            )
+    }
+
     fn finish(self) -> (u32, Vec<Entry>) {
-        let Actor { core } = self;
+        let Actor { core, made: _ } = self;
         let at = core.front();
         (at, core.history())
     }
@@ -108,7 +160,7 @@ fn are_counted(entries: &[Entry]) -> bool {
 #[test]
 fn a_full_history_answers_so_before_it_refuses(rt: HostRuntime) -> Result<(), Fail> {
     let (s, t, u) = (word("s")?, word("t")?, word("u")?);
-    let mut actor = Actor::new(rt.alloc(), 3)?;
+    let mut actor = Actor::new(rt.alloc(), 3, 1)?;
     wants(&rt, &mut actor, addition(s), EditAnswer::Done { at: 1 });
     // the network of the history refuses these
     wants(&rt, &mut actor, addition(s), refused(Refusal::Exists, 1));
@@ -133,7 +185,7 @@ fn a_full_history_answers_so_before_it_refuses(rt: HostRuntime) -> Result<(), Fa
 #[test]
 fn a_pin_stays_as_it_was(rt: HostRuntime) -> Result<(), Fail> {
     let (s, t) = (word("s")?, word("t")?);
-    let mut actor = Actor::new(rt.alloc(), 9)?;
+    let mut actor = Actor::new(rt.alloc(), 9, 1)?;
     actor.reserve()?;
     wants(&rt, &mut actor, addition(s), EditAnswer::Done { at: 1 });
     let pinned = actor.pin(rt.alloc())?;
@@ -142,5 +194,117 @@ fn a_pin_stays_as_it_was(rt: HostRuntime) -> Result<(), Fail> {
     assert!(rt; pinned.net.find(&s).is_some());
     assert!(rt; pinned.net.find(&t).is_none());
     assert!(rt; actor.finds(t));
+    Ok(())
+}
+
+// An image of one point, and a mesh of one triangle.
+const POINT: &[u8] = b"# vtk DataFile Version 3.0
+p
+ASCII
+DATASET STRUCTURED_POINTS
+DIMENSIONS 1 1 1
+ORIGIN 0 0 0
+SPACING 1 1 1
+POINT_DATA 1
+SCALARS s int
+LOOKUP_TABLE default
+5
+";
+
+const TRIANGLE: &[u8] = b"# vtk DataFile Version 3.0
+t
+ASCII
+DATASET POLYDATA
+POINTS 3 int
+0 0 0 1 0 0 0 1 0
+POLYGONS 1 4
+3 0 1 2
+";
+
+fn accepts(rt: &impl Abort, actor: &mut Actor, edit: Edit) {
+    let answer = actor.edit(edit);
+    assert!(rt; matches!(answer, EditAnswer::Done { .. }), "{answer:?}");
+}
+
+fn file(alloc: Global, node: Word, text: &[u8]) -> Result<Edit, Fail> {
+    let file = Shared::new(alloc, Bytes::new(text.to_vec(alloc)?))?;
+    Ok(Edit::Load { node, file })
+}
+
+// Two file nodes, of an image and of a mesh, and a part of all of each.
+fn two_parts(
+    rt: &impl Abort,
+    alloc: Global,
+    actor: &mut Actor,
+    [s, t]: [Word; 2],
+) -> Result<(), Fail> {
+    let kind = Kind::File;
+    accepts(rt, actor, Edit::Add { kind, node: s });
+    accepts(rt, actor, file(alloc, s, POINT)?);
+    accepts(rt, actor, Edit::Add { kind, node: t });
+    accepts(rt, actor, file(alloc, t, TRIANGLE)?);
+    actor.make(alloc, s)?;
+    actor.make(alloc, t)
+}
+
+// Whether these are the entries' nodes with their stamps.
+fn lists(entries: &[Stored], want: &[(u32, u32)]) -> bool {
+    if entries.len() != want.len() {
+        return false;
+    }
+    for (entry, (node, stamp)) in entries.iter().zip(want) {
+        if entry.key.node != NodeId(*node) || entry.key.stamp != *stamp {
+            return false;
+        }
+    }
+    true
+}
+
+fn counts(kept: u64, stale: u64) -> Kept {
+    Kept {
+        kept,
+        stale,
+        unkept: 0,
+    }
+}
+
+#[test]
+fn a_part_is_kept_until_its_node_is_stamped_again(rt: HostRuntime) -> Result<(), Fail> {
+    let alloc = rt.alloc();
+    let (s, t) = (word("s")?, word("t")?);
+    let mut actor = Actor::new(alloc, 9, 1)?;
+    two_parts(&rt, alloc, &mut actor, [s, t])?;
+    assert!(rt; actor.asks_for_all());
+    // one is kept at most: the last
+    assert_eq!(rt; actor.publish(&[], 0)?, counts(2, 0));
+    assert!(rt; lists(actor.pin(alloc)?.entries.list(), &[(3, 4)]));
+    accepts(&rt, &mut actor, file(alloc, t, TRIANGLE)?);
+    assert_eq!(rt; actor.publish(&[], 1)?, counts(0, 1));
+    assert_eq!(rt; actor.publish(&[], 0)?, counts(1, 1));
+    assert!(rt; lists(actor.pin(alloc)?.entries.list(), &[(1, 2)]));
+    wants(
+        &rt,
+        &mut actor,
+        Edit::Remove { node: s },
+        EditAnswer::Done { at: 6 },
+    );
+    assert_eq!(rt; actor.publish(&[], 0)?, counts(0, 2));
+    assert!(rt; lists(actor.pin(alloc)?.entries.list(), &[(1, 2)]));
+    Ok(())
+}
+
+#[test]
+fn used_parts_go_first_and_made_ones_before_them(rt: HostRuntime) -> Result<(), Fail> {
+    let alloc = rt.alloc();
+    let (s, t) = (word("s")?, word("t")?);
+    let mut actor = Actor::new(alloc, 9, 2)?;
+    two_parts(&rt, alloc, &mut actor, [s, t])?;
+    assert_eq!(rt; actor.publish(&[], 0)?, counts(2, 0));
+    assert!(rt; lists(actor.pin(alloc)?.entries.list(), &[(3, 4), (1, 2)]));
+    let used = actor.key(0).ok_or("no part")?;
+    assert_eq!(rt; actor.publish(&[used], 2)?, counts(0, 0));
+    assert!(rt; lists(actor.pin(alloc)?.entries.list(), &[(1, 2), (3, 4)]));
+    assert_eq!(rt; actor.publish(&[used], 1)?, counts(1, 0));
+    assert!(rt; lists(actor.pin(alloc)?.entries.list(), &[(3, 4), (1, 2)]));
     Ok(())
 }

@@ -10,6 +10,3 @@ mod whole;
 
 pub use laws::{made_is_true, true_of_longer, true_parts_answer};
 pub use whole::{stored_whole, whole_part};
-
-#[cfg(test)]
-mod tests;
