@@ -12,7 +12,8 @@ use Rattle.viz_core.specs.declared.publishing.Kept.{Kept}
 use Rattle.viz_core.specs.History.{entry, network_of}
 use Rattle.viz_core.specs.Publishing.{TakesIn, all_brought}
 
--- the history, the most entries that it may have, the most parts that may be kept, the kept parts with the most recently used first, and for how many entries there is room
+-- the history, the most entries that it may have, the most parts that may be kept, the kept parts
+-- with the most recently used first, and for how many entries there is room
 pub record State : Type 0 where
   pub history : List Entry
   pub limit : ℕ
@@ -58,10 +59,12 @@ pub record IsPinOf (s : State) (p : Pinned) : Type 0 where
   pub network : p.net ≡ network_of s.history
   pub entries : p.entries ≡ s.cache
 
--- the parts that were used go first, and then the made ones are taken in; all else is as before, and no less room
-pub record Publishes (used : List Key) (made : List Stored) (old : State) (count : Kept) (new : State) : Type 0 where
+-- the used parts go first, and then the made ones are taken in; all else is as before, no less room
+pub record Publishes (used : List Key) (made : List Stored) (old : State) (count : Kept)
+    (new : State) : Type 0 where
   pub history : new.history ≡ old.history
   pub limit : new.limit ≡ old.limit
   pub capacity : new.capacity ≡ old.capacity
   pub spare : old.spare ≤ new.spare
-  pub takes : TakesIn (network_of old.history) old.capacity made (all_brought used old.cache) count new.cache
+  pub takes : TakesIn (network_of old.history) old.capacity made (all_brought used old.cache) count
+    new.cache

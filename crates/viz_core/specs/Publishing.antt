@@ -1,5 +1,5 @@
--- How made parts are taken in: which of them are kept, and what the kept parts are then (docs/DEFINITIONS.md, "Kept parts").
-use Rattle.std.specs.Prelude.{◌≡◌, ℕ, Bool, true, false, not, nat_eq, if◌then◌else◌, List, [], ◌∷◌, length, filter, count_by}
+-- How made parts are taken in, and which parts are kept then (docs/DEFINITIONS.md, "Kept parts").
+use Rattle.std.specs.Prelude.{◌≡◌, ℕ, Bool, false, not, nat_eq, if◌then◌else◌, List, [], ◌∷◌, length, filter, count_by}
 use Rattle.std.specs.Option.{option_map_or}
 use Rattle.viz_cache.specs.declared.stored.Key.{Key}
 use Rattle.viz_cache.specs.declared.stored.Stored.{Stored}
@@ -30,10 +30,12 @@ current net made = filter (λ item. not (is_stale net item)) made
 abbrev pub with_room : List Bool → List Stored → List Stored
 with_room [] items = []
 with_room (room ∷ rooms) [] = []
-with_room (room ∷ rooms) (item ∷ items) = if room then item ∷ with_room rooms items else with_room rooms items
+with_room (room ∷ rooms) (item ∷ items) =
+    if room then item ∷ with_room rooms items else with_room rooms items
 
--- the made parts are taken in, one after the other: a stale one is dropped, and of the others those go first for which there was memory
-pub record TakesIn (net : Network) (capacity : ℕ) (made : List Stored) (old : List Stored) (count : Kept) (new : List Stored) : Type 0 where
+-- the made parts are taken in: a stale one is dropped, and each other goes first if there was memory
+pub record TakesIn (net : Network) (capacity : ℕ) (made old : List Stored) (count : Kept)
+    (new : List Stored) : Type 0 where
   pub rooms : List Bool
   pub matched : length rooms ≡ length (current net made)
   pub entries : new ≡ with_all capacity (with_room rooms (current net made)) old

@@ -114,13 +114,15 @@ impl Core {
         &self.net
     }
 
-    /// A copy of the network, with the number of entries that it is of, and all kept parts. The bytes
-    /// of files and the parts aren't copied. `Err` is want of memory.
+    /// A copy of the network, with the number of entries that it is of, and all kept parts. The
+    /// bytes of files and the parts aren't copied. `Err` is want of memory.
     pub fn pin(&self, alloc: Global) -> Result<Pinned, AllocError>
         ensures ok { IfOk result (λ pinned. IsPinOf self.now pinned) }
-        ensures true_of { IfOk result (λ pinned. AreTrueOf (edits_of self.now.history) pinned.entries) }
+        ensures true_of {
+            IfOk result (λ pinned. AreTrueOf (edits_of self.now.history) pinned.entries) }
         ensures true_in { IfOk result (λ pinned. AreTrueIn pinned.net pinned.entries) }
-        ensures distinct { IfOk result (λ pinned. IsDistinct same_key (map (λ e. e.key) pinned.entries)) }
+        ensures distinct {
+            IfOk result (λ pinned. IsDistinct same_key (map (λ e. e.key) pinned.entries)) }
         ensures within { IfOk result (λ pinned. length pinned.entries ≤ self.now.capacity) }
     {
         true_of_longer();
@@ -133,8 +135,8 @@ impl Core {
 
     /// Takes made parts in: brings the parts that were used to the front, in their order, and then
     /// puts the made ones in front, in theirs. A part whose node is gone or was stamped since is
-    /// stale, and isn't kept; one that memory has no room for is dropped. Parts are shared, and aren't
-    /// copied.
+    /// stale, and isn't kept; one that memory has no room for is dropped. Parts are shared, and
+    /// aren't copied.
     pub fn publish(&mut self, used: &[Key], made: &[Stored]) -> Kept
         requires made { AreTrueOf (edits_of self.old.history) made.now }
         ensures publishes { Publishes used.now made.now self.old result self.new }

@@ -7,7 +7,7 @@ ghost use Rattle.viz_core.specs.Publishing.{all_brought, is_stale, TakesIn};
 use viz_cache::{Cache, Key, Stored};
 use viz_network::Net;
 
-/// How many made parts were kept, how many were stale, and how many weren't kept for want of memory.
+/// How many made parts were kept, how many were stale, and how many memory had no room for.
 #[derive(Clone, Copy, PartialEq, Eq, Debug)]
 pub struct Kept {
     pub kept: u64,

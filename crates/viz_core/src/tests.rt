@@ -1,5 +1,5 @@
-//! One pass that edits and publishes: what each edit comes to, what a pin keeps, and which parts are
-//! kept.
+//! One pass that edits and publishes: what each edit comes to, what a pin keeps, and which parts
+//! are kept.
 
 ghost use Rattle.std.specs.Prelude.{◌<◌};
 

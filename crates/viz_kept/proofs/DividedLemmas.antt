@@ -1,5 +1,5 @@
 -- What is known of divisions: the only lemmas that know the rule.
-use Rattle.std.proofs.Common.{◌≡◌, ℕ, ◌+◌, ◌-◌, ◌*◌, ◌/◌, Bool, true, false, Option, List, [], ◌∷◌, ◌++◌, length, map, replicate, append-nil, refl, sym, ap, ◌∙◌, arith}
+use Rattle.std.proofs.Common.{◌≡◌, ℕ, ◌+◌, ◌-◌, ◌*◌, ◌/◌, Bool, true, false, Option, List, [], ◌∷◌, ◌++◌, length, map, replicate, append-nil, refl, ap, ◌∙◌, arith}
 use Rattle.viz_dataset.specs.declared.dataset.Dataset.{Dataset}
 use Rattle.viz_dataset.specs.declared.dataset.Dataset.TheVariants.{Image, Mesh}
 use Rattle.viz_network.specs.Cone.{Tree}

@@ -32,10 +32,10 @@ all_made_true edits more items m = record { each = λ k d below. made_true edits
 true_in : EqualStamps → (edits : List Edit) (item : Stored) → IsTrueOf edits item → IsTrueIn (net_of edits) item
 true_in same edits item t = record {
   part = λ stamp.
-    let later = subst (λ all. HasStamp (net_of all) item.key) (sym t.whole) stamp in
-    let cones = same t.before t.later item.key.node.0 item.key.stamp t.made.stamp later in
-    let part = subst (λ cone. IsNodePart cone item.key.request item.part) cones t.made.part in
-    subst (λ all. IsPartIn (net_of all) item) t.whole part;
+      let later = subst (λ all. HasStamp (net_of all) item.key) (sym t.whole) stamp in
+      let cones = same t.before t.later item.key.node.0 item.key.stamp t.made.stamp later in
+      let part = subst (λ cone. IsNodePart cone item.key.request item.part) cones t.made.part in
+      subst (λ all. IsPartIn (net_of all) item) t.whole part;
 }
 
 pub all_true_in : EqualStamps → (edits : List Edit) (items : List Stored) → AreTrueOf edits items → AreTrueIn (net_of edits) items

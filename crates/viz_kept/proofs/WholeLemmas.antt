@@ -1,20 +1,16 @@
 -- A whole dataset is a part of itself.
-use Rattle.std.proofs.Common.{◌≡◌, ℕ, ◌<◌, ◌≤◌, Bool, Global, true, Option, Some, Ok, Vec, List, [], ◌∷◌, length, map, get_or, replicate, refl, sym, ap, subst, ◌∙◌, arith}
+use Rattle.std.proofs.Common.{◌≡◌, ℕ, ◌<◌, Global, true, Some, Vec, List, [], ◌∷◌, length, map, get_or, replicate, refl, sym, ap, subst, ◌∙◌, arith}
 use Rattle.std.specs.List.{Contains}
 use Rattle.std.proofs.lemmas.List.{get_or-map, length-map}
 use Rattle.std.proofs.lemmas.List.Elements.{All-get_or}
 use Rattle.std.proofs.lemmas.Option.{same_Some}
 use Rattle.viz_dataset.specs.Images.{ImageData, IsImage}
-use Rattle.viz_dataset.specs.declared.dataset.Dataset.{Dataset}
 use Rattle.viz_dataset.specs.declared.dataset.Dataset.TheVariants as dataset
-use Rattle.viz_network.specs.Cone.{Tree}
 use Rattle.viz_sheet.specs.Sheet.{SheetData, IsSheet}
 use Rattle.viz_piece.specs.Parts.{PartSheetData}
-use Rattle.viz_piece.specs.Pieces.{Division, IsAnswer, IsSheetPart, IsPieceOf}
+use Rattle.viz_piece.specs.Pieces.{IsSheetPart, IsPieceOf}
 use Rattle.viz_piece.specs.Seen.{Seen, AreSeen, seen_as, cells_seen, levels_seen, owned_seen, whole_seen}
-use Rattle.viz_piece.specs.declared.request.Part.{Part}
 use Rattle.viz_piece.specs.declared.request.Part.TheVariants as part
-use Rattle.viz_piece.specs.declared.request.Request.{Request}
 use Rattle.viz_piece.specs.declared.request.Request.TheVariants.{Block, Piece}
 use Rattle.viz_kept.specs.Steps.{own_part, AreSheets}
 use Rattle.viz_kept.specs.Whole.{IsWholePart}
@@ -84,46 +80,46 @@ whole_piece sheets rule = record {
   matched = length-map sheets own_part;
   owned = length-map sheets all_own;
   each = λ k s p below.
-    let sheet = get_or sheets k s in
-    let own = get_or-map all_own sheets k s [] below in
-    let part = get_or-map own_part sheets k s p below in
-    subst (λ o. IsSheetPart sheet o 0 (get_or (map own_part sheets) k p)) (sym own)
-    (subst (IsSheetPart sheet (all_own sheet) 0) (sym part) (whole_part_of sheet (All-get_or IsSheet sheets k s below rule.each)));
+      let sheet = get_or sheets k s in
+      let own = get_or-map all_own sheets k s [] below in
+      let part = get_or-map own_part sheets k s p below in
+      subst (λ o. IsSheetPart sheet o 0 (get_or (map own_part sheets) k p)) (sym own)
+      (subst (IsSheetPart sheet (all_own sheet) 0) (sym part) (whole_part_of sheet (All-get_or IsSheet sheets k s below rule.each)));
 }
 
 pub mesh_is_whole : (sheets : List SheetData) (parts : Vec PartSheetData Global) → AreSheets sheets → parts.items ≡ map own_part sheets
     → IsWholePart (dataset.Mesh sheets) (Piece 0 1 0) (part.Mesh parts)
 mesh_is_whole sheets parts rule is = record {
   each = λ cone given.
-    let d = whole_division cone (dataset.Mesh sheets) in
-    let piece = subst (λ owns. IsPieceOf sheets owns 0 (map own_part sheets)) (sym (d.1.only sheets refl)) (whole_piece sheets rule) in
-    record {
-      whole = dataset.Mesh sheets;
-      given = given;
-      one = record { division = d.0; divided = d.1.divided; answers = (omega arith, subst (IsPieceOf sheets (d.0 0 1) 0) (sym is) piece) };
-    };
+      let d = whole_division cone (dataset.Mesh sheets) in
+      let piece = subst (λ owns. IsPieceOf sheets owns 0 (map own_part sheets)) (sym (d.1.only sheets refl)) (whole_piece sheets rule) in
+      record {
+        whole = dataset.Mesh sheets;
+        given = given;
+        one = record { division = d.0; divided = d.1.divided; answers = (omega arith, subst (IsPieceOf sheets (d.0 0 1) 0) (sym is) piece) };
+      };
 }
 
 pub image_is_whole : (image : ImageData) → IsImage image → IsWholePart (dataset.Image image) (Block image.extent) (part.Image image)
 image_is_whole image rule = record {
   each = λ cone given.
-    let d = whole_division cone (dataset.Image image) in
-    record {
-      whole = dataset.Image image;
-      given = given;
-      one = record {
-        division = d.0;
-        divided = d.1.divided;
-        answers = record {
-          whole_is = rule;
-          part_is = rule;
-          within = record {
-            x = record { first = omega arith; last = omega arith };
-            y = record { first = omega arith; last = omega arith };
-            z = record { first = omega arith; last = omega arith };
+      let d = whole_division cone (dataset.Image image) in
+      record {
+        whole = dataset.Image image;
+        given = given;
+        one = record {
+          division = d.0;
+          divided = d.1.divided;
+          answers = record {
+            whole_is = rule;
+            part_is = rule;
+            within = record {
+              x = record { first = omega arith; last = omega arith };
+              y = record { first = omega arith; last = omega arith };
+              z = record { first = omega arith; last = omega arith };
+            };
+            same = record { extent = refl; origin = refl; spacing = refl; kind = refl; values = λ i j k has. refl };
           };
-          same = record { extent = refl; origin = refl; spacing = refl; kind = refl; values = λ i j k has. refl };
         };
       };
-    };
 }

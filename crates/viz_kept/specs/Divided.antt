@@ -1,4 +1,4 @@
--- How what a node gives is shared out in pieces (VTK User's Guide, "Streaming"). Only this file knows the rule.
+-- How what a node gives is shared out in pieces (VTK User's Guide, "Streaming").
 use Rattle.std.specs.Prelude.{◌≡◌, Option}
 use Rattle.viz_dataset.specs.declared.dataset.Dataset.{Dataset}
 use Rattle.viz_dataset.specs.declared.dataset.Dataset.TheVariants.{Image, Mesh}

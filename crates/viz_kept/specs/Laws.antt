@@ -1,4 +1,4 @@
--- What is true of a history stays true, and is true in its network (VTK User's Guide, "The visualization pipeline": modification times).
+-- What is true of a history stays true, and in its network (VTK User's Guide: modification times).
 use Rattle.std.specs.Prelude.{List, ◌++◌, Ok}
 use Rattle.viz_cache.specs.declared.stored.Stored.{Stored}
 use Rattle.viz_dataset.specs.declared.dataset.Dataset.{Dataset}
@@ -11,21 +11,26 @@ use Rattle.viz_kept.specs.True.{HasStamp, IsDatasetPart, IsTrueIn, AreMadeIn, Ar
 
 -- what is true of a history is true of every longer one
 abbrev pub TrueOfLonger : Type 0
-TrueOfLonger = (edits more : List Edit) (items : List Stored) → AreTrueOf edits items → AreTrueOf (edits ++ more) items
+TrueOfLonger = (edits more : List Edit) (items : List Stored) → AreTrueOf edits items
+    → AreTrueOf (edits ++ more) items
 
 -- what is made in the network of a prefix is true of the history
 abbrev pub MadeIsTrue : Type 0
-MadeIsTrue = (edits more : List Edit) (items : List Stored) → AreMadeIn (net_of edits) items → AreTrueOf (edits ++ more) items
+MadeIsTrue = (edits more : List Edit) (items : List Stored) → AreMadeIn (net_of edits) items
+    → AreTrueOf (edits ++ more) items
 
 -- what is true of a history is true in its network
 abbrev pub TrueInNetwork : Type 0
-TrueInNetwork = (edits : List Edit) (items : List Stored) → AreTrueOf edits items → AreTrueIn (net_of edits) items
+TrueInNetwork = (edits : List Edit) (items : List Stored) → AreTrueOf edits items
+    → AreTrueIn (net_of edits) items
 
 -- a true part whose node has its stamp is a part of every dataset that the node gives
 abbrev pub TruePartAnswers : Type 0
-TruePartAnswers = (net : Network) (item : Stored) → IsTrueIn net item → HasStamp net item.key → (whole : Dataset) → IsScratch net item.key.node.0 (Ok whole)
+TruePartAnswers = (net : Network) (item : Stored) → IsTrueIn net item → HasStamp net item.key
+    → (whole : Dataset) → IsScratch net item.key.node.0 (Ok whole)
     → IsDatasetPart (cone_of net item.key.node.0) whole item.key.request item.part
 
 -- a true part whose node has its stamp is of a node that gives a dataset
 abbrev pub TruePartIsGiven : Type 0
-TruePartIsGiven = (net : Network) (item : Stored) → IsTrueIn net item → HasStamp net item.key → (whole : Dataset) × IsScratch net item.key.node.0 (Ok whole)
+TruePartIsGiven = (net : Network) (item : Stored) → IsTrueIn net item → HasStamp net item.key
+    → (whole : Dataset) × IsScratch net item.key.node.0 (Ok whole)

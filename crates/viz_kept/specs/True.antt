@@ -1,4 +1,4 @@
--- When a kept part is true: in a network, and of an edit history (VTK User's Guide, "The visualization pipeline": modification times; docs/DEFINITIONS.md, "Kept parts").
+-- When a kept part is true, in a network and of a history (VTK User's Guide: modification times).
 use Rattle.std.specs.Prelude.{◌≡◌, List, ◌++◌, Option, Some, Ok}
 use Rattle.std.specs.List.{All}
 use Rattle.viz_cache.specs.declared.stored.Key.{Key}
@@ -15,7 +15,8 @@ use Rattle.viz_scratch.specs.Scratch.{IsScratchOf}
 use Rattle.viz_kept.specs.Divided.{IsDivided}
 
 -- a part answers a request of a dataset of the node at the foot of a cone, as that is shared out
-pub record IsDatasetPart (cone : Option Tree) (whole : Dataset) (request : Request) (part : Part) : Type 0 where
+pub record IsDatasetPart (cone : Option Tree) (whole : Dataset) (request : Request) (part : Part)
+    : Type 0 where
   pub division : Division
   pub divided : IsDivided cone whole division
   pub answers : IsAnswer whole division request part

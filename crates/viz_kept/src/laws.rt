@@ -1,8 +1,13 @@
-//! What true parts keep. A law is a function that does nothing: its contract holds of the definitions
-//! alone.
+//! What true parts keep. A law is a function that does nothing: its contract holds of the
+//! definitions alone.
 
-ghost use Rattle.viz_kept.specs.Laws.{MadeIsTrue, TrueInNetwork, TrueOfLonger, TruePartAnswers,
-    TruePartIsGiven};
+ghost use Rattle.viz_kept.specs.Laws.{
+  MadeIsTrue,
+  TrueInNetwork,
+  TrueOfLonger,
+  TruePartAnswers,
+  TruePartIsGiven,
+};
 
 use viz_network::equal_stamps_are_equal_cones;
 use viz_scratch::scratch_is_one;

@@ -30,7 +30,10 @@ fn own_parts(alloc: Global, sheets: Vec<Sheet>) -> Result<Vec<PartSheet>, AllocE
     ensures sheets { AreSheets sheets.items }
 {
     know_all(&sheets);
-    sheets.into_iter().map(|sheet| PartSheet::own(sheet)).collect(alloc)
+    sheets
+        .into_iter()
+        .map(|sheet| PartSheet::own(sheet))
+        .collect(alloc)
 }
 
 // All sheets of a mesh as one part.
