@@ -1,8 +1,10 @@
 -- A history with one entry more.
-use Rattle.std.proofs.Common.{◌≡◌, ℕ, suc, ◌+◌, ◌<◌, List, [], ◌∷◌, ◌++◌, cond, length, length-append, append_assoc, append-nil, Result, Ok, sym, ap, subst, ◌∙◌, arith}
+use Rattle.std.proofs.Common.{◌≡◌, ℕ, suc, ◌+◌, ◌<◌, List, [], ◌∷◌, ◌++◌, cond, length, length-append, append_assoc, append-nil, Result, Ok, Err, sym, ap, subst, ◌∙◌, arith}
+use Rattle.std.specs.Prelude.{is_ok, if◌then◌else◌}
 use Rattle.std.proofs.lemmas.List.{length-map, map-append}
+use Rattle.std.proofs.lemmas.List.Elements.{All-push}
 use Rattle.viz_cache.specs.declared.stored.Stored.{Stored}
-use Rattle.viz_kept.specs.True.{AreTrueOf}
+use Rattle.viz_kept.specs.True.{IsMadeIn, IsTrueOf, AreTrueOf}
 use Rattle.viz_kept.proofs.TrueLemmas.{all_longer}
 use Rattle.viz_network.specs.declared.refusal.Refusal.{Refusal}
 use Rattle.viz_network.specs.Network.{Network}
@@ -90,3 +92,11 @@ own_all pass count edit old (Done at) new r s =
 own_all pass count edit old (Refused w at) new r s = ap (own_of pass) r.0.history ∙ (s ∙ sym r.0.history)
 own_all pass count edit old (Full at) new r s = ap (own_of pass) r.0.history ∙ (s ∙ sym r.0.history)
 own_all pass count edit old Memory new r s = ap (own_of pass) r.0.history ∙ (s ∙ sym r.0.history)
+
+-- with a part that the network of the history makes, where there is room for it
+pub true_pushed : {A B : Type 0} (r : Result A B) (h : List Entry) (items new : List Stored) (item : Stored) → AreTrueOf (edits_of h) items → IsMadeIn (network_of h) item
+    → new ≡ (if is_ok r then items ++ item ∷ [] else items) → AreTrueOf (edits_of h) new
+true_pushed (Ok a) h items new item t made is =
+    let one : IsTrueOf (edits_of h) item = record { before = edits_of h; later = []; whole = append-nil (edits_of h); made = made } in
+    subst (AreTrueOf (edits_of h)) (sym is) (record { each = All-push (IsTrueOf (edits_of h)) items item t.each one })
+true_pushed (Err b) h items new item t made is = subst (AreTrueOf (edits_of h)) (sym is) t

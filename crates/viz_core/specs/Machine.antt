@@ -67,4 +67,4 @@ pub record Publishes (used : List Key) (made : List Stored) (old : State) (count
   pub capacity : new.capacity ≡ old.capacity
   pub spare : old.spare ≤ new.spare
   pub takes : TakesIn (network_of old.history) old.capacity made (all_brought used old.cache) count
-    new.cache
+      new.cache

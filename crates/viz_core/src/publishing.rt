@@ -38,10 +38,9 @@ fn take_one(cache: &mut Cache, net: &Net, item: &Stored, count: Kept) -> Kept
     ensures takes { (before : List Item) (entries : List Item)
         → TakesIn net.now cache.old.capacity before entries count cache.old.entries
         → TakesIn net.now cache.old.capacity (before ++ item.now ∷ []) entries result
-            cache.new.entries }
+        cache.new.entries }
     ensures capacity { cache.new.capacity ≡ cache.old.capacity }
-    ensures count {
-        result.kept + result.stale + result.unkept ≡ count.kept + count.stale + count.unkept + 1 }
+    ensures count { result.kept + result.stale + result.unkept ≡ count.kept + count.stale + count.unkept + 1 }
 {
     let Kept {
         kept,
@@ -71,8 +70,7 @@ fn take_one(cache: &mut Cache, net: &Net, item: &Stored, count: Kept) -> Kept
 
 /// Takes the parts in, one after the other: a stale one is dropped, and any other goes first.
 pub fn take_in(cache: &mut Cache, net: &Net, made: &[Stored]) -> Kept
-    ensures takes {
-        TakesIn net.now cache.old.capacity made.now cache.old.entries result cache.new.entries }
+    ensures takes { TakesIn net.now cache.old.capacity made.now cache.old.entries result cache.new.entries }
     ensures capacity { cache.new.capacity ≡ cache.old.capacity }
     ensures count { result.kept + result.stale + result.unkept ≡ length made.now }
 {

@@ -8,8 +8,7 @@ edit-answer-requires c = record { next = ap (λ n. n + 1) (c.front-count.ensures
 pub invariant_of-self : goal.invariant_of-self
 invariant_of-self c =
     let count = c.front-count.result + 1 in
-    let replies = c.edit-answer.ensures.replies in
-    (
+    let replies = c.edit-answer.ensures.replies in (
       own_all 1 count c.args.edit c.self.inside.core c.edit-answer.result c.edit-answer.new.self replies c.self.invariant.0,
       true_after 1 count c.args.edit c.self.inside.core c.edit-answer.result c.edit-answer.new.self c.self.inside.made.items replies c.self.invariant.1,
     )
