@@ -9,11 +9,10 @@ use std::marker::Model;
 use std::process::Abort;
 use std::test::Fail;
 use viz_base::{Bytes, NodeId, Shared, Word};
-use viz_cache::{Key, Stored};
+use viz_cache::Stored;
 use viz_kept::stored_whole;
 use viz_kinds::{Kind, Param, Value};
 use viz_network::{Edit, Refusal};
-use viz_piece::Request;
 
 // A core whose entries are all of pass 1, and parts that were made of its nodes.
 #[derive(Drop)]
@@ -77,34 +76,19 @@ impl Actor {
     }
 
     // Publishes the made parts from one on.
-    fn publish(&mut self, used: &[Key], first: usize) -> Result<Kept, Fail> {
+    fn publish(&mut self, first: usize) -> Option<Kept> {
         if self.made.len() < first {
-            return Err("no part".into());
+            return None;
         }
-        let kept = self.core.publish(used, &self.made[first..]);
-        Ok(kept)
+        Some(self.core.publish(&[], &self.made[first..]))
     }
 
-    // The key of a made part.
-    fn key(&self, index: usize) -> Option<Key> {
-        let item = self.made.get(index)?;
-        Some(item.key)
-    }
-
-    // Whether the made parts are an image's block and a mesh's only piece.
-    fn asks_for_all(&self) -> bool {
-        let (Some(image), Some(mesh)) = (self.key(0), self.key(1)) else {
-            return false;
-        };
-        matches!(image.request, Request::Block(_))
-            && matches!(
-                mesh.request,
-                Request::Piece {
-                    p: 0,
-                    n: 1,
-                    ghosts: 0
-                }
-            )
+    // Publishes nothing, after a use of the first made part.
+    fn use_first(&mut self) -> Option<Kept> {
+        match self.made.first() {
+            Some(item) => Some(self.core.publish(&[item.key], &[])),
+            None => None,
+        }
     }
 
     fn finish(self) -> (u32, Vec<Entry>) {
@@ -221,28 +205,43 @@ POLYGONS 1 4
 3 0 1 2
 ";
 
-fn accepts(rt: &impl Abort, actor: &mut Actor, edit: Edit) {
-    let answer = actor.edit(edit);
-    assert!(rt; matches!(answer, EditAnswer::Done { .. }), "{answer:?}");
-}
-
-fn file(alloc: Global, node: Word, text: &[u8]) -> Result<Edit, Fail> {
+// Loads a file, with an edit of this position.
+fn load(
+    rt: &impl Abort,
+    alloc: Global,
+    actor: &mut Actor,
+    (node, at): (Word, u32),
+    text: &[u8],
+) -> Result<(), Fail> {
     let file = Shared::new(alloc, Bytes::new(text.to_vec(alloc)?))?;
-    Ok(Edit::Load { node, file })
+    wants(
+        rt,
+        actor,
+        Edit::Load { node, file },
+        EditAnswer::Done { at },
+    );
+    Ok(())
 }
 
-// Two file nodes, of an image and of a mesh, and a part of all of each.
+fn file_node(node: Word) -> Edit {
+    Edit::Add {
+        kind: Kind::File,
+        node,
+    }
+}
+
+// An image's and a mesh's node, and a part of all of each.
 fn two_parts(
     rt: &impl Abort,
     alloc: Global,
     actor: &mut Actor,
-    [s, t]: [Word; 2],
+    s: Word,
+    t: Word,
 ) -> Result<(), Fail> {
-    let kind = Kind::File;
-    accepts(rt, actor, Edit::Add { kind, node: s });
-    accepts(rt, actor, file(alloc, s, POINT)?);
-    accepts(rt, actor, Edit::Add { kind, node: t });
-    accepts(rt, actor, file(alloc, t, TRIANGLE)?);
+    wants(rt, actor, file_node(s), EditAnswer::Done { at: 1 });
+    load(rt, alloc, actor, (s, 2), POINT)?;
+    wants(rt, actor, file_node(t), EditAnswer::Done { at: 3 });
+    load(rt, alloc, actor, (t, 4), TRIANGLE)?;
     actor.make(alloc, s)?;
     actor.make(alloc, t)
 }
@@ -260,12 +259,24 @@ fn lists(entries: &[Stored], want: &[(u32, u32)]) -> bool {
     true
 }
 
-fn counts(kept: u64, stale: u64) -> Kept {
-    Kept {
+// So many were kept and stale, and these are the entries' nodes with their stamps.
+fn holds(
+    rt: &impl Abort,
+    alloc: Global,
+    actor: &Actor,
+    got: Option<Kept>,
+    (kept, stale): (u64, u64),
+    want: &[(u32, u32)],
+) -> Result<(), Fail> {
+    let counts = Kept {
         kept,
         stale,
         unkept: 0,
-    }
+    };
+    assert!(rt; got == Some(counts), "{got:?}");
+    let pinned = actor.pin(alloc)?;
+    assert!(rt; lists(pinned.entries.list(), want));
+    Ok(())
 }
 
 #[test]
@@ -273,24 +284,20 @@ fn a_part_is_kept_until_its_node_is_stamped_again(rt: HostRuntime) -> Result<(),
     let alloc = rt.alloc();
     let (s, t) = (word("s")?, word("t")?);
     let mut actor = Actor::new(alloc, 9, 1)?;
-    two_parts(&rt, alloc, &mut actor, [s, t])?;
-    assert!(rt; actor.asks_for_all());
+    two_parts(&rt, alloc, &mut actor, s, t)?;
     // one is kept at most: the last
-    assert_eq!(rt; actor.publish(&[], 0)?, counts(2, 0));
-    assert!(rt; lists(actor.pin(alloc)?.entries.list(), &[(3, 4)]));
-    accepts(&rt, &mut actor, file(alloc, t, TRIANGLE)?);
-    assert_eq!(rt; actor.publish(&[], 1)?, counts(0, 1));
-    assert_eq!(rt; actor.publish(&[], 0)?, counts(1, 1));
-    assert!(rt; lists(actor.pin(alloc)?.entries.list(), &[(1, 2)]));
-    wants(
-        &rt,
-        &mut actor,
-        Edit::Remove { node: s },
-        EditAnswer::Done { at: 6 },
-    );
-    assert_eq!(rt; actor.publish(&[], 0)?, counts(0, 2));
-    assert!(rt; lists(actor.pin(alloc)?.entries.list(), &[(1, 2)]));
-    Ok(())
+    let got = actor.publish(0);
+    holds(&rt, alloc, &actor, got, (2, 0), &[(3, 4)])?;
+    load(&rt, alloc, &mut actor, (t, 5), TRIANGLE)?;
+    let got = actor.publish(1);
+    holds(&rt, alloc, &actor, got, (0, 1), &[(3, 4)])?;
+    let got = actor.publish(0);
+    holds(&rt, alloc, &actor, got, (1, 1), &[(1, 2)])?;
+    // a node that is gone
+    let remove = Edit::Remove { node: s };
+    wants(&rt, &mut actor, remove, EditAnswer::Done { at: 6 });
+    let got = actor.publish(0);
+    holds(&rt, alloc, &actor, got, (0, 2), &[(1, 2)])
 }
 
 #[test]
@@ -298,13 +305,9 @@ fn used_parts_go_first_and_made_ones_before_them(rt: HostRuntime) -> Result<(), 
     let alloc = rt.alloc();
     let (s, t) = (word("s")?, word("t")?);
     let mut actor = Actor::new(alloc, 9, 2)?;
-    two_parts(&rt, alloc, &mut actor, [s, t])?;
-    assert_eq!(rt; actor.publish(&[], 0)?, counts(2, 0));
-    assert!(rt; lists(actor.pin(alloc)?.entries.list(), &[(3, 4), (1, 2)]));
-    let used = actor.key(0).ok_or("no part")?;
-    assert_eq!(rt; actor.publish(&[used], 2)?, counts(0, 0));
-    assert!(rt; lists(actor.pin(alloc)?.entries.list(), &[(1, 2), (3, 4)]));
-    assert_eq!(rt; actor.publish(&[used], 1)?, counts(1, 0));
-    assert!(rt; lists(actor.pin(alloc)?.entries.list(), &[(3, 4), (1, 2)]));
-    Ok(())
+    two_parts(&rt, alloc, &mut actor, s, t)?;
+    let got = actor.publish(0);
+    holds(&rt, alloc, &actor, got, (2, 0), &[(3, 4), (1, 2)])?;
+    let got = actor.use_first();
+    holds(&rt, alloc, &actor, got, (0, 0), &[(1, 2), (3, 4)])
 }
