@@ -1,7 +1,7 @@
 //! Meshes of up to 40 cells, cut in 1 to 9 pieces with 0 to 3 ghost levels, and put together again.
 
 use crate::all_pieces;
-use crate::tests::plain::{Asked, Row, Shape, cells_of, shows_part, shows_sheet};
+use crate::tests::plain::{Asked, Row, Shape, cells_of, narrow, shows_part, shows_sheet};
 use crate::tests::sheets::sheet_in;
 use std::alloc::{AllocError, Global};
 use std::process::Abort;
@@ -57,7 +57,7 @@ fn shows_pieces(
     assert_eq!(rt; parts.len(), n as usize);
     for (p, part) in parts.iter().enumerate() {
         let asked = Asked {
-            p: p as u32,
+            p: narrow(p),
             n,
             ghosts,
         };

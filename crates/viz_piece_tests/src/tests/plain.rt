@@ -122,13 +122,18 @@ pub(super) fn begin(count: u32, p: u32, n: u32) -> u32 {
     p.saturating_mul(count).checked_div(n).unwrap_or(0)
 }
 
+/// A number in 32 bits.
+pub(super) fn narrow(n: usize) -> u32 {
+    u32::try_from(n).unwrap_or(u32::MAX)
+}
+
 /// The level of each cell for a piece, or that it isn't there.
 pub(super) fn levels_of(
     alloc: Global,
     cells: &[Vec<u32>],
     asked: Asked,
 ) -> Result<Vec<Option<u32>>, AllocError> {
-    let count = cells.len() as u32;
+    let count = narrow(cells.len());
     let first = begin(count, asked.p, asked.n);
     let next = begin(count, asked.p.saturating_add(1), asked.n);
     let mut levels = Vec::new(alloc);
