@@ -1,0 +1,12 @@
+//! Parts of all that nodes give, published by a pass of a hub: tests across crates.
+//!
+//! Contract: `publish_both` pins, makes a part of all that each of two nodes gives, and publishes
+//! both. The tests look at what a later pin hands out.
+#![tactic(auto)]
+
+mod publishing;
+
+pub use publishing::publish_both;
+
+#[cfg(test)]
+mod tests;
