@@ -1,7 +1,7 @@
 //! All pieces of a mesh.
 
 ghost use Rattle.std.specs.Prelude.{◌<◌, ◌≤◌, IfOk};
-ghost use Rattle.viz_piece.specs.Stitching.{ArePiecesOf};
+ghost use Rattle.viz_piece.specs.Stitching.{AreAllParts, ArePiecesOf};
 ghost use Rattle.viz_piece_restrict.specs.Restricting.{IsSomeAnswer};
 ghost use Rattle.viz_piece_tests.specs.Steps.Cut.{AreCut, IsCutInTurn};
 
@@ -22,6 +22,7 @@ pub fn all_pieces(
     requires some { 0 < n }
     requires fewer { ghosts ≤ more }
     ensures pieces { IfOk result (λ v. ArePiecesOf mesh v.items) }
+    ensures all { IfOk result (λ v. AreAllParts v.items) }
 {
     let whole = whole_mesh(alloc, mesh)?;
     let parts = pieces_cut(alloc, &whole, n, more, ghosts)?;

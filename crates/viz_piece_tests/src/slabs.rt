@@ -4,7 +4,7 @@ ghost use Rattle.std.specs.Prelude.{◌≡◌, ◌<◌, ◌++◌, IfOk, option_t
 ghost use Rattle.std.specs.List.{AllZip};
 ghost use Rattle.viz_extent.specs.Slabs.{slab_of};
 ghost use Rattle.viz_piece.specs.Pieces.{IsImageBlock};
-ghost use Rattle.viz_piece.specs.Stitching.{AreSlabsOf};
+ghost use Rattle.viz_piece.specs.Stitching.{AreAllParts, AreSlabsOf};
 
 use std::alloc::{AllocError, Global};
 use viz_dataset::Image;
@@ -12,6 +12,16 @@ use viz_piece::Part;
 
 /// The parts of all slabs of `n` that there are of an image, in turn.
 pub fn all_slabs(alloc: Global, whole: &Image, n: u32) -> Result<Vec<Part>, AllocError>
+    requires some { 0 < n }
+    ensures slabs { IfOk result (λ v. AreSlabsOf whole.now v.items) }
+    ensures all { IfOk result (λ v. AreAllParts v.items) }
+{
+    let parts = slabs_in_turn(alloc, whole, n)?;
+    Ok(parts)
+}
+
+/// The same.
+fn slabs_in_turn(alloc: Global, whole: &Image, n: u32) -> Result<Vec<Part>, AllocError>
     requires some { 0 < n }
     ensures slabs { IfOk result (λ v. AreSlabsOf whole.now v.items) }
 {

@@ -74,8 +74,8 @@ fn eights(alloc: Global, points: u32) -> Result<Vec<[u32; 8]>, AllocError> {
 
 // The point with a number.
 fn narrow_point(number: u32) -> Result<Point5, Fail> {
-    let [x, y, z, s, w] = point_of(number);
-    match point(x, y, z, s, w) {
+    let [x, y, z, s, _] = point_of(number);
+    match point(x, y, z, s, 1) {
         Ok(p) => Ok(p),
         Err(_) => Err("a narrow point")?,
     }
