@@ -1,6 +1,6 @@
 use Rattle.viz_round_trip.proofs.MeshStanding.{stops-nothing}
 use Rattle.viz_round_trip.proofs.MeshOnly.{reads-only, reads-no_fault}
-use Rattle.viz_round_trip.proofs.laws.no_other_mesh_is_read.Goals as goal
+use Rattle.viz_round_trip.proofs.meshes.no_other_mesh_is_read.Goals as goal
 
 pub returns-clause-only : goal.returns-clause-only
 returns-clause-only c = reads-only
