@@ -37,7 +37,8 @@ LetsRestrict (WholeImage whole) division kept wanted = Unit {0}
 LetsRestrict (WholeMesh sheets) division kept wanted =
     IsSamePiece kept wanted ⊎ (IsInTurn sheets division kept × IsInTurn sheets division wanted)
 
--- the restriction of a kept part: of each dataset and division that lets it be made, it answers the wanted request where the part answers its own
+-- the restriction of a kept part: of each dataset and division that lets it be made,
+-- it answers the wanted request where the part answers its own
 pub record IsRestriction (kept wanted : Request) (part restricted : Part) : Type 0 where
   pub answers : (whole : Dataset) (division : Division) → LetsRestrict whole division kept wanted
       → IsAnswer whole division kept part → IsAnswer whole division wanted restricted
