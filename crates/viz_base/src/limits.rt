@@ -9,8 +9,10 @@ pub const NODES: u32 = 256;
 /// The greatest number of entries of the program's edit history.
 pub const HISTORY: u32 = 65_536;
 
-/// The greatest number of parts in the program's cache.
-pub const CACHE: u32 = 256;
+/// The greatest number of parts in the program's cache. An update of a network of 256 nodes in 8
+/// pieces uses so many, and keeps all of them that it may: a node with Release 1 has none. Kept
+/// parts are shared, never copied.
+pub const CACHE: u32 = 2_048;
 
 /// The greatest number of actors.
 pub const ACTORS: u32 = 8;

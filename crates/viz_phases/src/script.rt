@@ -12,18 +12,13 @@ use std::alloc::{AllocError, Global};
 use std::mem;
 use std::sync::Wait;
 use std::thread::Threads;
-use viz_base::{ACTORS, Gate, HISTORY, Port};
+use viz_base::{ACTORS, CACHE, Gate, HISTORY, Port};
 use viz_core::Entry;
 use viz_hub::Hub;
 use viz_report::Row;
 use viz_script::Step;
 
 const PHASES: u32 = 64;
-
-/// The greatest number of parts that are kept. An update of a network of 256 nodes in 8 pieces uses
-/// so many, and keeps all of them that it may: a node with Release 1 has none. Kept parts are shared,
-/// never copied.
-const KEPT_PARTS: u32 = 2_048;
 
 /// What the commands of a script came to: the rows of its report, in their order, and the history.
 #[derive(Debug, Drop)]
@@ -50,7 +45,7 @@ fn serve_seated<R: Threads + Wait + Sync, P: Port + Send, G: Gate + Sync>(
 {
     let total = reserve_all(places, steps, 1)?;
     let mut rows = Vec::with_capacity(alloc, total)?;
-    let (hub, root) = Hub::start(alloc, HISTORY, KEPT_PARTS)?;
+    let (hub, root) = Hub::start(alloc, HISTORY, CACHE)?;
     let root = run_phases(
         rt, alloc, &hub, root, places, gate, steps, 1, PHASES, &mut rows,
     );
