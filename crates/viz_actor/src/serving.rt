@@ -13,7 +13,7 @@ use std::sync::Wait;
 use std::thread::Threads;
 use viz_account::file_name;
 use viz_base::{Bytes, Gate, Port, ReadRefusal, Shape, Shared, Word};
-use viz_core::EditAnswer;
+use viz_history::EditAnswer;
 use viz_hub::{Hub, Pass};
 use viz_network::Edit;
 use viz_report::{Line, Reason};

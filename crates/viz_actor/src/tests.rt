@@ -9,7 +9,7 @@ use std::sync::Wait;
 use std::test::Fail;
 use std::thread::Threads;
 use viz_base::{Bytes, FILE_LIMIT, MemoryPort, OpenGate, Shape, Shared, Word};
-use viz_core::EditAnswer;
+use viz_history::EditAnswer;
 use viz_hub::{Hub, Pass};
 use viz_network::{Cause, Edit, Kind, Param, Value};
 

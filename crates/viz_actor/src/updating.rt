@@ -2,7 +2,7 @@
 
 ghost use Rattle.std.specs.Prelude.{◌≡◌, IfSome, length};
 ghost use Rattle.viz_hub.specs.Passes.{at_seen, GoesFurther};
-ghost use Rattle.viz_core.specs.History.{network_of};
+ghost use Rattle.viz_history.specs.History.{network_of};
 ghost use Rattle.viz_account.specs.Answers.{line_of, at_of, audit_line_of, audit_at_of};
 ghost use Rattle.viz_account.specs.Laws.{IsClosedLine};
 ghost use Rattle.viz_account.specs.Lines.{TellsAudit};
@@ -13,7 +13,7 @@ use std::sync::Wait;
 use std::thread::Threads;
 use viz_account::{Answer, AuditAnswer};
 use viz_base::{Gate, Port, Shape, Word};
-use viz_core::Pinned;
+use viz_history::Pinned;
 use viz_hub::{Hub, Pass};
 
 /// The number of the one task of an update or an audit.

@@ -3,9 +3,9 @@ use Rattle.std.proofs.Common.{rules, ◌≡◌, ℕ, true, ◌&&◌, List, [], �
 use Rattle.std.proofs.lemmas.Bool.{and_parts, eqb-true, eq-eqb, false≢true}
 use Rattle.std.specs.Cmp.Lexicographic.{pointwise}
 use Rattle.viz_extent.specs.Extent.{Bounds, numbers_of}
-use Rattle.viz_piece.specs.declared.request.Request.{Request}
-use Rattle.viz_piece.specs.declared.request.Request.TheVariants.{Block, Piece}
-use Rattle.viz_cache.specs.declared.stored.Key.{Key}
+use Rattle.viz_parts.specs.declared.request.Request.{Request}
+use Rattle.viz_parts.specs.declared.request.Request.TheVariants.{Block, Piece}
+use Rattle.viz_parts.specs.declared.stored.Key.{Key}
 use Rattle.viz_cache.specs.contracts.stored.KeyPartialEq.TheImpl as equality
 use Rattle.viz_cache.specs.Keys.{same_request, same_key}
 

@@ -7,9 +7,9 @@ use Rattle.std.specs.Map.{keys_of, lookup, lookup_entry, remove_entry}
 use Rattle.std.proofs.lemmas.List.{length-map}
 use Rattle.lru.specs.LruCache.{LruCache, promoted, put_entries}
 use Rattle.lru.proofs.CallerLemmas.{Contains-lookup_entry}
-use Rattle.viz_piece.specs.declared.request.Part.{Part}
-use Rattle.viz_cache.specs.declared.stored.Key.{Key}
-use Rattle.viz_cache.specs.declared.stored.Stored.{Stored}
+use Rattle.viz_parts.specs.declared.request.Part.{Part}
+use Rattle.viz_parts.specs.declared.stored.Key.{Key}
+use Rattle.viz_parts.specs.declared.stored.Stored.{Stored}
 use Rattle.viz_cache.specs.Keys.{same_key}
 use Rattle.viz_cache.specs.Cache.{has_key, entry_of, without, brought_first, with_item}
 use Rattle.viz_cache.specs.Steps.Pairs.{stored_of, items_of}

@@ -2,8 +2,8 @@
 use Rattle.std.specs.Prelude.{ℕ, ◌-◌, Bool, List, [], ◌∷◌, Option, if◌then◌else◌, take, find}
 use Rattle.std.specs.List.{list_any}
 use Rattle.std.specs.Option.{option_map_or}
-use Rattle.viz_cache.specs.declared.stored.Key.{Key}
-use Rattle.viz_cache.specs.declared.stored.Stored.{Stored}
+use Rattle.viz_parts.specs.declared.stored.Key.{Key}
+use Rattle.viz_parts.specs.declared.stored.Stored.{Stored}
 use Rattle.viz_cache.specs.Keys.{same_key}
 
 -- the entries, the most recently used first, and how many there may be at most

@@ -2,9 +2,9 @@
 use Rattle.std.specs.Prelude.{Bool, false, ◌&&◌, nat_eq}
 use Rattle.std.specs.Cmp.Lexicographic.{pointwise}
 use Rattle.viz_extent.specs.Extent.{numbers_of}
-use Rattle.viz_piece.specs.declared.request.Request.{Request}
-use Rattle.viz_piece.specs.declared.request.Request.TheVariants.{Block, Piece}
-use Rattle.viz_cache.specs.declared.stored.Key.{Key}
+use Rattle.viz_parts.specs.declared.request.Request.{Request}
+use Rattle.viz_parts.specs.declared.request.Request.TheVariants.{Block, Piece}
+use Rattle.viz_parts.specs.declared.stored.Key.{Key}
 
 -- requests for a block of the same six bounds, or for the same piece of as many with as many ghost levels
 abbrev pub same_request : Request → Request → Bool

@@ -5,13 +5,12 @@ ghost use Rattle.std.specs.List.{IsDistinct};
 ghost use Rattle.viz_cache.specs.Keys.{same_key};
 ghost use Rattle.viz_cache.specs.Cache.{brought_first, has_key, with_item};
 
-use crate::stored::{Key, Stored};
 use lru::LruCache;
 use std::alloc::{AllocError, Global};
 use std::marker::Model;
 use std::num::NonZeroUsize;
 use viz_base::Shared;
-use viz_piece::Part;
+use viz_parts::{Key, Part, Stored};
 
 /// Parts under their keys, so many at most. A new one in a full cache drops the entry that was used
 /// least recently.

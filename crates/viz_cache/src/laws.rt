@@ -2,7 +2,7 @@
 //! alone.
 
 ghost use Rattle.std.specs.Prelude.{◌≡◌, ◌↔◌, true};
-ghost use Rattle.viz_cache.specs.declared.stored.Key.{Key};
+ghost use Rattle.viz_parts.specs.declared.stored.Key.{Key};
 ghost use Rattle.viz_cache.specs.Keys.{same_key};
 
 /// Keys are the same exactly where they are equal.

@@ -1,6 +1,6 @@
 //! Keys that differ in one part, and the entries of a small cache after each call, by hand.
 
-use crate::{Cache, Key, Stored};
+use crate::Cache;
 use std::alloc::Global;
 use std::process::Abort;
 use std::test::Fail;
@@ -8,7 +8,7 @@ use viz_base::{NodeId, Shared};
 use viz_column::Column;
 use viz_dataset::{Image, is_origin, is_spacing};
 use viz_extent::Extent;
-use viz_piece::{Part, Request};
+use viz_parts::{Key, Part, Request, Stored};
 
 /// The most entries that a row lists.
 const MOST: usize = 3;

@@ -11,7 +11,7 @@ use crate::insides::is_at_least_0;
 use crate::key::{high, low};
 use std::alloc::Global;
 use viz_fraction::{Form, Point5, SmallPoint, TooWide, crossing, small, value};
-use viz_piece::WorkStop;
+use viz_meaning::WorkStop;
 use viz_sheet::Places;
 
 /// The crossing of each key, in half the room where all fit.

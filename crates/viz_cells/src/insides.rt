@@ -6,7 +6,7 @@ ghost use Rattle.viz_meaning.specs.Section.{is_inside_at, zero_point};
 
 use std::alloc::Global;
 use viz_fraction::{Form, Point5, TooWide, is_inside, value};
-use viz_piece::WorkStop;
+use viz_meaning::WorkStop;
 use viz_sheet::Places;
 
 /// Whether each point is inside: the form's value there is at least 0.

@@ -12,7 +12,7 @@ use crate::numbering::numbered;
 use crate::pieces::pieces;
 use std::alloc::Global;
 use viz_fraction::Form;
-use viz_piece::WorkStop;
+use viz_meaning::WorkStop;
 use viz_sheet::{Mesh, Sheet};
 
 /// The section of a sheet by a linear form, whose names have twice as many leaves as those of the

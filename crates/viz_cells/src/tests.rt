@@ -9,7 +9,7 @@ use std::alloc::Global;
 use std::process::Abort;
 use std::test::Fail;
 use viz_fraction::{Form, Point5, point, small};
-use viz_piece::WorkStop;
+use viz_meaning::WorkStop;
 use viz_sheet::{Leaves, Mixed, Places, Ranks, Sheet, are_cells, sheet_of};
 
 /// The points that names count from 0 on: a corner, a tetrahedron's three others, and one more.

@@ -11,7 +11,7 @@ use crate::leaves::{Units, units_of};
 use std::alloc::Global;
 use viz_dataset::Image;
 use viz_fraction::{Point5, SmallPoint, small};
-use viz_piece::WorkStop;
+use viz_meaning::WorkStop;
 use viz_sheet::Places;
 
 /// The points of names, in their order: the crossing on the edge of each.

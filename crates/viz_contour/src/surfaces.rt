@@ -15,7 +15,7 @@ use std::alloc::{AllocError, Global};
 use viz_dataset::Image;
 use viz_flags::{Ranked, ranked_section};
 use viz_grid_section::contours_are_sections;
-use viz_piece::WorkStop;
+use viz_meaning::WorkStop;
 use viz_sheet::{Leaves, Ranks, Sheet};
 
 /// The contour of an image at a level: one sheet of triangles, whose names are pairs of leaves.

@@ -8,7 +8,7 @@ use viz_column::{Column, Number};
 use viz_dataset::{Image, is_origin, is_spacing};
 use viz_extent::Extent;
 use viz_fraction::Point5;
-use viz_piece::WorkStop;
+use viz_meaning::WorkStop;
 use viz_sheet::Sheet;
 
 /// So many billionths make 1.

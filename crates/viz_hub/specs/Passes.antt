@@ -1,12 +1,12 @@
 -- What contracts see of a pass of a hub, and of a pin (docs/DEFINITIONS.md, "Histories"). Of the
 -- history a pass knows what one of a turn knows of the tale.
 use Rattle.std.specs.Prelude.{◌≡◌, ℕ, List, ◌∷◌, Option, None}
-use Rattle.viz_cache.specs.declared.stored.Stored.{Stored}
+use Rattle.viz_parts.specs.declared.stored.Stored.{Stored}
 use Rattle.viz_turn.specs.Tales.{IsWholeBy, GoesOn}
 use Rattle.viz_turn.specs.Known.{Identity, Known}
 use Rattle.viz_turn.specs.Known as turn
-use Rattle.viz_core.specs.declared.entry.Entry.{Entry}
-use Rattle.viz_core.specs.History.{by_of}
+use Rattle.viz_history.specs.declared.entry.Entry.{Entry}
+use Rattle.viz_history.specs.History.{by_of}
 use Rattle.viz_hub.specs.declared.sent.Sent.{Sent}
 
 -- the hub that a pass belongs to, its number, its ended and its born numbers, the history as far as

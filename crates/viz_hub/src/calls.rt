@@ -3,8 +3,8 @@
 ghost use Rattle.std.specs.Prelude.{◌≡◌, ◌+◌, ◌<◌, ◌≤◌, [], length, count_by, IfOk, IfErr, true};
 ghost use Rattle.viz_turn.specs.Tales.{HasNoOther, once};
 ghost use Rattle.viz_kept.specs.True.{AreMadeIn, AreTrueIn};
-ghost use Rattle.viz_core.specs.History.{by_of, network_of, IsLegal};
-ghost use Rattle.viz_core.specs.Publishing.{is_stale};
+ghost use Rattle.viz_history.specs.History.{by_of, network_of, IsLegal};
+ghost use Rattle.viz_history.specs.Publishing.{is_stale};
 ghost use Rattle.viz_hub.specs.Answers.{Answers};
 ghost use Rattle.viz_hub.specs.Passes.{numbers, first_pass, at_seen, elder, younger, one};
 ghost use Rattle.viz_hub.specs.Passes.{IsWhole, GoesFurther, IsFresh, Looks};
@@ -18,9 +18,9 @@ use crate::turns::{edit_by, front_by, join_by, pin_by, publish_by, split_by};
 use std::alloc::{AllocError, Global};
 use std::sync::Wait;
 use viz_base::{Items, NodeId, Shape};
-use viz_cache::{Key, Stored};
-use viz_core::{Core, EditAnswer, Kept, Pinned};
+use viz_history::{Core, EditAnswer, Kept, Pinned};
 use viz_network::Edit;
+use viz_parts::{Key, Stored};
 use viz_turn::Turn;
 
 fn place_of(pass: Pass) -> Place

@@ -3,7 +3,7 @@
 use crate::place::Place;
 use std::marker::Model;
 use viz_base::Items;
-use viz_core::{Core, Entry, Pinned};
+use viz_history::{Core, Entry, Pinned};
 use viz_turn::Turn;
 
 /// One history for all callers, who share it by reference. Contracts see which hub it is, and its

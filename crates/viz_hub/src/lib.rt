@@ -5,7 +5,7 @@
 //! and its own edits; a pin has the network of one prefix, and kept parts that are true in it; parts
 //! that are made in it are published, and the pass tells how often and what last; a pass into which
 //! all others were joined closes with the whole history. Definitions: `specs/Passes.antt`,
-//! `specs/Answers.antt`, `specs/Publishing.antt`, and those of viz_turn and viz_core that they name.
+//! `specs/Answers.antt`, `specs/Publishing.antt`, and those of viz_turn and viz_history that they name.
 #![tactic(auto)]
 
 mod calls;

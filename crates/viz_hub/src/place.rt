@@ -5,7 +5,7 @@ ghost use Rattle.viz_turn.specs.Passes.{known};
 ghost use Rattle.viz_hub.specs.Steps.Turns.{count_of};
 
 use crate::sent::Sent;
-use viz_core::Core;
+use viz_history::Core;
 use viz_turn::TurnPass;
 
 /// How often a pass published, modulo 2^64, and what last.

@@ -2,7 +2,7 @@
 
 ghost use Rattle.std.specs.Prelude.{◌≡◌, IfSome};
 ghost use Rattle.viz_kept.specs.True.{IsMadeIn};
-ghost use Rattle.viz_core.specs.History.{network_of};
+ghost use Rattle.viz_history.specs.History.{network_of};
 
 use crate::tests::{begin, join, pin, split, wants, word};
 use crate::{Hub, Pass, Pin, Sent};
@@ -10,11 +10,11 @@ use std::alloc::Global;
 use std::sync::Wait;
 use std::test::Fail;
 use viz_base::{Bytes, NodeId, Shape, Shared, Word};
-use viz_cache::Stored;
-use viz_core::{EditAnswer, Kept};
+use viz_history::{EditAnswer, Kept};
 use viz_kept::stored_whole;
 use viz_kinds::Kind;
 use viz_network::Edit;
+use viz_parts::Stored;
 
 // An image of one point.
 const POINT: &str = "# vtk DataFile Version 3.0

@@ -11,7 +11,7 @@ use std::test::Fail;
 use std::thread;
 use std::thread::Threads;
 use viz_base::{HISTORY, Word};
-use viz_core::{EditAnswer, Entry};
+use viz_history::{EditAnswer, Entry};
 use viz_kinds::{Kind, Param, Value};
 use viz_network::{Edit, Refusal};
 

@@ -3,8 +3,8 @@
 ghost use Rattle.std.specs.Prelude.{◌≡◌, ◌+◌, [], length, count_by, IfOk, true};
 ghost use Rattle.viz_turn.specs.Tales.{once};
 ghost use Rattle.viz_kept.specs.True.{AreMadeIn};
-ghost use Rattle.viz_core.specs.History.{network_of};
-ghost use Rattle.viz_core.specs.Publishing.{is_stale};
+ghost use Rattle.viz_history.specs.History.{network_of};
+ghost use Rattle.viz_history.specs.Publishing.{is_stale};
 ghost use Rattle.viz_hub.specs.Answers.{Answers};
 ghost use Rattle.viz_hub.specs.Passes.{numbers, at_seen, elder, younger, one};
 ghost use Rattle.viz_hub.specs.Passes.{GoesFurther, IsFresh, Looks};
@@ -16,9 +16,9 @@ use crate::place::{NONE, Place, Told};
 use crate::sent::Sent;
 use std::alloc::{AllocError, Global};
 use std::sync::Wait;
-use viz_cache::{Key, Stored};
-use viz_core::{Core, EditAnswer, Kept, Pinned};
+use viz_history::{Core, EditAnswer, Kept, Pinned};
 use viz_network::Edit;
+use viz_parts::{Key, Stored};
 use viz_turn::Turn;
 
 pub(crate) fn front_by<R: Wait>(turn: &Turn<Core>, rt: &R, place: Place) -> (Place, u32)

@@ -2,15 +2,15 @@
 
 ghost use Rattle.std.specs.Prelude.{◌≡◌, ◌+◌, IfSome};
 ghost use Rattle.viz_kept.specs.True.{IsMadeIn};
-ghost use Rattle.viz_core.specs.History.{network_of};
+ghost use Rattle.viz_history.specs.History.{network_of};
 
 use std::alloc::Global;
 use std::sync::Wait;
 use viz_base::{NodeId, Shape};
-use viz_cache::Stored;
-use viz_core::Kept;
+use viz_history::Kept;
 use viz_hub::{Hub, Pass, Pin};
 use viz_kept::stored_whole;
+use viz_parts::Stored;
 
 /// All that a node gives in the network of a pin, as one part. `None` where there is no such node,
 /// where it gives a fault, and where memory ran out.

@@ -8,7 +8,7 @@ use std::process::Abort;
 use std::sync::Wait;
 use std::test::Fail;
 use viz_base::{Bytes, NodeId, Shape, Shared, Word};
-use viz_core::EditAnswer;
+use viz_history::EditAnswer;
 use viz_hub::{Hub, Pass};
 use viz_kinds::Kind;
 use viz_network::Edit;

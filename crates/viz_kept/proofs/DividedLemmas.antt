@@ -4,7 +4,7 @@ use Rattle.viz_dataset.specs.declared.dataset.Dataset.{Dataset}
 use Rattle.viz_dataset.specs.declared.dataset.Dataset.TheVariants.{Image, Mesh}
 use Rattle.viz_network.specs.Cone.{Tree}
 use Rattle.viz_sheet.specs.Sheet.{SheetData}
-use Rattle.viz_piece.specs.Pieces.{Division, own_range, own_share, in_turn}
+use Rattle.viz_parts.specs.Pieces.{Division, own_range, own_share, in_turn}
 use Rattle.viz_kept.specs.Divided.{IsDivided}
 
 -- all positions of a sheet

@@ -1,6 +1,6 @@
 -- What is true of a history, of longer ones, and in its network.
 use Rattle.std.proofs.Common.{◌≡◌, List, ◌++◌, Ok, append_assoc, refl, sym, ap, subst, ◌∙◌}
-use Rattle.viz_cache.specs.declared.stored.Stored.{Stored}
+use Rattle.viz_parts.specs.declared.stored.Stored.{Stored}
 use Rattle.viz_dataset.specs.declared.dataset.Dataset.{Dataset}
 use Rattle.viz_network.specs.declared.edit.Edit.{Edit}
 use Rattle.viz_network.specs.Cone.{cone_of}

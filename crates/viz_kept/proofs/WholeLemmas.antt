@@ -7,11 +7,11 @@ use Rattle.std.proofs.lemmas.Option.{same_Some}
 use Rattle.viz_dataset.specs.Images.{ImageData, IsImage}
 use Rattle.viz_dataset.specs.declared.dataset.Dataset.TheVariants as dataset
 use Rattle.viz_sheet.specs.Sheet.{SheetData, IsSheet}
-use Rattle.viz_piece.specs.Parts.{PartSheetData}
-use Rattle.viz_piece.specs.Pieces.{IsSheetPart, IsPieceOf}
-use Rattle.viz_piece.specs.Seen.{Seen, AreSeen, seen_as, cells_seen, levels_seen, owned_seen, whole_seen}
-use Rattle.viz_piece.specs.declared.request.Part.TheVariants as part
-use Rattle.viz_piece.specs.declared.request.Request.TheVariants.{Block, Piece}
+use Rattle.viz_parts.specs.Parts.{PartSheetData}
+use Rattle.viz_parts.specs.Pieces.{IsSheetPart, IsPieceOf}
+use Rattle.viz_parts.specs.Seen.{Seen, AreSeen, seen_as, cells_seen, levels_seen, owned_seen, whole_seen}
+use Rattle.viz_parts.specs.declared.request.Part.TheVariants as part
+use Rattle.viz_parts.specs.declared.request.Request.TheVariants.{Block, Piece}
 use Rattle.viz_kept.specs.Steps.{own_part, AreSheets}
 use Rattle.viz_kept.specs.Whole.{IsWholePart}
 use Rattle.viz_kept.proofs.DividedLemmas.{all_own, whole_division}

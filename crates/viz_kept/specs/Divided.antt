@@ -3,7 +3,7 @@ use Rattle.std.specs.Prelude.{◌≡◌, Option}
 use Rattle.viz_dataset.specs.declared.dataset.Dataset.{Dataset}
 use Rattle.viz_dataset.specs.declared.dataset.Dataset.TheVariants.{Image, Mesh}
 use Rattle.viz_network.specs.Cone.{Tree}
-use Rattle.viz_piece.specs.Pieces.{Division, in_turn}
+use Rattle.viz_parts.specs.Pieces.{Division, in_turn}
 
 -- a mesh is shared out in turn; an image needs no division, since its parts are blocks
 abbrev pub IsInTurn : Dataset → Division → Type 0

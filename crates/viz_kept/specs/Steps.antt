@@ -1,7 +1,7 @@
 -- Sheets whose cells are all their own.
 use Rattle.std.specs.Prelude.{List, length, replicate}
 use Rattle.std.specs.List.{All}
-use Rattle.viz_piece.specs.Parts.{PartSheetData}
+use Rattle.viz_parts.specs.Parts.{PartSheetData}
 use Rattle.viz_sheet.specs.Sheet.{SheetData, IsSheet}
 
 -- a sheet as a part of own cells alone

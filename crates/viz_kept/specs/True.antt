@@ -1,16 +1,16 @@
 -- When a kept part is true, in a network and of a history (VTK User's Guide: modification times).
 use Rattle.std.specs.Prelude.{◌≡◌, List, ◌++◌, Option, Some, Ok}
 use Rattle.std.specs.List.{All}
-use Rattle.viz_cache.specs.declared.stored.Key.{Key}
-use Rattle.viz_cache.specs.declared.stored.Stored.{Stored}
+use Rattle.viz_parts.specs.declared.stored.Key.{Key}
+use Rattle.viz_parts.specs.declared.stored.Stored.{Stored}
 use Rattle.viz_dataset.specs.declared.dataset.Dataset.{Dataset}
 use Rattle.viz_network.specs.declared.edit.Edit.{Edit}
 use Rattle.viz_network.specs.Cone.{Tree, cone_of, stamp_of}
 use Rattle.viz_network.specs.History.{net_of}
 use Rattle.viz_network.specs.Network.{Network}
-use Rattle.viz_piece.specs.declared.request.Part.{Part}
-use Rattle.viz_piece.specs.declared.request.Request.{Request}
-use Rattle.viz_piece.specs.Pieces.{Division, IsAnswer}
+use Rattle.viz_parts.specs.declared.request.Part.{Part}
+use Rattle.viz_parts.specs.declared.request.Request.{Request}
+use Rattle.viz_parts.specs.Pieces.{Division, IsAnswer}
 use Rattle.viz_scratch.specs.Scratch.{IsScratchOf}
 use Rattle.viz_kept.specs.Divided.{IsDivided}
 

@@ -3,9 +3,9 @@ use Rattle.std.specs.Prelude.{Option, Ok}
 use Rattle.viz_dataset.specs.declared.dataset.Dataset.{Dataset}
 use Rattle.viz_dataset.specs.declared.dataset.Dataset.TheVariants as dataset
 use Rattle.viz_network.specs.Cone.{Tree}
-use Rattle.viz_piece.specs.declared.request.Part.{Part}
-use Rattle.viz_piece.specs.declared.request.Request.{Request}
-use Rattle.viz_piece.specs.declared.request.Request.TheVariants.{Block, Piece}
+use Rattle.viz_parts.specs.declared.request.Part.{Part}
+use Rattle.viz_parts.specs.declared.request.Request.{Request}
+use Rattle.viz_parts.specs.declared.request.Request.TheVariants.{Block, Piece}
 use Rattle.viz_scratch.specs.Scratch.{IsScratchOf}
 use Rattle.viz_kept.specs.True.{IsNodePart}
 

@@ -8,10 +8,9 @@ ghost use Rattle.viz_kept.specs.Whole.{IsWholePart, whole_request};
 
 use std::alloc::{AllocError, Global};
 use viz_base::{NodeId, Shared};
-use viz_cache::{Key, Stored};
 use viz_dataset::Dataset;
 use viz_network::{Net, Stop};
-use viz_piece::{Part, PartSheet, Request};
+use viz_parts::{Key, Part, PartSheet, Request, Stored};
 use viz_scratch::scratch;
 use viz_sheet::Sheet;
 

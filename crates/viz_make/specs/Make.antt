@@ -9,7 +9,7 @@ use Rattle.viz_base.specs.declared.call.WriteAnswer.{WriteAnswer}
 use Rattle.viz_base.specs.declared.call.WriteAnswer.TheVariants as write
 use Rattle.viz_extent.specs.Extent.{Bounds, count_of}
 use Rattle.viz_dataset.specs.Images.{ImageData}
-use Rattle.viz_legacy_write.specs.ImageText.{image_text}
+use Rattle.viz_image_write.specs.ImageText.{image_text}
 use Rattle.viz_grid_section.specs.Edges.{Edge}
 use Rattle.viz_once.specs.Account.{LeavesText}
 use Rattle.viz_surface_law.specs.Audit.{count_sides, count_two, count_lone, count_border}

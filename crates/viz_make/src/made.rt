@@ -15,8 +15,8 @@ use std::alloc::{AllocError, Global};
 use viz_base::Bytes;
 use viz_contour::contour;
 use viz_dataset::Image;
-use viz_legacy_write::{Style, WriteStop, write_image};
-use viz_piece::WorkStop;
+use viz_image_write::{Style, WriteStop, write_image};
+use viz_meaning::WorkStop;
 use viz_surface_law::{Counts, audit, contours_are_closed};
 use viz_volume::{Generated, generate, volumes_are_narrow};
 

@@ -7,11 +7,11 @@ use Rattle.std.proofs.lemmas.List.Folds.{flat_map-map}
 use Rattle.std.proofs.lemmas.List.Elements.{All-head, All-tail, All-weaker}
 use Rattle.viz_column.specs.declared.kind.Kind8.TheVariants.{I32}
 use Rattle.viz_column.specs.Bytes.{bytes_of}
-use Rattle.viz_legacy_write.specs.ImageText.{spaced_number}
+use Rattle.viz_image_write.specs.ImageText.{spaced_number}
 use Rattle.viz_sheet.specs.Sheet.{AreAscending}
 use Rattle.viz_sheet.specs.Ranked.{IsCell, by_names, ranks_of}
 use Rattle.viz_sheet.proofs.RankLemmas.{ranks-at}
-use Rattle.viz_legacy_write.proofs.PassLemmas.{appended, lines_more}
+use Rattle.viz_image_write.proofs.PassLemmas.{appended, lines_more}
 use Rattle.viz_mesh_write.specs.Cells.{moved}
 use Rattle.viz_mesh_write.specs.Steps.Passes.{IsMovable, index_text, index_bytes, cell_row, cell_rows}
 use Rattle.viz_mesh_write.specs.Steps.SheetCells.{CellsData, total_points, points_by}

@@ -7,7 +7,7 @@ use Rattle.std.proofs.lemmas.List.Concat.{flat_map-append}
 use Rattle.std.proofs.lemmas.List.Folds.{flat_map-map}
 use Rattle.viz_column.specs.declared.kind.Kind8.{Kind8}
 use Rattle.viz_column.specs.declared.kind.Kind8.TheVariants.{I32}
-use Rattle.viz_legacy_write.proofs.PassLemmas.{appended}
+use Rattle.viz_image_write.proofs.PassLemmas.{appended}
 use Rattle.viz_mesh_write.specs.Cells.{moved, of_size, has_tetrahedra}
 use Rattle.viz_mesh_write.specs.Rows.{row_of, block_end, block_text}
 use Rattle.viz_mesh_write.specs.MeshText.{cell_numbers, size_of, section_line, section_text, type_of, types_line, types_text, grid_text, some_section, parts_text, poly_text, cells_text}

@@ -3,7 +3,7 @@ use Rattle.std.proofs.Common.{◌≡◌, ℕ, nat_lt, Bool, List, [], ◌∷◌,
 use Rattle.viz_column.specs.declared.kind.Kind8.TheVariants.{I64}
 use Rattle.viz_fraction.specs.Points.{Point}
 use Rattle.viz_sheet.specs.Sheet.{SheetData}
-use Rattle.viz_legacy_write.proofs.PassLemmas.{appended}
+use Rattle.viz_image_write.proofs.PassLemmas.{appended}
 use Rattle.viz_mesh_write.specs.Cells.{cells_of, has_tetrahedra}
 use Rattle.viz_mesh_write.specs.Rows.{block_end}
 use Rattle.viz_mesh_write.specs.MeshText.{points_line, coordinates, scalars_head, scalars, points_text, scalars_text}

@@ -6,7 +6,7 @@ use Rattle.viz_fraction.specs.Points.{Point}
 use Rattle.viz_fraction.specs.Decimals.{fixed_of}
 use Rattle.viz_column.specs.declared.kind.Kind8.TheVariants.{I32, I64}
 use Rattle.viz_sheet.specs.Sheet.{SheetData}
-use Rattle.viz_legacy_write.specs.ImageText.{form_line}
+use Rattle.viz_image_write.specs.ImageText.{form_line}
 use Rattle.viz_mesh_write.specs.Cells.{points_of, cells_of, of_size, has_tetrahedra}
 use Rattle.viz_mesh_write.specs.Rows.{block_text}
 

@@ -3,7 +3,7 @@ use Rattle.std.specs.Prelude.{ℕ, ◌==◌, ℤ, Bool, true, false, List, [], �
 use Rattle.std.specs.List.{flat_map}
 use Rattle.viz_column.specs.declared.kind.Kind8.{Kind8}
 use Rattle.viz_column.specs.Bytes.{bytes_of}
-use Rattle.viz_legacy_write.specs.ImageText.{row_text}
+use Rattle.viz_image_write.specs.ImageText.{row_text}
 
 -- a row of numbers: their bytes, the highest of each first, or a line
 abbrev pub row_of : Bool → Kind8 → List ℤ → List ℕ

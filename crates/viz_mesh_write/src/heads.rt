@@ -1,7 +1,7 @@
 //! The lines in front of points, cells and scalars.
 
 ghost use Rattle.std.specs.Prelude.{◌≡◌, ◌++◌, OnOk};
-ghost use Rattle.viz_legacy_write.specs.ImageText.{form_line};
+ghost use Rattle.viz_image_write.specs.ImageText.{form_line};
 ghost use Rattle.viz_mesh_write.specs.MeshText.{title_lines, dataset_line, points_line, section_line, types_line, scalars_head};
 
 use crate::numbers::put_count;
@@ -18,7 +18,7 @@ pub(crate) fn put_title(text: &mut Vec<u8>, digits: u8) -> Result<(), AllocError
 }
 
 /// Whether the numbers are words or bytes.
-#[tactic(auto, unfolding(viz_legacy_write::specs::ImageText::form_line))]
+#[tactic(auto, unfolding(viz_image_write::specs::ImageText::form_line))]
 pub(crate) fn put_form(text: &mut Vec<u8>, binary: bool) -> Result<(), AllocError>
     ensures { OnOk result (text.new.items ≡ text.old.items ++ form_line binary) }
 {

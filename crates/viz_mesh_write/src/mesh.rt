@@ -1,7 +1,7 @@
 //! The text of a mesh.
 
 ghost use Rattle.std.specs.Prelude.{◌≡◌, ◌≢◌, ◌≤◌, ◌<◌, ◌^◌, ◌++◌, ◌↔◌, Err, OnOk, IfOk, IsErrOf, length};
-ghost use Rattle.viz_legacy_write.specs.ImageText.{form_line};
+ghost use Rattle.viz_image_write.specs.ImageText.{form_line};
 ghost use Rattle.viz_mesh_write.specs.Cells.{points_of, cells_of, has_tetrahedra};
 ghost use Rattle.viz_mesh_write.specs.Fits.{FitCounts, FitRows, FitNumbers};
 ghost use Rattle.viz_mesh_write.specs.MeshText.{title_lines, dataset_line, coordinates, scalars, points_text, cells_text, scalars_text, mesh_text};
@@ -14,7 +14,7 @@ use crate::sections::put_cells_text;
 use crate::tally::{Tally, counted};
 use std::alloc::{AllocError, Global};
 use viz_base::Bytes;
-use viz_legacy_write::{Style, WriteStop};
+use viz_image_write::{Style, WriteStop};
 use viz_sheet::{Mesh, Sheet};
 
 /// The room for all lines in front of numbers.

@@ -12,7 +12,7 @@ use crate::sheet_cells::all_own_cells;
 use crate::tally::{Tally, counted};
 use std::alloc::{AllocError, Global};
 use viz_base::Bytes;
-use viz_legacy_write::{Style, WriteStop};
+use viz_image_write::{Style, WriteStop};
 use viz_sheet::{Mesh, Sheet};
 
 /// The scalars, where there are points, as new bytes.

@@ -14,7 +14,7 @@ ghost use Rattle.viz_mesh_write.specs.Steps.Passes.{point_rows};
 
 use crate::numbers::{put_one, put_three};
 use viz_fraction::{Point5, TooWide, fixed};
-use viz_legacy_write::WriteStop;
+use viz_image_write::WriteStop;
 use viz_sheet::{Places, Sheet};
 
 /// What is written of each point. A function that is generic in it has no `match` in its loop.

@@ -11,7 +11,7 @@ ghost use Rattle.viz_mesh_write.specs.Steps.Tallies.{capped, IsCapped, IsReady, 
 
 use crate::cell_ranks::CellRanks;
 use crate::sheet_cells::sheet_ranks;
-use viz_legacy_write::counts_fit;
+use viz_image_write::counts_fit;
 use viz_sheet::{Ranks, Sheet};
 
 /// The greatest number of points, and of the cells of one size.

@@ -6,7 +6,7 @@ use std::process::Abort;
 use std::test::Fail;
 use viz_base::Bytes;
 use viz_fraction::{Point5, point, small};
-use viz_legacy_write::{Style, WriteStop};
+use viz_image_write::{Style, WriteStop};
 use viz_sheet::{Leaves, Mesh, Mixed, Places, Ranks, Sheet, are_cells, sheet_of};
 
 const WORDS: Style = Style {

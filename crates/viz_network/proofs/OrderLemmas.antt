@@ -1,5 +1,5 @@
 -- What an order of all nodes gives.
-use Rattle.std.proofs.Common.{◌≡◌, ℕ, suc, ◌+◌, ◌<◌, inl, inr, List, [], ◌∷◌, length, set, get_or, slice_get, Option, None, Some, IsSome, zero-add, refl, sym, ap, subst, ◌∙◌, arith}
+use Rattle.std.proofs.Common.{◌≡◌, ℕ, suc, ◌+◌, ◌<◌, inl, inr, List, [], ◌∷◌, length, set, get_or, slice_get, Option, None, Some, IsSome, zero-add, refl, sym, ap, subst, max, ◌∙◌, arith}
 use Rattle.std.proofs.lemmas.Option.{slice_get_within, slice_get-get_or, get_or_from_slice_get}
 use Rattle.std.specs.List.{AllByRecursion}
 use Rattle.std.specs.Option.{option_map, option_map_or}
@@ -7,9 +7,9 @@ use Rattle.std.specs.Map.{values_of}
 use Rattle.viz_base.specs.declared.node.NodeId.{NodeId}
 use Rattle.viz_network.specs.declared.node.Node.{Node}
 use Rattle.viz_network.specs.Network.{Network, node_of}
-use Rattle.viz_network.specs.Cone.{Tree, grow, total, above, newest, cone_of, stamp_of}
+use Rattle.viz_network.specs.Cone.{Tree, grow, total, above, newest, own_stamp, cone_of, stamp_of}
 use Rattle.viz_network.specs.Steps.Order.{Has, IsBefore, IsOrder, IsTale, rank_of}
-use Rattle.viz_network.specs.Steps.Marks.{IsTold, told, ports_told}
+use Rattle.viz_network.specs.Steps.Marks.{IsTold, IsStamped, told, ports_told}
 use Rattle.viz_network.proofs.StandsLemmas.{by_places}
 use Rattle.viz_network.proofs.TaleLemmas.{node_id}
 use Rattle.viz_network.proofs.ToldLemmas.{rank_some, next_value, told_more}
@@ -93,3 +93,22 @@ stamp_there net id h =
     let n = some_of (node_of net id) h in
     let tree : Node → Tree = λ v. (v, grow (above 255 net) v.inputs) in
     ap (λ o. option_map (λ t. newest (Some t)) (option_map tree o)) n.1 ∙ sym (ap (λ o. Some (newest (option_map tree o))) n.1)
+
+-- there is an entry at each index
+entry_there : (net : Network) (i : ℕ) → i < length net → (e : List ℕ × Node) × (slice_get net i ≡ Some e)
+entry_there [] i l = absurd (omega (arith, l))
+entry_there (e ∷ net) 0 l = (e, refl)
+entry_there (e ∷ net) (suc i) l = entry_there net i (omega (arith, l))
+
+-- a whole table has the stamp of each node
+pub stamped : (net : Network) (order : List NodeId) → IsOrder net order → (table : List ℕ) → length table ≡ 256
+    → IsTold max 0 own_stamp net order (length order) table → IsStamped net table
+stamped net order o table size known = record { each = each; size = size; ascending = o.ascending; few = o.few }
+  where
+    each : (id rank : ℕ) → rank_of net id ≡ Some rank → slice_get table rank ≡ stamp_of net id
+    each id rank r =
+        let e = entry_there net rank (rank_within net id rank r) in
+        let found = (at_rank net id rank e.0 r e.1).1 in
+        let x : NodeId = record { 0 = id } in
+        let at = has_place order x (places_of net order o x e.0.1 found) in
+        known at.0 x rank (slice_get_within order at.0 x at.1) at.1 r ∙ sym (stamp_there net id (is_some_of (node_of net id) e.0.1 found))

@@ -14,6 +14,7 @@ mod node;
 mod nodes;
 mod part;
 mod refusal;
+mod stamps;
 mod steps;
 mod sweep;
 mod way;
@@ -24,6 +25,7 @@ pub use laws::{equal_stamps_are_equal_cones, networks_are_sound};
 pub use net::Net;
 pub use node::Node;
 pub use refusal::{ApplyStop, Refusal};
+pub use stamps::Stamps;
 pub use steps::Step;
 pub use viz_kinds::{Kind, Op, Param, Settings, Value};
 

@@ -14,6 +14,7 @@ use crate::edit::Edit;
 use crate::node::Node;
 use crate::nodes::{Nodes, name_at, node_at, node_named};
 use crate::refusal::ApplyStop;
+use crate::stamps::{Stamps, stamps_in};
 use crate::steps::{Step, steps_in};
 use crate::sweep::stamp_in;
 use indexmap::IndexMap;
@@ -167,6 +168,14 @@ impl Net {
         }
         Some(stamp_in(&self.nodes, &self.order, node))
     }
+
+    /// The stamps of all nodes, for who asks for many: they cost as much as one. It takes no memory.
+    pub fn stamps(&self) -> Stamps<'_>
+        ensures { result ≡ self.now }
+    {
+        stamps_in(&self.nodes, &self.order)
+    }
+
     /// A step for each node, each behind what feeds it.
     pub fn steps(&self, alloc: Global) -> Result<Vec<Step>, AllocError>
         ensures { IfOk result (λ steps. AreSteps self.now steps.items) }

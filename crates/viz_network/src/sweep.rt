@@ -128,7 +128,8 @@ fn cone_stamp(nodes: &Nodes, guesses: &Guesses, stamps: &[u32; 256], node: &Node
     node.stamp.max(newest)
 }
 
-fn stamps_of(nodes: &Nodes, guesses: &Guesses, order: &[NodeId]) -> [u32; 256]
+/// The stamps of the nodes, at their ranks.
+pub fn stamps_of(nodes: &Nodes, guesses: &Guesses, order: &[NodeId]) -> [u32; 256]
     requires { IsOrder nodes.now.entries order.now }
     ensures { IsTold max 0 own_stamp nodes.now.entries order.now (length order.now) result }
 {

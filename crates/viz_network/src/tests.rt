@@ -333,13 +333,14 @@ const DIAMOND: [Row; 8] = [
     (Connect("src", "right", 1), None),
 ];
 
-// The stamps of src, left, right and sum.
+// The stamps of src, left, right and sum: two are asked for, and two are of all.
 fn diamond_stamps(net: &Net) -> Result<[u32; 4], Fail> {
+    let all = net.stamps();
     Ok([
         stamp_of(net, "src")?,
         stamp_of(net, "left")?,
-        stamp_of(net, "right")?,
-        stamp_of(net, "sum")?,
+        all.of(id_of(net, "right")?).ok_or("no stamp")?,
+        all.of(id_of(net, "sum")?).ok_or("no stamp")?,
     ])
 }
 
@@ -377,6 +378,7 @@ fn stamps_go_through_a_diamond(rt: HostRuntime) -> Result<(), Fail> {
         stamps_after(&rt, rt.alloc(), &mut story, *plan, *want)?;
     }
     assert_eq!(rt; story.net.stamp(NodeId(5)), None);
+    assert_eq!(rt; story.net.stamps().of(NodeId(5)), None);
     Ok(())
 }
 

@@ -10,8 +10,8 @@ use Rattle.viz_legacy_read.specs.declared.stop.ReadStop.TheVariants.{File, Memor
 use Rattle.viz_meaning.specs.Narrow.{AreNarrowSections}
 use Rattle.viz_meaning.specs.Section.{sections_of}
 use Rattle.viz_meaning.specs.Tetrahedra.{sheets_of}
-use Rattle.viz_piece.specs.declared.stop.WorkStop.{WorkStop}
-use Rattle.viz_piece.specs.declared.stop.WorkStop.TheVariants as work
+use Rattle.viz_meaning.specs.declared.stop.WorkStop.{WorkStop}
+use Rattle.viz_meaning.specs.declared.stop.WorkStop.TheVariants as work
 use Rattle.viz_sheet.specs.Sheet.{SheetData}
 use Rattle.viz_network.specs.declared.fault.Cause.{Cause}
 use Rattle.viz_node_rules.specs.declared.stop.OwnStop.{OwnStop}

@@ -13,8 +13,8 @@ use std::alloc::Global;
 use viz_base::Shared;
 use viz_dataset::Dataset;
 use viz_fraction::Form;
+use viz_meaning::WorkStop;
 use viz_network::Cause;
-use viz_piece::WorkStop;
 use viz_sheet::Mesh;
 
 // The mesh of a section as a dataset, or why there is none.

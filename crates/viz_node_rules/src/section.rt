@@ -14,8 +14,7 @@ use viz_cells::sections;
 use viz_contour::contour;
 use viz_dataset::Image;
 use viz_fraction::Form;
-use viz_meaning::{sections_are_sheets, tetrahedra_are_a_sheet};
-use viz_piece::WorkStop;
+use viz_meaning::{WorkStop, sections_are_sheets, tetrahedra_are_a_sheet};
 use viz_sheet::{Mesh, Sheet};
 use viz_tets::tets;
 

@@ -10,7 +10,7 @@ use Rattle.viz_fraction.specs.Decimals.{fixed_of}
 use Rattle.viz_fraction.specs.Divisors.{gcd}
 use Rattle.viz_fraction.specs.Points.{divisor_of, numbers}
 use Rattle.viz_kuhn.specs.Kuhn.{rows}
-use Rattle.viz_legacy_write.specs.ImageText.{title_lines, form_line, dataset_line, dimensions_line, vector_line, origin_line, spacing_line, geometry_lines, point_data_line, array_line, table_line, header_lines, image_text}
+use Rattle.viz_image_write.specs.ImageText.{title_lines, form_line, dataset_line, dimensions_line, vector_line, origin_line, spacing_line, geometry_lines, point_data_line, array_line, table_line, header_lines, image_text}
 use Rattle.viz_sheet.specs.Sheet.{SheetData}
 use Rattle.viz_mesh_write.specs.MeshText.{title_lines as mesh_titles, dataset_line as mesh_line, points_line, points_text, scalars_head, section_line, section_text, parts_text, mesh_text}
 use Rattle.viz_lex.specs.Reading.{fault_at}

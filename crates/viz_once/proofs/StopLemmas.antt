@@ -2,10 +2,10 @@
 use Rattle.std.proofs.Common.{◌≡◌, Result, Ok, Err, refl, sym, subst, inl, inr}
 use Rattle.std.specs.Prelude.{IsErrAnd}
 use Rattle.viz_dataset.specs.declared.dataset.Dataset.{Dataset}
-use Rattle.viz_piece.specs.declared.stop.WorkStop.{WorkStop}
-use Rattle.viz_piece.specs.declared.stop.WorkStop.TheVariants as work
-use Rattle.viz_legacy_write.specs.declared.stop.WriteStop.{WriteStop}
-use Rattle.viz_legacy_write.specs.declared.stop.WriteStop.TheVariants as write
+use Rattle.viz_meaning.specs.declared.stop.WorkStop.{WorkStop}
+use Rattle.viz_meaning.specs.declared.stop.WorkStop.TheVariants as work
+use Rattle.viz_image_write.specs.declared.stop.WriteStop.{WriteStop}
+use Rattle.viz_image_write.specs.declared.stop.WriteStop.TheVariants as write
 use Rattle.viz_once.specs.declared.command.Filter.{Filter}
 use Rattle.viz_once.specs.declared.made.Made.{Made}
 use Rattle.viz_once.specs.declared.stop.MakeStop.{MakeStop}

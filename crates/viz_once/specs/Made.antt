@@ -1,13 +1,13 @@
 -- What is made of a file's bytes, before it is written. Words of private contracts alone.
 use Rattle.std.specs.Prelude.{◌≡◌, ℕ, ◌-◌, ◌^◌, List, Result, Ok, Err, min}
-use Rattle.viz_piece.specs.declared.stop.WorkStop.{WorkStop}
-use Rattle.viz_piece.specs.declared.stop.WorkStop.TheVariants as work
+use Rattle.viz_meaning.specs.declared.stop.WorkStop.{WorkStop}
+use Rattle.viz_meaning.specs.declared.stop.WorkStop.TheVariants as work
 use Rattle.viz_dataset.specs.declared.dataset.Dataset.{Dataset}
 use Rattle.viz_legacy_read.specs.Reading.{IsSound}
 use Rattle.viz_legacy_read.specs.declared.stop.ReadStop.{ReadStop}
 use Rattle.viz_legacy_read.specs.declared.stop.ReadStop.TheVariants as read
-use Rattle.viz_legacy_write.specs.declared.stop.WriteStop.{WriteStop}
-use Rattle.viz_legacy_write.specs.declared.stop.WriteStop.TheVariants as write
+use Rattle.viz_image_write.specs.declared.stop.WriteStop.{WriteStop}
+use Rattle.viz_image_write.specs.declared.stop.WriteStop.TheVariants as write
 use Rattle.viz_lex.specs.declared.fault.FileFault.{FileFault}
 use Rattle.viz_once.specs.declared.command.Filter.{Filter}
 use Rattle.viz_once.specs.declared.made.Made.{Made}

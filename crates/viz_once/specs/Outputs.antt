@@ -9,7 +9,7 @@ use Rattle.viz_dataset.specs.declared.dataset.Dataset.TheVariants.{Image, Mesh}
 use Rattle.viz_meaning.specs.Section.{sections_of}
 use Rattle.viz_meaning.specs.Narrow.{AreNarrowSections}
 use Rattle.viz_meaning.specs.Tetrahedra.{sheets_of}
-use Rattle.viz_legacy_write.specs.ImageText.{image_text}
+use Rattle.viz_image_write.specs.ImageText.{image_text}
 use Rattle.viz_mesh_write.specs.Cells.{points_of, cells_of}
 use Rattle.viz_mesh_write.specs.Fits.{FitCounts, FitNumbers}
 use Rattle.viz_mesh_write.specs.MeshText.{mesh_text}

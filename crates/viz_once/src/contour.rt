@@ -20,9 +20,9 @@ use std::alloc::Global;
 use viz_cells::sections;
 use viz_dataset::{Dataset, Image};
 use viz_fraction::Form;
-use viz_legacy_write::WriteStop;
+use viz_image_write::WriteStop;
+use viz_meaning::WorkStop;
 use viz_mesh_write::write_mesh;
-use viz_piece::WorkStop;
 use viz_sheet::{Mesh, Sheet};
 
 /// The form of a contour: how far the scalar lies above the level.

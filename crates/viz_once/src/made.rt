@@ -1,7 +1,7 @@
 //! What a filter makes of a dataset, and how it is written.
 
 use viz_base::Bytes;
-use viz_legacy_write::Style;
+use viz_image_write::Style;
 
 /// How datasets are written: in words, a coordinate of a mesh at three places.
 pub const STYLE: Style = Style {

@@ -20,8 +20,8 @@ use std::alloc::Global;
 use viz_base::{Bytes, Pick, Port, ReadRefusal, WriteRefusal};
 use viz_dataset::{Dataset, Image, Info};
 use viz_extent::Extent;
+use viz_image_write::write_image;
 use viz_legacy_read::{header, read};
-use viz_legacy_write::write_image;
 
 /// Refuses a file of a dataset that the filter doesn't take, by its header alone, which is read
 /// only where the filter doesn't take every dataset.

@@ -7,10 +7,10 @@ ghost use Rattle.viz_once.specs.Made.{of_fault, of_read, of_work, of_write};
 use crate::outcome::Cause;
 use std::alloc::AllocError;
 use thiserror::Error;
+use viz_image_write::WriteStop;
 use viz_legacy_read::ReadStop;
-use viz_legacy_write::WriteStop;
 use viz_lex::FileFault;
-use viz_piece::WorkStop;
+use viz_meaning::WorkStop;
 
 /// Why nothing was made of a file.
 #[derive(Debug, Drop, Error)]

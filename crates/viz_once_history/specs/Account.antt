@@ -5,7 +5,7 @@ use Rattle.viz_base.specs.declared.out.Out as out
 use Rattle.viz_base.specs.declared.call.ReadAnswer.TheVariants as read
 use Rattle.viz_base.specs.declared.call.WriteAnswer.{WriteAnswer}
 use Rattle.viz_base.specs.declared.call.WriteAnswer.TheVariants as write
-use Rattle.viz_core.specs.History.{IsLegal}
+use Rattle.viz_history.specs.History.{IsLegal}
 use Rattle.viz_network.specs.declared.fault.Fault.{Fault}
 use Rattle.viz_network.specs.Network.{name_of}
 use Rattle.viz_once.specs.declared.outcome.Cause.{Cause}

@@ -1,6 +1,6 @@
 -- What a command of one file makes is what its fixed history gives from scratch (docs/DEFINITIONS.md, "The fixed history of one file").
 use Rattle.std.specs.Prelude.{◌≡◌, ℕ, List, Some, Ok, Err}
-use Rattle.viz_core.specs.History.{IsLegal}
+use Rattle.viz_history.specs.History.{IsLegal}
 use Rattle.viz_dataset.specs.declared.dataset.Dataset.{Dataset}
 use Rattle.viz_network.specs.declared.fault.Fault.{Fault}
 use Rattle.viz_network.specs.Network.{name_of}

@@ -15,13 +15,13 @@ use Rattle.viz_mesh_meaning.specs.Facets.{facets_of, has_each, is_same_name, lon
 use Rattle.viz_mesh_meaning.specs.Laws.{IsFacetOf}
 use Rattle.viz_mesh_meaning.proofs.CellLemmas.{cells-made, of-names}
 use Rattle.viz_mesh_meaning.proofs.FacetLemmas.{IsFacetSize, facets-all, facets-size, lone-facets_of}
-use Rattle.viz_piece.specs.Parts.{PartSheetData}
+use Rattle.viz_parts.specs.Parts.{PartSheetData}
 use Rattle.viz_sheet.specs.Sheet.{SheetData, IsNamedCell, KeepPoints}
 use Rattle.viz_sheet.proofs.MemberLemmas.{here, there}
 use Rattle.viz_mesh_meaning.specs.Cells.{Cell}
 use Rattle.viz_piece_filters.specs.Names.{Name}
-use Rattle.viz_piece.specs.Seen.{Seen, Meet, IsUpTo, AreSeen, whole_seen, cells_seen, cell_if, seen_as}
-use Rattle.viz_piece.specs.Pieces.{IsPartOf}
+use Rattle.viz_parts.specs.Seen.{Seen, Meet, IsUpTo, AreSeen, whole_seen, cells_seen, cell_if, seen_as}
+use Rattle.viz_parts.specs.Pieces.{IsPartOf}
 use Rattle.viz_piece_filters.specs.Filters.{BoundariesKeepParts, TrimmedKeepParts, near_items}
 use Rattle.viz_piece_filters.proofs.PartLemmas.{from_map, into_flat_map}
 use Rattle.viz_piece_filters.proofs.CutLemmas.{cells_cut, cut, cut_level, cut_some, fewer_ghosts, levels_cut, owned_cut, seen_from, whole_cut}

@@ -20,7 +20,7 @@ use Rattle.viz_sheet.specs.PairNames.{AreNames}
 use Rattle.viz_sheet.specs.Sheet.{IsNamedCell, KeepPoints}
 use Rattle.viz_mesh_meaning.specs.Cells.{Cell}
 use Rattle.viz_piece_filters.specs.Names.{Name}
-use Rattle.viz_piece.specs.Seen.{Seen, cell_if, cells_seen, level_if, levels_seen}
+use Rattle.viz_parts.specs.Seen.{Seen, cell_if, cells_seen, level_if, levels_seen}
 use Rattle.viz_piece_filters.specs.Chains.{BoundariesChain, PartsHaveLevels, SectionsChain, SelectionsChain, SelectionsHandOn, TrimmedChain}
 use Rattle.viz_piece_filters.specs.Filters.{near_items}
 use Rattle.viz_piece_filters.proofs.BoundaryLemmas.{boundaries_keep, near_among, trimmed_keep}

@@ -6,7 +6,7 @@ use Rattle.std.proofs.lemmas.Bool.{leb-true, le-leb}
 use Rattle.std.proofs.lemmas.Option.{none-some, cond_some}
 use Rattle.viz_sheet.proofs.MemberLemmas.{member_cases}
 use Rattle.viz_mesh_meaning.specs.Cells.{Cell}
-use Rattle.viz_piece.specs.Seen.{Seen, Meet, IsUpTo, AreSeen, whole_seen, owned_seen, cells_seen, levels_seen, cell_if, level_if, seen_as}
+use Rattle.viz_parts.specs.Seen.{Seen, Meet, IsUpTo, AreSeen, whole_seen, owned_seen, cells_seen, levels_seen, cell_if, level_if, seen_as}
 use Rattle.viz_piece_filters.specs.Filters.{near_items}
 use Rattle.viz_piece_filters.proofs.PartLemmas.{from_flat_map, from_map}
 

@@ -2,7 +2,7 @@
 use Rattle.std.proofs.Common.{◌≡◌, ℕ, ◌+◌, ◌≤◌, Bool, true, false, Option, Some, None, ◌⊎◌, inl, inr, ⊎_elim, cond, refl, sym, ap, subst, ◌∙◌, arith}
 use Rattle.std.proofs.lemmas.Bool.{cases_lt}
 use Rattle.std.proofs.lemmas.Option.{none-some, same_Some, cond_some}
-use Rattle.viz_piece.specs.Seen.{Seen, Meet, IsUpTo, seen_as}
+use Rattle.viz_parts.specs.Seen.{Seen, Meet, IsUpTo, seen_as}
 use Rattle.viz_piece_filters.specs.Growth.{grown_level, PartsGrow, PartsStart}
 use Rattle.viz_piece_filters.proofs.PartLemmas.{from_map}
 

@@ -8,13 +8,13 @@ use Rattle.viz_meaning.specs.Names.{names_of}
 use Rattle.viz_meaning.specs.Section.{point_of, zero_point}
 use Rattle.viz_meaning.proofs.NameSets.{in-each_once, of-each_once}
 use Rattle.viz_mesh_meaning.proofs.CellLemmas.{point-at}
-use Rattle.viz_piece.specs.Parts.{PartSheetData}
+use Rattle.viz_parts.specs.Parts.{PartSheetData}
 use Rattle.viz_sheet.specs.Sheet.{SheetData, IsSheet, KeepPoints}
 use Rattle.viz_sheet.proofs.MemberLemmas.{here, there, member_cases}
 use Rattle.viz_mesh_meaning.specs.Cells.{Cell}
 use Rattle.viz_piece_filters.specs.Names.{Name}
-use Rattle.viz_piece.specs.Seen.{Seen, cell_if, cells_seen, whole_seen}
-use Rattle.viz_piece.specs.Pieces.{IsPartOf}
+use Rattle.viz_parts.specs.Seen.{Seen, cell_if, cells_seen, whole_seen}
+use Rattle.viz_parts.specs.Pieces.{IsPartOf}
 use Rattle.viz_piece_filters.specs.HandedOn.{counts, handed_on}
 use Rattle.viz_piece_filters.specs.Made.{AgreeOn, HaveParents, MadeKeepParts}
 use Rattle.viz_piece_filters.proofs.PartLemmas.{cells_through, from_flat_map, into_flat_map, levels_handed, own_handed, part_through, through, whole_through}

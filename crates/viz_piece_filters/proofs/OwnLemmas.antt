@@ -7,7 +7,7 @@ use Rattle.viz_extent.proofs.SlabLemmas.{begins_within, shares_follow, shares_ri
 use Rattle.std.proofs.lemmas.List.Concat.{flat_map-append}
 use Rattle.std.proofs.lemmas.List.Sums.{sum_by-cons}
 use Rattle.viz_sheet.specs.Kept.{kept}
-use Rattle.viz_piece.specs.Pieces.{AreAll, own_range, own_share}
+use Rattle.viz_parts.specs.Pieces.{AreAll, own_range, own_share}
 use Rattle.viz_piece_filters.specs.Owns.{OwnsHandOn, SharesAreAll}
 use Rattle.viz_piece_filters.specs.HandedOn.{handed_on}
 use Rattle.viz_extent.specs.Slabs.{share_begin}

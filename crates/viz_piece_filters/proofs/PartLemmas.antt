@@ -7,7 +7,7 @@ use Rattle.std.proofs.lemmas.List.Elements.{Contains-append_cases, Contains-appe
 use Rattle.viz_sheet.proofs.MemberLemmas.{here, there, member_cases, no_member}
 use Rattle.viz_mesh_meaning.specs.Cells.{Cell}
 use Rattle.viz_piece_filters.specs.Names.{Name}
-use Rattle.viz_piece.specs.Seen.{Seen, Meet, IsUpTo, AreSeen, whole_seen, cells_seen, levels_seen, owned_seen, cell_if, level_if, seen_as}
+use Rattle.viz_parts.specs.Seen.{Seen, Meet, IsUpTo, AreSeen, whole_seen, cells_seen, levels_seen, owned_seen, cell_if, level_if, seen_as}
 use Rattle.viz_piece_filters.specs.HandedOn.{counts, handed_on}
 use Rattle.viz_piece_filters.specs.Made.{HaveParents}
 

@@ -6,13 +6,13 @@ use Rattle.viz_meaning.specs.Section.{point_of}
 use Rattle.viz_mesh_meaning.specs.Cells.{with_cells}
 use Rattle.viz_mesh_meaning.specs.Select.{has_scalar_within, holds_of, if_selected, is_selected, selected}
 use Rattle.viz_mesh_meaning.proofs.SelectLemmas.{filter-as_flat}
-use Rattle.viz_piece.specs.Parts.{PartSheetData}
+use Rattle.viz_parts.specs.Parts.{PartSheetData}
 use Rattle.viz_sheet.specs.Kept.{kept}
 use Rattle.viz_sheet.specs.Sheet.{SheetData}
 use Rattle.viz_sheet.proofs.MemberLemmas.{here, there, member_cases, no_member}
 use Rattle.viz_mesh_meaning.specs.Cells.{Cell}
 use Rattle.viz_piece_filters.specs.Names.{Name}
-use Rattle.viz_piece.specs.Pieces.{IsPartOf}
+use Rattle.viz_parts.specs.Pieces.{IsPartOf}
 use Rattle.viz_piece_filters.specs.HandedOn.{counts, handed_on}
 use Rattle.viz_piece_filters.specs.Made.{AgreeOn, HaveParents, made_part, made_sheet}
 use Rattle.viz_piece_filters.specs.Filters.{SelectionsKeepParts, kept_selected, selected_part}

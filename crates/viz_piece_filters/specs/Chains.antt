@@ -4,10 +4,10 @@ use Rattle.viz_fraction.specs.declared.forms.Form.{Form}
 use Rattle.viz_meaning.specs.Section.{section_of}
 use Rattle.viz_mesh_meaning.specs.Facets.{boundary_of}
 use Rattle.viz_mesh_meaning.specs.Select.{if_selected, selected}
-use Rattle.viz_piece.specs.Parts.{PartSheetData, HasLevels}
+use Rattle.viz_parts.specs.Parts.{PartSheetData, HasLevels}
 use Rattle.viz_sheet.specs.PairNames.{AreNames}
 use Rattle.viz_sheet.specs.Sheet.{SheetData}
-use Rattle.viz_piece.specs.Pieces.{IsPartOf, IsSheetPart}
+use Rattle.viz_parts.specs.Pieces.{IsPartOf, IsSheetPart}
 use Rattle.viz_piece_filters.specs.HandedOn.{counts, handed_on}
 use Rattle.viz_piece_filters.specs.Filters.{boundary_part, section_part, selected_part}
 use Rattle.viz_piece_filters.specs.Filters.{handed_boundary, handed_section}

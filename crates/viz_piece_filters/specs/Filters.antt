@@ -6,11 +6,11 @@ use Rattle.viz_meaning.specs.Section.{cells_in, is_inside_at, point_of, section_
 use Rattle.viz_mesh_meaning.specs.Cells.{with_cells}
 use Rattle.viz_mesh_meaning.specs.Facets.{boundary_of, is_same_name, lone_facets}
 use Rattle.viz_mesh_meaning.specs.Select.{is_selected, selected}
-use Rattle.viz_piece.specs.Parts.{PartSheetData}
+use Rattle.viz_parts.specs.Parts.{PartSheetData}
 use Rattle.viz_sheet.specs.Kept.{kept}
 use Rattle.viz_sheet.specs.PairNames.{AreNames}
 use Rattle.viz_sheet.specs.Sheet.{SheetData, IsSheet}
-use Rattle.viz_piece.specs.Pieces.{IsPartOf}
+use Rattle.viz_parts.specs.Pieces.{IsPartOf}
 use Rattle.viz_piece_filters.specs.HandedOn.{counts, handed_on}
 
 -- the items, as levels or marks, of the selected cells of a sheet

@@ -2,7 +2,7 @@
 use Rattle.std.specs.Prelude.{◌≡◌, ℕ, ◌+◌, Bool, true, cond, Option, Some, None}
 use Rattle.std.specs.Prelude.{List, map, Contains}
 use Rattle.viz_mesh_meaning.specs.Cells.{Cell}
-use Rattle.viz_piece.specs.Seen.{Seen, Meet, AreSeen, seen_as}
+use Rattle.viz_parts.specs.Seen.{Seen, Meet, AreSeen, seen_as}
 
 -- a cell that isn't there comes in where it is touched
 abbrev pub grown_level : Bool → ℕ → Option ℕ → Option ℕ

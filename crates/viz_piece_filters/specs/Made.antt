@@ -3,11 +3,11 @@ use Rattle.std.specs.Prelude.{◌≡◌, ℕ, Bool, List, map, Contains}
 use Rattle.std.specs.List.{flat_map}
 use Rattle.viz_fraction.specs.Points.{Point}
 use Rattle.viz_meaning.specs.Names.{names_of}
-use Rattle.viz_piece.specs.Parts.{PartSheetData}
+use Rattle.viz_parts.specs.Parts.{PartSheetData}
 use Rattle.viz_sheet.specs.Sheet.{SheetData}
 use Rattle.viz_mesh_meaning.specs.Cells.{Cell}
 use Rattle.viz_piece_filters.specs.Names.{Name}
-use Rattle.viz_piece.specs.Pieces.{IsPartOf}
+use Rattle.viz_parts.specs.Pieces.{IsPartOf}
 use Rattle.viz_piece_filters.specs.HandedOn.{counts, handed_on}
 
 -- the sheet of the cells made of each cell, with the points of their names

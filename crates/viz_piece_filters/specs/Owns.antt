@@ -1,7 +1,7 @@
 -- Own positions of all pieces: of sheets shared out in turn, and of what a filter makes.
 use Rattle.std.specs.Prelude.{ℕ, ◌<◌, Bool, List, length, map}
 use Rattle.std.specs.List.{range_with_len, sum}
-use Rattle.viz_piece.specs.Pieces.{AreAll, own_share}
+use Rattle.viz_parts.specs.Pieces.{AreAll, own_share}
 use Rattle.viz_piece_filters.specs.HandedOn.{handed_on}
 
 -- shares in turn are all positions

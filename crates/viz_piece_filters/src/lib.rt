@@ -3,7 +3,7 @@
 //! Contract: laws. A filter whose made names have parents, as selections and sections, takes parts
 //! to parts; a boundary does with one ghost level more; fewer levels are a part; parts grow by a
 //! level; and own positions of all pieces stay all positions. Definitions: `specs/`, and those of
-//! viz_piece.
+//! viz_parts.
 #![tactic(auto)]
 
 mod laws;

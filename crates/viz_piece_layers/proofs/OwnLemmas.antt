@@ -4,7 +4,7 @@ use Rattle.std.specs.List.{flat_map, range_with_len}
 use Rattle.std.proofs.lemmas.Nat.{div-add-mod', div-mul-add, le-div, mul-le}
 use Rattle.viz_sheet.specs.Kept.{kept}
 use Rattle.viz_extent.specs.Slabs.{share_begin}
-use Rattle.viz_piece.specs.Pieces.{AreAll, own_range}
+use Rattle.viz_parts.specs.Pieces.{AreAll, own_range}
 use Rattle.viz_piece_layers.proofs.RangeLemmas.{range-split}
 
 kept_yes : (from n : ℕ) (marks : List Bool) (rest : List ℕ) → kept (replicate n true ++ marks) (range_with_len from n ++ rest) ≡ range_with_len from n ++ kept marks rest

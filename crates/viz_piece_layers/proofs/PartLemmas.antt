@@ -5,8 +5,8 @@ use Rattle.std.proofs.lemmas.Bool.{cases_lt, leb-true, le-leb, lt-leb}
 use Rattle.std.proofs.lemmas.Option.{cond_some}
 use Rattle.viz_meaning.proofs.ListLemmas.{contains-map, contains-unmap}
 use Rattle.viz_piece_layers.specs.Cells.{Cell}
-use Rattle.viz_piece.specs.Seen.{SeenBefore, Seen, AreSeen, IsUpTo, seen_as, cell_if, level_if, cells_seen, levels_seen, whole_seen, owned_seen}
-use Rattle.viz_piece.specs.Pieces.{own_range}
+use Rattle.viz_parts.specs.Seen.{SeenBefore, Seen, AreSeen, IsUpTo, seen_as, cell_if, level_if, cells_seen, levels_seen, whole_seen, owned_seen}
+use Rattle.viz_parts.specs.Pieces.{own_range}
 use Rattle.viz_piece_layers.specs.Layers.{distance, level_of, layered, AreLayered, LayersArePart, LevelsAreSteps, Meeting, cells_from, levels_from, first_there, last_there}
 use Rattle.viz_piece_layers.proofs.RangeLemmas.{from_flat_map, in_range, into_flat_map, into_range, map-flat, flat-flat, flat-range_same, flat-range_none, three, map-const, flat-replicate, distribute}
 

@@ -11,7 +11,7 @@ use Rattle.viz_kuhn.proofs.CubeLemmas.{length-tetrahedra_of}
 use Rattle.viz_meaning.proofs.ListLemmas.{contains-map, contains-unmap}
 use Rattle.viz_piece_layers.specs.Cells.{Cell}
 use Rattle.viz_extent.specs.Slabs.{share_begin}
-use Rattle.viz_piece.specs.Pieces.{AreAll}
+use Rattle.viz_parts.specs.Pieces.{AreAll}
 use Rattle.viz_piece_layers.specs.Layers.{AreLayered, AreLinked, Meeting, Touching, cells_from, distance, first_there, last_there, layer_size, layer_tets, shifted, tets_in}
 use Rattle.viz_extent.specs.Slabs.{planes}
 use Rattle.viz_piece_layers.specs.Pieces.{first_seen, last_seen, leaf_shift, named, own_tets, PiecesAreParts, PiecesAreRanges, PiecesGoBySteps, OwnsAreAll, EachOwnsSome}

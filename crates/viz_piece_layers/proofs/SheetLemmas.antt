@@ -22,11 +22,11 @@ use Rattle.viz_sheet.specs.Sheet.{KeepPoints}
 use Rattle.viz_sheet.proofs.KeptLemmas.{kept-at, rank-from}
 use Rattle.viz_piece_layers.specs.Layers.{shifted}
 use Rattle.viz_extent.specs.Slabs.{planes}
-use Rattle.viz_piece.specs.Pieces.{AreAll}
+use Rattle.viz_parts.specs.Pieces.{AreAll}
 use Rattle.viz_piece_layers.specs.Pieces.{first_seen, last_seen, leaf_shift, named, own_tets, seen_by, seen_planes}
 use Rattle.viz_extent.specs.Slabs.{first_layer, next_layer}
 use Rattle.viz_piece_layers.specs.Cells.{Cell, Name}
-use Rattle.viz_piece.specs.Seen.{Seen, cell_if, cells_seen, whole_seen}
+use Rattle.viz_parts.specs.Seen.{Seen, cell_if, cells_seen, whole_seen}
 use Rattle.viz_piece_layers.specs.Sheets.{tetrahedra_part, SheetOwnsAreAll, TetrahedraPartsArePartOf}
 use Rattle.viz_piece_layers.proofs.PartLemmas.{last_within}
 use Rattle.viz_piece_layers.proofs.PieceLemmas.{touched_planes, owns_are_all, owns_within, pieces_are_parts}

@@ -9,18 +9,18 @@ use Rattle.viz_kuhn.specs.Kuhn.{EdgesAreSteps, OnlyCorners}
 use Rattle.viz_kuhn.specs.Cubes.{cubes_z}
 use Rattle.viz_meaning.specs.Tetrahedra.{tetrahedra_sheet}
 use Rattle.viz_meaning.specs.TetrahedraLaws.{TetrahedraAreSheet}
-use Rattle.viz_piece.specs.Parts.{PartSheetData}
-use Rattle.viz_piece.specs.Stitching.{own_items}
+use Rattle.viz_parts.specs.Parts.{PartSheetData}
+use Rattle.viz_parts.specs.Stitching.{own_items}
 use Rattle.viz_sheet.specs.Sheet.{KeepPoints}
 use Rattle.viz_sheet.proofs.MemberLemmas.{here, there}
 use Rattle.viz_piece_layers.specs.Cells.{Cell}
-use Rattle.viz_piece.specs.Seen.{Seen, seen_as, cell_if, level_if, cells_seen, levels_seen}
+use Rattle.viz_parts.specs.Seen.{Seen, seen_as, cell_if, level_if, cells_seen, levels_seen}
 use Rattle.viz_piece_layers.specs.Layers.{distance, layered, layer_tets, level_of}
 use Rattle.viz_piece_layers.specs.Pieces.{named, own_tets, seen_by}
 use Rattle.viz_extent.specs.Slabs.{first_layer, next_layer}
 use Rattle.viz_extent.specs.Slabs.{share_begin}
 use Rattle.viz_piece_layers.specs.Sheets.{PiecesStitch, tetrahedra_part}
-use Rattle.viz_piece.specs.Pieces.{IsPartOf}
+use Rattle.viz_parts.specs.Pieces.{IsPartOf}
 use Rattle.viz_piece_layers.proofs.RangeLemmas.{flat-flat, flat-same, in_range, range-split}
 use Rattle.viz_piece_layers.proofs.LayerLemmas.{by_layers}
 use Rattle.viz_piece_layers.proofs.OwnLemmas.{cuts_rise, rise_far, whole_cut, zero_cut}

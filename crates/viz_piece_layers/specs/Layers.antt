@@ -7,9 +7,9 @@ use Rattle.viz_extent.specs.Parts.{AreNear}
 use Rattle.viz_extent.specs.Slabs.{planes}
 use Rattle.viz_kuhn.specs.Cubes.{cubes_x, cubes_y, cubes_z, lowest_in_layer, six_at, tetrahedra_of}
 use Rattle.viz_piece_layers.specs.Cells.{Cell}
-use Rattle.viz_piece.specs.Seen.{Seen, AreSteps, Meet, AreSeen, seen_as, cells_seen, levels_seen}
-use Rattle.viz_piece.specs.Seen.{whole_seen, owned_seen}
-use Rattle.viz_piece.specs.Pieces.{own_range}
+use Rattle.viz_parts.specs.Seen.{Seen, AreSteps, Meet, AreSeen, seen_as, cells_seen, levels_seen}
+use Rattle.viz_parts.specs.Seen.{whole_seen, owned_seen}
+use Rattle.viz_parts.specs.Pieces.{own_range}
 
 -- ---- tetrahedra by layers
 

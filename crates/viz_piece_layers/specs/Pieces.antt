@@ -6,9 +6,9 @@ use Rattle.viz_extent.specs.Extent.{Bounds, IsExtent, plane_size}
 use Rattle.viz_extent.specs.Slabs.{first_layer, next_layer, touched}
 use Rattle.viz_kuhn.specs.Cubes.{cubes_z, tetrahedra_of}
 use Rattle.viz_piece_layers.specs.Cells.{Cell}
-use Rattle.viz_piece.specs.Seen.{Seen, AreSteps, AreSeen}
-use Rattle.viz_piece.specs.Seen.{cells_seen, levels_seen, whole_seen, owned_seen}
-use Rattle.viz_piece.specs.Pieces.{own_range, AreAll}
+use Rattle.viz_parts.specs.Seen.{Seen, AreSteps, AreSeen}
+use Rattle.viz_parts.specs.Seen.{cells_seen, levels_seen, whole_seen, owned_seen}
+use Rattle.viz_parts.specs.Pieces.{own_range, AreAll}
 use Rattle.viz_piece_layers.specs.Layers.{distance, first_there, last_there, layer_size, layer_tets}
 use Rattle.viz_piece_layers.specs.Layers.{layered, shifted}
 

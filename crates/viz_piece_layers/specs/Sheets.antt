@@ -3,11 +3,11 @@ use Rattle.std.specs.Prelude.{ℕ, ◌+◌, ◌<◌, length, map}
 use Rattle.std.specs.List.{range_with_len}
 use Rattle.viz_dataset.specs.Images.{ImageData, IsImage, IsRestricted}
 use Rattle.viz_meaning.specs.Tetrahedra.{tetrahedra_sheet}
-use Rattle.viz_piece.specs.Parts.{PartSheetData}
-use Rattle.viz_piece.specs.Pieces.{IsPartOf}
-use Rattle.viz_piece.specs.Stitching.{IsStitchedSheet}
+use Rattle.viz_parts.specs.Parts.{PartSheetData}
+use Rattle.viz_parts.specs.Pieces.{IsPartOf}
+use Rattle.viz_parts.specs.Stitching.{IsStitchedSheet}
 use Rattle.viz_sheet.specs.Sheet.{SheetData, IsSheet}
-use Rattle.viz_piece.specs.Pieces.{AreAll}
+use Rattle.viz_parts.specs.Pieces.{AreAll}
 use Rattle.viz_piece_layers.specs.Pieces.{leaf_shift, own_tets, piece_levels, seen_planes}
 
 -- the sheet with each leaf's number so much greater

@@ -6,12 +6,12 @@ use Rattle.viz_dataset.specs.declared.dataset.Dataset.{Dataset}
 use Rattle.viz_dataset.specs.declared.dataset.Dataset.TheVariants.{Image as WholeImage, Mesh as WholeMesh}
 use Rattle.viz_extent.specs.Extent.{Bounds, Has}
 use Rattle.viz_extent.specs.Parts.{IsPart}
-use Rattle.viz_piece.specs.Parts.{PartSheetData}
-use Rattle.viz_piece.specs.Pieces.{Covers, Division, IsAnswer, IsBlockOf, IsMeshPiece, IsPieceOf, IsSheetPart, in_turn, own_share}
-use Rattle.viz_piece.specs.declared.request.Part.{Part}
-use Rattle.viz_piece.specs.declared.request.Part.TheVariants.{Image, Mesh}
-use Rattle.viz_piece.specs.declared.request.Request.{Request}
-use Rattle.viz_piece.specs.declared.request.Request.TheVariants.{Block, Piece}
+use Rattle.viz_parts.specs.Parts.{PartSheetData}
+use Rattle.viz_parts.specs.Pieces.{Covers, Division, IsAnswer, IsBlockOf, IsMeshPiece, IsPieceOf, IsSheetPart, in_turn, own_share}
+use Rattle.viz_parts.specs.declared.request.Part.{Part}
+use Rattle.viz_parts.specs.declared.request.Part.TheVariants.{Image, Mesh}
+use Rattle.viz_parts.specs.declared.request.Request.{Request}
+use Rattle.viz_parts.specs.declared.request.Request.TheVariants.{Block, Piece}
 use Rattle.viz_piece_filters.specs.Filters.{trimmed_part}
 use Rattle.viz_piece_filters.proofs.ChainLemmas.{trimmed_chain}
 use Rattle.viz_piece_filters.proofs.OwnLemmas.{shares_are_all}

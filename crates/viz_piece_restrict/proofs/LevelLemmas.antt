@@ -5,7 +5,7 @@ use Rattle.std.proofs.lemmas.Bool.{cases_lt}
 use Rattle.std.proofs.lemmas.List.{get_or-map, length-map, length-replicate}
 use Rattle.std.proofs.lemmas.List.Elements.{All-contains, All-head, All-tail}
 use Rattle.std.proofs.lemmas.Option.{cond_some, none-some}
-use Rattle.viz_piece.specs.Seen.{Seen, Meet, IsUpTo, AreSeen, AreSteps, SeenBefore}
+use Rattle.viz_parts.specs.Seen.{Seen, Meet, IsUpTo, AreSeen, AreSteps, SeenBefore}
 use Rattle.viz_piece_filters.specs.Growth.{AreTouched, grown_level}
 use Rattle.viz_piece_filters.proofs.GrowthLemmas.{parts_grow}
 use Rattle.viz_piece_filters.proofs.PartLemmas.{from_map, into_map}

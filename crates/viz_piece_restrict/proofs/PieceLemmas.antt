@@ -5,9 +5,9 @@ use Rattle.std.proofs.lemmas.List.{get_or_append_left, get_or_push, length-repli
 use Rattle.std.proofs.lemmas.List.Elements.{All-push}
 use Rattle.viz_extent.specs.Slabs.{share_begin}
 use Rattle.viz_extent.proofs.SlabLemmas.{first_begins, last_ends, begins_within, shares_rise}
-use Rattle.viz_piece.specs.Parts.{PartSheetData}
+use Rattle.viz_parts.specs.Parts.{PartSheetData}
 use Rattle.viz_piece_restrict.specs.Restricting.{IsGrownPart}
-use Rattle.viz_piece.specs.Pieces.{IsPartOf, IsSheetPart, own_range, own_share}
+use Rattle.viz_parts.specs.Pieces.{IsPartOf, IsSheetPart, own_range, own_share}
 use Rattle.viz_sheet.specs.Kept.{kept}
 use Rattle.viz_sheet.specs.Sheet.{SheetData, IsSheet, KeepPoints}
 use Rattle.viz_sheet.proofs.KeptLemmas.{kept-lengths}

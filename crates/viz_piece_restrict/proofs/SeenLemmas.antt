@@ -4,7 +4,7 @@ use Rattle.std.specs.List.{Contains, range_with_len}
 use Rattle.std.proofs.lemmas.List.{get_or-replicate}
 use Rattle.std.proofs.lemmas.List.FromFn.{length-range_with_len, get_or-range_with_len}
 use Rattle.std.proofs.lemmas.Option.{none-some, same_Some}
-use Rattle.viz_piece.specs.Seen.{Seen, AreSeen, AreSteps, cell_if, cells_seen, level_if, levels_seen, owned_seen, seen_as, whole_seen}
+use Rattle.viz_parts.specs.Seen.{Seen, AreSeen, AreSteps, cell_if, cells_seen, level_if, levels_seen, owned_seen, seen_as, whole_seen}
 use Rattle.viz_piece_filters.specs.Growth.{grown_level, grown_seen, own_seen}
 use Rattle.viz_piece_filters.proofs.GrowthLemmas.{parts_start}
 use Rattle.viz_piece_filters.proofs.PartLemmas.{from_map, into_map}

@@ -3,7 +3,7 @@
 //! Contract: `restrict` gives a part for the wanted request from a part for a kept one that covers
 //! it: a block of a block, a piece with fewer ghost levels, or a piece of the only one, whose cells
 //! are shared out in turn. `piece_of` grows a piece from its own cells by any number of ghost
-//! levels. Definitions: `specs/Restricting.antt`, and `IsAnswer` of viz_piece.
+//! levels. Definitions: `specs/Restricting.antt`, and `IsAnswer` of viz_parts.
 #![tactic(auto)]
 
 mod cell;

@@ -7,7 +7,7 @@ ghost use Rattle.viz_piece_restrict.specs.Steps.Cuts.{ArePieces};
 use crate::piece::piece_in_turn;
 use crate::trimming::trimmed;
 use std::alloc::{AllocError, Global};
-use viz_piece::PartSheet;
+use viz_parts::PartSheet;
 
 /// The parts of all sheets without the levels past the last one.
 pub(crate) fn trimmed_parts(

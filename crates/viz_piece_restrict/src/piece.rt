@@ -2,13 +2,13 @@
 
 ghost use Rattle.std.specs.Prelude.{◌≡◌, ◌+◌, ◌++◌, ◌<◌, ◌≤◌, IfOk, length, replicate};
 ghost use Rattle.viz_extent.specs.Slabs.{share_begin};
-ghost use Rattle.viz_piece.specs.Pieces.{IsSheetPart, own_range, own_share};
+ghost use Rattle.viz_parts.specs.Pieces.{IsSheetPart, own_range, own_share};
 ghost use Rattle.viz_piece_restrict.specs.Restricting.{IsGrownPart};
 
 use crate::growth::levels_around;
 use crate::keeping::{kept_items, kept_sheet};
 use std::alloc::{AllocError, Global};
-use viz_piece::PartSheet;
+use viz_parts::PartSheet;
 use viz_sheet::Sheet;
 
 /// The piece of a sheet whose own cells are marked, with the cells around them up to so many steps,

@@ -1,14 +1,14 @@
 //! A part for a request, cut from a part for another.
 
 ghost use Rattle.std.specs.Prelude.{◌≡◌, ◌<◌, ◌↔◌, IfOk, IsTrue};
-ghost use Rattle.viz_piece.specs.Pieces.{Covers};
+ghost use Rattle.viz_parts.specs.Pieces.{Covers};
 ghost use Rattle.viz_piece_restrict.specs.Restricting.{IsRestriction, IsOneOfMany, IsSamePiece, IsSomeAnswer};
 
 use crate::mesh::{pieces_in_turn, trimmed_parts};
 use std::alloc::{AllocError, Global};
 use viz_base::Shared;
 use viz_dataset::Image;
-use viz_piece::{Part, PartSheet, Request};
+use viz_parts::{Part, PartSheet, Request};
 
 /// The part for the wanted request, cut from a part for the kept one, which covers it.
 ///

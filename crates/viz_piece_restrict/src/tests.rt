@@ -12,7 +12,7 @@ use viz_column::Column;
 use viz_dataset::{Image, is_origin, is_spacing};
 use viz_extent::Extent;
 use viz_fraction::point;
-use viz_piece::{Part, PartSheet, Request, covers};
+use viz_parts::{Part, PartSheet, Request, covers};
 use viz_sheet::{Leaves, Mesh, Mixed, Places, Ranks, Sheet, are_cells, sheet_of};
 
 /// How many cells each strip has.

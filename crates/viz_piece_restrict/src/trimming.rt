@@ -6,7 +6,7 @@ ghost use Rattle.viz_sheet.specs.Kept.{kept};
 
 use crate::keeping::kept_sheet;
 use std::alloc::{AllocError, Global};
-use viz_piece::PartSheet;
+use viz_parts::PartSheet;
 
 /// The cells of a part with a level of at most so much.
 pub(crate) fn trimmed(alloc: Global, part: &PartSheet, ghosts: u32) -> Result<PartSheet, AllocError>

@@ -1,13 +1,13 @@
 //! Datasets as their only parts.
 
 ghost use Rattle.std.specs.Prelude.{◌≡◌, IfOk, length, map, replicate};
-ghost use Rattle.viz_piece.specs.Pieces.{IsAnswer, IsSheetPart, in_turn, own_share};
+ghost use Rattle.viz_parts.specs.Pieces.{IsAnswer, IsSheetPart, in_turn, own_share};
 ghost use Rattle.viz_piece_restrict.specs.Restricting.{IsSomeAnswer};
 ghost use Rattle.viz_piece_restrict.specs.Steps.Cuts.{AreWholes, all_own};
 
 use std::alloc::{AllocError, Global};
 use viz_dataset::{Dataset, Image};
-use viz_piece::{Part, PartSheet, Request};
+use viz_parts::{Part, PartSheet, Request};
 use viz_sheet::{Mesh, Sheet};
 
 /// All of an image: the part for the block that is its extent.

@@ -13,10 +13,10 @@ use Rattle.viz_extent.specs.Extent.{Bounds, IsExtent, Has, size_x, size_y, size_
 use Rattle.viz_extent.specs.Numbering.{index_at}
 use Rattle.viz_extent.specs.Slabs.{planes, planes_in, share_begin, slab_of}
 use Rattle.viz_extent.proofs.SlabLemmas.{range-split, slabs_are_all}
-use Rattle.viz_piece.specs.Pieces.{IsBlockOf, IsImageBlock}
-use Rattle.viz_piece.specs.Stitching.{AreSlabsOf, slabs_in}
-use Rattle.viz_piece.specs.declared.request.Part.{Part}
-use Rattle.viz_piece.specs.declared.request.Part.TheVariants.{Image, Mesh}
+use Rattle.viz_parts.specs.Pieces.{IsBlockOf, IsImageBlock}
+use Rattle.viz_parts.specs.Stitching.{AreSlabsOf, slabs_in}
+use Rattle.viz_parts.specs.declared.request.Part.{Part}
+use Rattle.viz_parts.specs.declared.request.Part.TheVariants.{Image, Mesh}
 use Rattle.viz_piece_stitch.specs.Steps.Slabs.{HasKind, IsImageAt, IsPicture, spanned, values_in}
 use Rattle.viz_piece_stitch.proofs.ListLemmas.{from_flat_map}
 use Rattle.viz_piece_stitch.proofs.WholeLemmas.{by_place}

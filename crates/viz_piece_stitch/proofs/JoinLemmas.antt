@@ -5,7 +5,7 @@ use Rattle.std.proofs.lemmas.List.{get_or-map, length-map, take_all, take_more}
 use Rattle.std.proofs.lemmas.List.Concat.{flat_map-append}
 use Rattle.std.proofs.lemmas.List.Elements.{All-more}
 use Rattle.viz_fraction.specs.Points.{Point}
-use Rattle.viz_piece.specs.Parts.{PartSheetData}
+use Rattle.viz_parts.specs.Parts.{PartSheetData}
 use Rattle.viz_sheet.specs.Ranked.{rank_of}
 use Rattle.viz_piece_stitch.specs.Steps.Joining.{AreJoined, HasPoints, IsPointAt, own_ranks}
 use Rattle.viz_piece_stitch.specs.Steps.Put.{IsFrom, IsPut}

@@ -3,9 +3,9 @@ use Rattle.std.proofs.Common.{◌≡◌, ◌<◌, List, [], ◌∷◌, length, g
 use Rattle.viz_dataset.specs.Images.{ImageData}
 use Rattle.viz_dataset.specs.declared.dataset.Dataset.{Dataset}
 use Rattle.viz_dataset.specs.declared.dataset.Dataset.TheVariants.{Image as WholeImage, Mesh as WholeMesh}
-use Rattle.viz_piece.specs.Stitching.{AreAllOf, AreAllParts, ArePiecesOf, AreSlabsOf}
-use Rattle.viz_piece.specs.declared.request.Part.{Part}
-use Rattle.viz_piece.specs.declared.request.Part.TheVariants.{Image, Mesh}
+use Rattle.viz_parts.specs.Stitching.{AreAllOf, AreAllParts, ArePiecesOf, AreSlabsOf}
+use Rattle.viz_parts.specs.declared.request.Part.{Part}
+use Rattle.viz_parts.specs.declared.request.Part.TheVariants.{Image, Mesh}
 use Rattle.viz_sheet.specs.Sheet.{SheetData}
 use Rattle.viz_piece_stitch.specs.Steps.Columns.{IsMesh}
 use Rattle.viz_piece_stitch.specs.Steps.Slabs.{IsPicture}

@@ -3,11 +3,11 @@ use Rattle.std.proofs.Common.{◌≡◌, ℕ, ◌+◌, ◌<◌, Bool, List, [], 
 use Rattle.std.specs.List.{All, range_with_len}
 use Rattle.std.proofs.lemmas.Bool.{cases_lt}
 use Rattle.std.proofs.lemmas.List.{same_lists, get_or-map, get_or_default, get_or_append_left, get_or_push, length-map, length_push, map_push}
-use Rattle.viz_piece.specs.Parts.{PartSheetData}
-use Rattle.viz_piece.specs.Pieces.{AreAll, IsMeshPiece, IsPieceOf, IsSheetPart}
-use Rattle.viz_piece.specs.Stitching.{ArePiecesOf}
-use Rattle.viz_piece.specs.declared.request.Part.{Part}
-use Rattle.viz_piece.specs.declared.request.Part.TheVariants.{Image, Mesh}
+use Rattle.viz_parts.specs.Parts.{PartSheetData}
+use Rattle.viz_parts.specs.Pieces.{AreAll, IsMeshPiece, IsPieceOf, IsSheetPart}
+use Rattle.viz_parts.specs.Stitching.{ArePiecesOf}
+use Rattle.viz_parts.specs.declared.request.Part.{Part}
+use Rattle.viz_parts.specs.declared.request.Part.TheVariants.{Image, Mesh}
 use Rattle.viz_sheet.specs.Sheet.{SheetData, IsSheet}
 use Rattle.viz_piece_stitch.specs.Steps.Columns.{AreColumns, AreJoinedSheets, AreSheets, IsJoinedSheet, IsMeshOf, sheets_in}
 use Rattle.viz_piece_stitch.specs.Steps.Wholes.{ArePieces}

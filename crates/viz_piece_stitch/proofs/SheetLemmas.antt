@@ -4,8 +4,8 @@ use Rattle.std.specs.List.{All, Contains, flat_map}
 use Rattle.std.proofs.lemmas.List.{get_or_default, length-append, map-append}
 use Rattle.std.proofs.lemmas.List.Elements.{All-nil, All-head, All-tail, All-append, All-contains, Contains-get_or}
 use Rattle.viz_fraction.specs.Points.{Point}
-use Rattle.viz_piece.specs.Parts.{PartSheetData}
-use Rattle.viz_piece.specs.Stitching.{own_items}
+use Rattle.viz_parts.specs.Parts.{PartSheetData}
+use Rattle.viz_parts.specs.Stitching.{own_items}
 use Rattle.viz_sheet.specs.Ranked.{IsCell, by_names, names_at, rank_of, ranks_of}
 use Rattle.viz_sheet.specs.Sheet.{AreAscending, IsSheet, KeepPoints, SheetData}
 use Rattle.viz_sheet.proofs.RankLemmas.{rank-at}

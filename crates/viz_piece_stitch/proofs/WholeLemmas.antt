@@ -5,10 +5,10 @@ use Rattle.std.proofs.lemmas.Option.{none-some, same_Some}
 use Rattle.std.proofs.lemmas.List.{same_lists, get_or-map, length-map, map-append, get_or_default}
 use Rattle.std.proofs.lemmas.List.FromFn.{length-range_with_len, get_or-range_with_len}
 use Rattle.viz_fraction.specs.Points.{Point}
-use Rattle.viz_piece.specs.Parts.{PartSheetData}
-use Rattle.viz_piece.specs.Pieces.{AreAll, IsPartOf, IsSheetPart}
-use Rattle.viz_piece.specs.Seen.{Seen, cell_if, cells_seen, level_if, levels_seen, owned_seen, whole_seen}
-use Rattle.viz_piece.specs.Stitching.{own_items}
+use Rattle.viz_parts.specs.Parts.{PartSheetData}
+use Rattle.viz_parts.specs.Pieces.{AreAll, IsPartOf, IsSheetPart}
+use Rattle.viz_parts.specs.Seen.{Seen, cell_if, cells_seen, level_if, levels_seen, owned_seen, whole_seen}
+use Rattle.viz_parts.specs.Stitching.{own_items}
 use Rattle.viz_sheet.specs.Kept.{kept}
 use Rattle.viz_sheet.specs.Ranked.{rank_of}
 use Rattle.viz_sheet.specs.Sheet.{SheetData, IsSheet, KeepPoints}

@@ -1,13 +1,13 @@
 //! The own cells of all parts, by ranks among all names.
 
 ghost use Rattle.std.specs.Prelude.{◌≡◌, ◌<◌, ◌≤◌, ◌++◌, ◌∷◌, [], if◌then◌else◌, All, IfOk, length, map};
-ghost use Rattle.viz_piece.specs.Stitching.{own_items};
+ghost use Rattle.viz_parts.specs.Stitching.{own_items};
 ghost use Rattle.viz_sheet.specs.Arrays.{ranks_in};
 ghost use Rattle.viz_sheet.specs.Steps.Lookup.{looked_up};
 
 use crate::cell::{RankCell, mixed_numbered, mixed_of};
 use std::alloc::{AllocError, Global};
-use viz_piece::PartSheet;
+use viz_parts::PartSheet;
 use viz_sheet::{Mixed, Ranks};
 
 /// No cells yet, with room for those of all parts, of the type of the first that there is.

@@ -4,7 +4,7 @@ ghost use Rattle.std.specs.Prelude.{◌≡◌, ◌<◌, ◌++◌, ◌∷◌, [],
 ghost use Rattle.viz_piece_stitch.specs.Steps.Columns.{AreColumns, AreLonger, IsMeshOf, sheets_in};
 
 use std::alloc::{AllocError, Global};
-use viz_piece::{Part, PartSheet};
+use viz_parts::{Part, PartSheet};
 
 /// For each of so many sheets the list of its parts.
 pub(crate) fn columns_of(

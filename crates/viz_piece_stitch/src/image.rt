@@ -2,7 +2,7 @@
 
 ghost use Rattle.std.specs.Prelude.{◌≡◌, ◌<◌, ◌-◌, ◌++◌, All, IfOk, flat_map, length, map};
 ghost use Rattle.viz_extent.specs.Extent.{IsExtent};
-ghost use Rattle.viz_piece.specs.Stitching.{AreSlabsOf};
+ghost use Rattle.viz_parts.specs.Stitching.{AreSlabsOf};
 ghost use Rattle.viz_piece_stitch.specs.Steps.Slabs.{HasKind, IsImageAt, IsPicture, spanned, values_in};
 ghost use Rattle.viz_piece_stitch.specs.Steps.Wholes.{AreSlabs};
 
@@ -10,7 +10,7 @@ use std::alloc::{AllocError, Global};
 use viz_column::{Column, Lent, Number};
 use viz_dataset::Image;
 use viz_extent::Extent;
-use viz_piece::Part;
+use viz_parts::Part;
 
 /// The image of which these are all slabs that there are, in turn. The only one is taken over as it
 /// stands.

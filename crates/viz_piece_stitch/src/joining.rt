@@ -11,7 +11,7 @@ use crate::cells::with_own;
 use crate::places::put_points;
 use crate::ranks::ranks_among;
 use std::alloc::{AllocError, Global};
-use viz_piece::PartSheet;
+use viz_parts::PartSheet;
 use viz_sheet::{Leaves, Places, Ranks};
 
 /// What the parts so far have given: the points of their names, and their own cells.

@@ -2,7 +2,7 @@
 //!
 //! Contract: `stitch` of all parts of a dataset is the dataset. Ghost cells are dropped, points of
 //! several pieces stand once, and the only part is taken over as it stands. Definitions: `AreAllOf`
-//! of viz_piece.
+//! of viz_parts.
 #![tactic(auto)]
 
 mod cell;

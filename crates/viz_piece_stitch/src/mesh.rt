@@ -1,7 +1,7 @@
 //! A mesh, put together of all its pieces.
 
 ghost use Rattle.std.specs.Prelude.{◌≡◌, ◌<◌, All, IfOk, length, map};
-ghost use Rattle.viz_piece.specs.Stitching.{ArePiecesOf};
+ghost use Rattle.viz_parts.specs.Stitching.{ArePiecesOf};
 ghost use Rattle.viz_sheet.specs.Sheet.{SheetData, IsSheet};
 ghost use Rattle.viz_piece_stitch.specs.Steps.Columns.{AreJoinedSheets, AreSheets, IsMesh, IsMeshOf, sheets_in};
 ghost use Rattle.viz_piece_stitch.specs.Steps.Wholes.{ArePieces};
@@ -9,7 +9,7 @@ ghost use Rattle.viz_piece_stitch.specs.Steps.Wholes.{ArePieces};
 use crate::columns::columns_of;
 use crate::sheet::joined_sheet;
 use std::alloc::{AllocError, Global};
-use viz_piece::{Part, PartSheet};
+use viz_parts::{Part, PartSheet};
 use viz_sheet::{Mesh, Sheet};
 
 /// The mesh of which these are all pieces, in turn. The only piece is taken over as it stands.

@@ -6,7 +6,7 @@ ghost use Rattle.viz_piece_stitch.specs.Steps.Walk.{AreUnited};
 
 use crate::union::united;
 use std::alloc::{AllocError, Global};
-use viz_piece::PartSheet;
+use viz_parts::PartSheet;
 use viz_sheet::Leaves;
 
 /// The names of all parts, each once, ascending.

@@ -7,7 +7,7 @@ ghost use Rattle.viz_piece_stitch.specs.Steps.Put.{IsPut};
 use crate::points::put_items;
 use std::alloc::{AllocError, Global};
 use viz_fraction::{Point5, SmallPoint};
-use viz_piece::PartSheet;
+use viz_parts::PartSheet;
 use viz_sheet::Places;
 
 /// So many points of the parts, for others to be put in their place.

@@ -9,7 +9,7 @@ use crate::joining::{Joined, with_parts};
 use crate::names::all_names;
 use crate::places::some_points;
 use std::alloc::{AllocError, Global};
-use viz_piece::PartSheet;
+use viz_parts::PartSheet;
 use viz_sheet::{Sheet, sheet_of};
 
 /// The own cells of all parts, in order, with the points of their names. A part is given up as soon

@@ -1,14 +1,14 @@
 //! All parts of a dataset put together.
 
 ghost use Rattle.std.specs.Prelude.{◌≡◌, false, IfOk, IsTrue};
-ghost use Rattle.viz_piece.specs.Stitching.{AreAllOf, AreAllParts};
+ghost use Rattle.viz_parts.specs.Stitching.{AreAllOf, AreAllParts};
 ghost use Rattle.viz_piece_stitch.specs.Steps.Wholes.{ArePieces, AreSlabs};
 
 use crate::image::stitched_image;
 use crate::mesh::stitched_mesh;
 use std::alloc::{AllocError, Global};
 use viz_dataset::Dataset;
-use viz_piece::Part;
+use viz_parts::Part;
 
 /// The dataset of which these are all parts: those of all slabs of an image that there are, or all
 /// pieces of a mesh, in turn.

@@ -3,9 +3,9 @@ use Rattle.std.proofs.Common.{◌≡◌, ℕ, ◌+◌, ◌<◌, ⊎_elim, get_or
 use Rattle.std.specs.List.{range_with_len}
 use Rattle.std.proofs.lemmas.Bool.{cases_lt}
 use Rattle.std.proofs.lemmas.List.{get_or-map, get_or_append_left, get_or_push, length-map, length_push}
-use Rattle.viz_piece.specs.Pieces.{AreAll, IsMeshPiece, SharesOut, in_turn, own_share}
-use Rattle.viz_piece.specs.Stitching.{ArePiecesOf}
-use Rattle.viz_piece.specs.declared.request.Part.{Part}
+use Rattle.viz_parts.specs.Pieces.{AreAll, IsMeshPiece, SharesOut, in_turn, own_share}
+use Rattle.viz_parts.specs.Stitching.{ArePiecesOf}
+use Rattle.viz_parts.specs.declared.request.Part.{Part}
 use Rattle.viz_sheet.specs.Sheet.{SheetData}
 use Rattle.viz_piece_filters.proofs.OwnLemmas.{shares_are_all}
 use Rattle.viz_piece_tests.specs.Steps.Cut.{AreCut}

@@ -1,12 +1,12 @@
 //! All pieces of a mesh.
 
 ghost use Rattle.std.specs.Prelude.{◌<◌, ◌≤◌, IfOk};
-ghost use Rattle.viz_piece.specs.Stitching.{AreAllParts, ArePiecesOf};
+ghost use Rattle.viz_parts.specs.Stitching.{AreAllParts, ArePiecesOf};
 ghost use Rattle.viz_piece_restrict.specs.Restricting.{IsSomeAnswer};
 ghost use Rattle.viz_piece_tests.specs.Steps.Cut.{AreCut, IsCutInTurn};
 
 use std::alloc::{AllocError, Global};
-use viz_piece::{Part, Request};
+use viz_parts::{Part, Request};
 use viz_piece_restrict::{restrict, whole_mesh};
 use viz_sheet::Mesh;
 

@@ -3,12 +3,12 @@
 ghost use Rattle.std.specs.Prelude.{◌≡◌, ◌<◌, ◌++◌, IfOk, option_to_list};
 ghost use Rattle.std.specs.List.{AllZip};
 ghost use Rattle.viz_extent.specs.Slabs.{slab_of};
-ghost use Rattle.viz_piece.specs.Pieces.{IsImageBlock};
-ghost use Rattle.viz_piece.specs.Stitching.{AreAllParts, AreSlabsOf};
+ghost use Rattle.viz_parts.specs.Pieces.{IsImageBlock};
+ghost use Rattle.viz_parts.specs.Stitching.{AreAllParts, AreSlabsOf};
 
 use std::alloc::{AllocError, Global};
 use viz_dataset::Image;
-use viz_piece::Part;
+use viz_parts::Part;
 
 /// The parts of all slabs of `n` that there are of an image, in turn.
 pub fn all_slabs(alloc: Global, whole: &Image, n: u32) -> Result<Vec<Part>, AllocError>

@@ -18,7 +18,7 @@ use Rattle.viz_attr.specs.Types as types
 use Rattle.viz_attr.specs.Picks.{Given, Head, Begins, Holds}
 use Rattle.viz_attr.specs.Values.{values}
 use Rattle.viz_attr.specs.Arrays.{array, association, scalars_head, scalars}
-use Rattle.viz_legacy_write.specs.ImageText as written
+use Rattle.viz_image_write.specs.ImageText as written
 use Rattle.viz_round_trip.proofs.StandingLemmas.{Stands, stands-gives, stands-follow, stands-demand, stands-beside}
 use Rattle.viz_round_trip.proofs.WordStanding.{word-solid, blank-one, stands-next, stands-keyword, stands-no_metadata}
 use Rattle.viz_round_trip.proofs.SizeStanding.{stands-count}

@@ -12,7 +12,7 @@ use Rattle.viz_attr.specs.declared.parts.Association.TheVariants.{Points}
 use Rattle.viz_attr.specs.Picks.{Part, Begins, Holds, has_fit, picked_of}
 use Rattle.viz_attr.specs.Arrays.{association, scalars}
 use Rattle.viz_attr.specs.Grammar.{behind, part, joined, parts, is_zero, no_array, attributes}
-use Rattle.viz_legacy_write.specs.ImageText as written
+use Rattle.viz_image_write.specs.ImageText as written
 use Rattle.viz_round_trip.proofs.StandingLemmas.{Stands, stands-gives, stands-follow}
 use Rattle.viz_round_trip.proofs.WordStanding.{word-solid, blank-one, stands-next}
 use Rattle.viz_round_trip.proofs.ArrayStanding.{given, stands-association, head_of, scalars_text, stands-scalars}

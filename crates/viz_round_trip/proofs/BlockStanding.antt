@@ -15,7 +15,7 @@ use Rattle.viz_attr.specs.declared.types.Stored.TheVariants.{Whole}
 use Rattle.viz_attr.specs.Types.{bytes_of}
 use Rattle.viz_attr.specs.Values.{tuple, firsts, block_numbers, values}
 use Rattle.viz_attr.proofs.FirstsLemmas.{firsts-one}
-use Rattle.viz_legacy_write.specs.ImageText.{rows_text, values_text}
+use Rattle.viz_image_write.specs.ImageText.{rows_text, values_text}
 use Rattle.viz_round_trip.proofs.StandingLemmas.{Stands, stands-gives, stands-follow}
 use Rattle.viz_round_trip.proofs.WordStanding.{blank-one}
 use Rattle.viz_round_trip.proofs.ValueStanding.{written-behind, stands-tuples}

@@ -8,7 +8,7 @@ use Rattle.viz_column.specs.declared.kind.Kind8.{Kind8}
 use Rattle.viz_column.specs.declared.kind.Kind8.TheVariants.{I32}
 use Rattle.viz_column.specs.Bytes.{bytes_of}
 use Rattle.viz_lex.specs.Words.{EndsWord, IsBlank}
-use Rattle.viz_legacy_write.specs.ImageText.{spaced_number, row_text}
+use Rattle.viz_image_write.specs.ImageText.{spaced_number, row_text}
 use Rattle.viz_mesh_write.specs.Rows.{row_of, block_end, block_text}
 use Rattle.viz_round_trip.proofs.WordStanding.{blank-nil, blank-one}
 

@@ -12,7 +12,7 @@ use Rattle.viz_extent.specs.Extent.{Bounds}
 use Rattle.viz_dataset.specs.Images.{Vector, IsOrigin, IsSpacing}
 use Rattle.viz_legacy_read.specs.Header.{Line, geometry_of, whole_of, sizes, origin, spacing, behind, one_field, header_line}
 use Rattle.viz_legacy_read.specs.Header.Line.{Sizes, Origin, Spacing_of}
-use Rattle.viz_legacy_write.specs.ImageText.{dimensions_line, vector_line, origin_line, spacing_line}
+use Rattle.viz_image_write.specs.ImageText.{dimensions_line, vector_line, origin_line, spacing_line}
 use Rattle.viz_round_trip.proofs.StandingLemmas.{Stands, stands-gives, stands-follow, stands-none}
 use Rattle.viz_round_trip.proofs.WordStanding.{is_solid, word-solid, blank-one, stands-next, is_next-word}
 use Rattle.viz_round_trip.proofs.SizeStanding.{spaced, three_spaced, AreSizes, stands-sizes}

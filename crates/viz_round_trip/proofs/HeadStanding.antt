@@ -16,7 +16,7 @@ use Rattle.viz_lex.proofs.LineLemmas.{rest_of-line}
 use Rattle.viz_legacy_read.specs.Magic.{magic, is_magic, is_later, line, two_lines}
 use Rattle.viz_legacy_read.specs.Header.{form, Header, image_header, header}
 use Rattle.viz_legacy_read.specs.Header.Heading.{OfImage}
-use Rattle.viz_legacy_write.specs.ImageText.{title_lines, form_line, dataset_line}
+use Rattle.viz_image_write.specs.ImageText.{title_lines, form_line, dataset_line}
 use Rattle.viz_round_trip.proofs.StandingLemmas.{Stands, stands-gives, stands-follow, stands-demand}
 use Rattle.viz_round_trip.proofs.WordStanding.{word-solid, blank-nil, blank-one, stands-next, stands-keyword}
 

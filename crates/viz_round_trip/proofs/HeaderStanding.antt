@@ -7,7 +7,7 @@ use Rattle.viz_extent.specs.Extent.{Bounds}
 use Rattle.viz_dataset.specs.Images.{Vector, IsOrigin, IsSpacing}
 use Rattle.viz_legacy_read.specs.Header.{geometry_of, whole_of, header_line, Header, header_of, header}
 use Rattle.viz_legacy_read.specs.Header.Heading.{OfImage}
-use Rattle.viz_legacy_write.specs.ImageText.{title_lines, form_line, dataset_line, dimensions_line, origin_line, spacing_line}
+use Rattle.viz_image_write.specs.ImageText.{title_lines, form_line, dataset_line, dimensions_line, origin_line, spacing_line}
 use Rattle.viz_round_trip.proofs.StandingLemmas.{Stands, stands-gives, stands-follow}
 use Rattle.viz_round_trip.proofs.HeadStanding.{stands-dataset}
 use Rattle.viz_round_trip.proofs.SizeStanding.{AreSizes}

@@ -12,7 +12,7 @@ use Rattle.viz_legacy_read.specs.Header.Heading.{OfImage}
 use Rattle.viz_legacy_read.specs.ImageFile.{cells_of, asked, image_of, image_behind}
 use Rattle.viz_legacy_read.specs.File.{contents, file}
 use Rattle.viz_legacy_read.specs.Reading.{front, Reads}
-use Rattle.viz_legacy_write.specs.ImageText.{image_text}
+use Rattle.viz_image_write.specs.ImageText.{image_text}
 use Rattle.viz_round_trip.specs.RoundTrip.{from_zero, moved, BeginsAtZero}
 use Rattle.viz_round_trip.proofs.StandingLemmas.{Stands, stands-gives, stands-follow}
 use Rattle.viz_round_trip.proofs.HeaderStanding.{header_with, stands-header}

@@ -24,7 +24,7 @@ use Rattle.viz_legacy_read.specs.Header.{header}
 use Rattle.viz_legacy_read.specs.Header.Heading.{OfMesh}
 use Rattle.viz_legacy_read.specs.File.{file}
 use Rattle.viz_legacy_read.proofs.HeaderLaws.{decides-header}
-use Rattle.viz_legacy_write.specs.ImageText.{form_line}
+use Rattle.viz_image_write.specs.ImageText.{form_line}
 use Rattle.viz_mesh_write.specs.MeshText.{title_lines, dataset_line}
 use Rattle.viz_round_trip.proofs.StandingLemmas.{Stands, stands-gives, stands-follow, stands-demand}
 use Rattle.viz_round_trip.proofs.WordStanding.{word-solid, blank-one, stands-next, stands-keyword}

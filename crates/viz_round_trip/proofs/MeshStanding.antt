@@ -31,7 +31,7 @@ use Rattle.viz_sheet.specs.Ranked.{IsCell}
 use Rattle.viz_legacy_read.specs.MeshFile.{cells_by_kind}
 use Rattle.viz_legacy_read.specs.File.{file}
 use Rattle.viz_legacy_read.specs.Reading.{front, Reads, Stops}
-use Rattle.viz_legacy_write.specs.ImageText.{form_line, values_text}
+use Rattle.viz_image_write.specs.ImageText.{form_line, values_text}
 use Rattle.viz_mesh_write.specs.Cells.{points_of, cells_of, of_size, has_tetrahedra}
 use Rattle.viz_mesh_write.specs.Fits.{FitCounts, FitsRow, FitNumbers}
 use Rattle.viz_mesh_write.specs.MeshText.{coordinates, scalar, scalars, size_of, title_lines, dataset_line, points_text, grid_text, parts_text, poly_text, section_text, cells_text, scalars_text, mesh_text}

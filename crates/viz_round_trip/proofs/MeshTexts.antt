@@ -6,7 +6,7 @@ use Rattle.std.specs.Fmt.{digits, decimal}
 use Rattle.viz_fraction.specs.Points.{Point}
 use Rattle.viz_column.specs.declared.kind.Kind8.TheVariants.{I32, I64}
 use Rattle.viz_column.specs.Bytes.{bytes_of}
-use Rattle.viz_legacy_write.specs.ImageText.{row_text, rows_text, values_text}
+use Rattle.viz_image_write.specs.ImageText.{row_text, rows_text, values_text}
 use Rattle.viz_mesh_write.specs.MeshText.{cell_numbers, size_of, coordinates, points_line, points_text, section_line, section_text, types_line, types_text, grid_text, some_section, parts_text, scalar, scalars, scalars_head, scalars_text}
 use Rattle.viz_mesh_write.specs.Rows.{row_of, block_text}
 use Rattle.viz_mesh_write.specs.Cells.{of_size}

@@ -11,7 +11,7 @@ use Rattle.viz_legacy_read.specs.File.{file}
 use Rattle.viz_legacy_read.specs.Reading.{front, Reads, Stops}
 use Rattle.viz_legacy_read.specs.Steps.{file_at}
 use Rattle.viz_legacy_read.proofs.FileLaws.{decides-file}
-use Rattle.viz_legacy_write.specs.ImageText.{image_text}
+use Rattle.viz_image_write.specs.ImageText.{image_text}
 use Rattle.viz_round_trip.specs.RoundTrip.{moved}
 use Rattle.viz_round_trip.proofs.ImageStanding.{reads-moved}
 

@@ -4,7 +4,7 @@ use Rattle.std.specs.List.{flat_map}
 use Rattle.std.specs.Fmt.{signed_decimal}
 use Rattle.std.proofs.lemmas.List.{take-append-drop}
 use Rattle.viz_lex.specs.Words.{EndsWord}
-use Rattle.viz_legacy_write.specs.ImageText.{spaced_number, row_text, rows_text}
+use Rattle.viz_image_write.specs.ImageText.{spaced_number, row_text, rows_text}
 use Rattle.viz_round_trip.proofs.WordStanding.{blank-nil, blank-one}
 use Rattle.viz_round_trip.proofs.ValueStanding.{AreWritten, written-behind}
 

@@ -6,7 +6,7 @@ use Rattle.viz_extent.specs.Extent.{size_x, size_y, size_z, count_of}
 use Rattle.viz_column.specs.declared.kind.Kind8.{Kind8}
 use Rattle.viz_column.specs.Numbers.{Numbers}
 use Rattle.viz_dataset.specs.Images.{ImageData, corner}
-use Rattle.viz_legacy_write.specs.ImageText.{title_lines, form_line, dataset_line, dimensions_line, origin_line, spacing_line, geometry_lines, point_data_line, type_word, array_line, table_line, header_lines, values_text, image_text}
+use Rattle.viz_image_write.specs.ImageText.{title_lines, form_line, dataset_line, dimensions_line, origin_line, spacing_line, geometry_lines, point_data_line, type_word, array_line, table_line, header_lines, values_text, image_text}
 use Rattle.viz_round_trip.proofs.HeaderStanding.{header_text}
 use Rattle.viz_round_trip.proofs.ArrayStanding.{array_name}
 use Rattle.viz_round_trip.proofs.AttributeStanding.{parts_text}

@@ -11,7 +11,7 @@ use Rattle.viz_lex.specs.Items.{word}
 use Rattle.viz_attr.specs.declared.types.Stored.TheVariants.{Whole}
 use Rattle.viz_attr.specs.Types as types
 use Rattle.viz_attr.specs.Types.{stored_of, is_left_out_type, is_real, named_by}
-use Rattle.viz_legacy_write.specs.ImageText as written
+use Rattle.viz_image_write.specs.ImageText as written
 use Rattle.viz_round_trip.proofs.StandingLemmas.{Stands, stands-gives, stands-follow, stands-demand}
 use Rattle.viz_round_trip.proofs.WordStanding.{word-solid, blank-one, stands-next}
 

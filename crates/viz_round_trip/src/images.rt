@@ -9,7 +9,7 @@ ghost use Rattle.viz_dataset.specs.declared.dataset.Dataset.TheVariants.{Image};
 ghost use Rattle.viz_dataset.specs.Images.{ImageData, corner, point_at, IsImage, IsOrigin};
 ghost use Rattle.viz_lex.specs.declared.fault.FileFault.{FileFault};
 ghost use Rattle.viz_legacy_read.specs.Reading.{Reads, Stops};
-ghost use Rattle.viz_legacy_write.specs.ImageText.{image_text};
+ghost use Rattle.viz_image_write.specs.ImageText.{image_text};
 ghost use Rattle.viz_round_trip.specs.RoundTrip.{moved, BeginsAtZero};
 
 /// The text of an image, in ASCII or in BINARY, is read as the image that it was written of.

@@ -3,7 +3,7 @@
 //! Contract: the text of an image is read as that image, and that of a mesh as the mesh of its
 //! written points and cells, in ASCII and in BINARY alike, and as nothing else. Definitions:
 //! `specs/RoundTrip.antt` for images and `specs/MeshTrip.antt` for meshes, over those of
-//! `viz_legacy_write` and `viz_mesh_write`, which say what is written, and of `viz_legacy_read`,
+//! `viz_image_write` and `viz_mesh_write`, which say what is written, and of `viz_legacy_read`,
 //! which say what is read.
 #![tactic(auto)]
 

@@ -6,10 +6,10 @@ use Rattle.viz_dataset.specs.declared.dataset.Dataset.TheVariants.{Image, Mesh}
 use Rattle.viz_kinds.specs.declared.settings.Settings.{Settings}
 use Rattle.viz_kinds.specs.declared.settings.Settings.TheVariants as settings
 use Rattle.viz_base.specs.declared.node.NodeId.{NodeId}
-use Rattle.viz_legacy_write.specs.declared.stop.WriteStop.{WriteStop}
-use Rattle.viz_legacy_write.specs.declared.stop.WriteStop.TheVariants as write
-use Rattle.viz_legacy_write.specs.declared.style.Style.{Style as Writers}
-use Rattle.viz_legacy_write.specs.ImageText.{image_text}
+use Rattle.viz_image_write.specs.declared.stop.WriteStop.{WriteStop}
+use Rattle.viz_image_write.specs.declared.stop.WriteStop.TheVariants as write
+use Rattle.viz_image_write.specs.declared.style.Style.{Style as Writers}
+use Rattle.viz_image_write.specs.ImageText.{image_text}
 use Rattle.viz_mesh_write.specs.Fits.{FitCounts, FitNumbers}
 use Rattle.viz_mesh_write.specs.MeshText.{mesh_text}
 use Rattle.viz_network.specs.declared.node.Node.{Node}

@@ -11,7 +11,7 @@ use std::alloc::Global;
 use viz_base::{Bytes, NodeId, Shared};
 use viz_dataset::Dataset;
 use viz_kinds::Settings;
-use viz_legacy_write::{Style, WriteStop, write_image};
+use viz_image_write::{Style, WriteStop, write_image};
 use viz_mesh_write::{write_mesh, write_owned_mesh};
 use viz_network::{Cause, Fault, Net, Stop};
 

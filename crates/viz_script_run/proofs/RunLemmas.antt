@@ -15,7 +15,7 @@ use Rattle.viz_base.specs.declared.call.WriteAnswer.{WriteAnswer}
 use Rattle.viz_base.specs.declared.call.WriteAnswer.TheVariants as write
 use Rattle.viz_base.specs.declared.refusal.WriteRefusal.{WriteRefusal}
 use Rattle.viz_base.specs.declared.refusal.WriteRefusal.TheVariants as writing
-use Rattle.viz_core.specs.declared.entry.Entry.{Entry}
+use Rattle.viz_history.specs.declared.entry.Entry.{Entry}
 use Rattle.viz_once.specs.Promises.{GainsLine, PutsOrBreaks, EndsInScript}
 use Rattle.viz_once.specs.declared.outcome.Status.{Status}
 use Rattle.viz_once.specs.declared.outcome.Status.TheVariants as status

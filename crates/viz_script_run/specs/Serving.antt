@@ -7,7 +7,7 @@ use Rattle.viz_base.specs.declared.call.Call.TheVariants.{Write}
 use Rattle.viz_base.specs.declared.call.ReadAnswer.TheVariants as read
 use Rattle.viz_base.specs.declared.call.WriteAnswer.{WriteAnswer}
 use Rattle.viz_base.specs.declared.call.WriteAnswer.TheVariants as write
-use Rattle.viz_core.specs.declared.entry.Entry.{Entry}
+use Rattle.viz_history.specs.declared.entry.Entry.{Entry}
 use Rattle.viz_once.specs.Account.{LeavesText}
 use Rattle.viz_report.specs.declared.line.Row.{Row}
 use Rattle.viz_script_run.specs.declared.ran.Ran.{Ran}

@@ -6,7 +6,7 @@ ghost use Rattle.viz_script_run.specs.Numbering.{Agree, AreOwn, IsCounted, Tells
 
 use std::alloc::{AllocError, Global};
 use viz_base::ACTORS;
-use viz_core::Entry;
+use viz_history::Entry;
 use viz_journal::JournalEntry;
 use viz_report::{Line, Row};
 

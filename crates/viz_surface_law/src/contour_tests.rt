@@ -9,7 +9,7 @@ use viz_column::Column;
 use viz_contour::contour;
 use viz_dataset::{Image, is_origin, is_spacing};
 use viz_extent::Extent;
-use viz_piece::WorkStop;
+use viz_meaning::WorkStop;
 
 // The counts of a contour. The law says that an audit takes it, and what the counts have in common.
 fn audited(alloc: Global, level: &i64, image: &Image) -> Result<Counts, WorkStop>

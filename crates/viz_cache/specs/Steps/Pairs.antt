@@ -1,9 +1,9 @@
 -- How a cache is kept: as pairs of keys and parts. Only its type speaks of it.
 use Rattle.std.specs.Prelude.{List, map}
 use Rattle.lru.specs.LruCache.{LruCache}
-use Rattle.viz_piece.specs.declared.request.Part.{Part}
-use Rattle.viz_cache.specs.declared.stored.Key.{Key}
-use Rattle.viz_cache.specs.declared.stored.Stored.{Stored}
+use Rattle.viz_parts.specs.declared.request.Part.{Part}
+use Rattle.viz_parts.specs.declared.stored.Key.{Key}
+use Rattle.viz_parts.specs.declared.stored.Stored.{Stored}
 use Rattle.viz_cache.specs.Cache.{CacheData}
 
 -- the item that a pair is

@@ -7,7 +7,7 @@ use std::alloc::Global;
 use std::process::Abort;
 use std::test::Fail;
 use viz_fraction::Form;
-use viz_piece::WorkStop;
+use viz_meaning::WorkStop;
 use viz_sheet::{Mesh, Ranks, Sheet};
 
 // The sections, whatever comes of them.

@@ -29,3 +29,10 @@ is_marked net marks x = told false net marks x.0
 -- whether the node is one of those with a mark, or one of the others
 abbrev pub is_kept : Bool → Network → List Bool → NodeId → Bool
 is_kept late net marks x = if late then is_marked net marks x else not (is_marked net marks x)
+
+-- the table has the stamp of each node at its rank
+pub record IsStamped (net : Network) (table : List ℕ) : Type 0 where
+  pub each : (id : ℕ) (rank : ℕ) → rank_of net id ≡ Some rank → slice_get table rank ≡ stamp_of net id
+  pub size : length table ≡ 256
+  pub ascending : IsAscending net
+  pub few : length net ≤ 256

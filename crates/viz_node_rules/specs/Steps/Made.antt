@@ -4,8 +4,8 @@ use Rattle.viz_dataset.specs.declared.dataset.Dataset.{Dataset}
 use Rattle.viz_dataset.specs.declared.dataset.Dataset.TheVariants.{Image, Mesh}
 use Rattle.viz_legacy_read.specs.declared.stop.ReadStop.{ReadStop}
 use Rattle.viz_legacy_read.specs.declared.stop.ReadStop.TheVariants as read
-use Rattle.viz_piece.specs.declared.stop.WorkStop.{WorkStop}
-use Rattle.viz_piece.specs.declared.stop.WorkStop.TheVariants as work
+use Rattle.viz_meaning.specs.declared.stop.WorkStop.{WorkStop}
+use Rattle.viz_meaning.specs.declared.stop.WorkStop.TheVariants as work
 use Rattle.viz_sheet.specs.Sheet.{SheetData, IsFit}
 use Rattle.viz_meaning.specs.Section.{section_of}
 use Rattle.viz_meaning.specs.Tetrahedra.{tetrahedra_sheet}

@@ -1,8 +1,8 @@
 -- Parts of meshes cut sheet by sheet.
 use Rattle.std.specs.Prelude.{◌≡◌, ℕ, ◌<◌, Bool, List, All, length, map, replicate, slice_index_or}
 use Rattle.viz_mesh_meaning.specs.Cells.{with_cells}
-use Rattle.viz_piece.specs.Parts.{PartSheetData}
-use Rattle.viz_piece.specs.Pieces.{IsSheetPart, own_share}
+use Rattle.viz_parts.specs.Parts.{PartSheetData}
+use Rattle.viz_parts.specs.Pieces.{IsSheetPart, own_share}
 use Rattle.viz_sheet.specs.Kept.{kept}
 use Rattle.viz_sheet.specs.Sheet.{SheetData, IsSheet, KeepPoints}
 

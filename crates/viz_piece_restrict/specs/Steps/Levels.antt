@@ -2,7 +2,7 @@
 use Rattle.std.specs.Prelude.{◌≡◌, ℕ, ◌<◌, ◌≤◌, Bool, true, false, Option, Some, None, List, []}
 use Rattle.std.specs.Prelude.{All, Contains, ◌⊎◌, length, map, cond, slice_index_or}
 use Rattle.std.specs.List.{list_any, range_with_len}
-use Rattle.viz_piece.specs.Seen.{Seen, AreSeen, AreSteps}
+use Rattle.viz_parts.specs.Seen.{Seen, AreSeen, AreSteps}
 use Rattle.viz_piece_filters.specs.Growth.{grown_level}
 use Rattle.viz_sheet.specs.Ranked.{rank_of}
 use Rattle.viz_sheet.specs.Sheet.{SheetData}

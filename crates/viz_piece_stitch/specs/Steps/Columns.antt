@@ -1,10 +1,10 @@
 -- The parts of a mesh, sheet by sheet.
 use Rattle.std.specs.Prelude.{◌≡◌, ℕ, ◌<◌, ◌≤◌, List, [], ◌∷◌, ◌++◌, All, length, map}
 use Rattle.std.specs.Prelude.{slice_index_or}
-use Rattle.viz_piece.specs.Parts.{PartSheetData}
-use Rattle.viz_piece.specs.Stitching.{own_items}
-use Rattle.viz_piece.specs.declared.request.Part.{Part}
-use Rattle.viz_piece.specs.declared.request.Part.TheVariants.{Image, Mesh}
+use Rattle.viz_parts.specs.Parts.{PartSheetData}
+use Rattle.viz_parts.specs.Stitching.{own_items}
+use Rattle.viz_parts.specs.declared.request.Part.{Part}
+use Rattle.viz_parts.specs.declared.request.Part.TheVariants.{Image, Mesh}
 use Rattle.viz_sheet.specs.Sheet.{SheetData, IsSheet}
 use Rattle.std.specs.List.{flat_map}
 use Rattle.viz_piece_stitch.specs.Steps.Joining.{HavePoints}

@@ -3,8 +3,8 @@ use Rattle.std.specs.Prelude.{◌≡◌, ℕ, ◌<◌, List, [], ◌++◌, lengt
 use Rattle.std.specs.Prelude.{slice_index_or}
 use Rattle.std.specs.List.{flat_map}
 use Rattle.viz_fraction.specs.Points.{Point}
-use Rattle.viz_piece.specs.Parts.{PartSheetData}
-use Rattle.viz_piece.specs.Stitching.{own_items}
+use Rattle.viz_parts.specs.Parts.{PartSheetData}
+use Rattle.viz_parts.specs.Stitching.{own_items}
 use Rattle.viz_sheet.specs.Ranked.{rank_of, ranks_of}
 use Rattle.viz_sheet.specs.Sheet.{SheetData, IsSheet}
 

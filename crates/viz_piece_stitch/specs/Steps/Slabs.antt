@@ -3,8 +3,8 @@ use Rattle.std.specs.Prelude.{◌≡◌, ℕ, ℤ, List, [], slice_index_or}
 use Rattle.viz_dataset.specs.Images.{ImageData}
 use Rattle.viz_extent.specs.Extent.{Bounds}
 use Rattle.viz_column.specs.declared.kind.Kind8.{Kind8}
-use Rattle.viz_piece.specs.declared.request.Part.{Part}
-use Rattle.viz_piece.specs.declared.request.Part.TheVariants.{Image, Mesh}
+use Rattle.viz_parts.specs.declared.request.Part.{Part}
+use Rattle.viz_parts.specs.declared.request.Part.TheVariants.{Image, Mesh}
 
 -- a part of an image
 abbrev pub IsPicture : Part → Type 0

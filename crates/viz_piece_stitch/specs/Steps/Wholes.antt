@@ -1,8 +1,8 @@
 -- Parts that are all parts of something.
 use Rattle.std.specs.Prelude.{List}
 use Rattle.viz_dataset.specs.Images.{ImageData}
-use Rattle.viz_piece.specs.Stitching.{ArePiecesOf, AreSlabsOf}
-use Rattle.viz_piece.specs.declared.request.Part.{Part}
+use Rattle.viz_parts.specs.Stitching.{ArePiecesOf, AreSlabsOf}
+use Rattle.viz_parts.specs.declared.request.Part.{Part}
 use Rattle.viz_sheet.specs.Sheet.{SheetData}
 
 -- all pieces of some mesh

@@ -1,9 +1,9 @@
 -- Pieces of a mesh that are cut in turn from its only piece.
 use Rattle.std.specs.Prelude.{◌≡◌, ℕ, ◌<◌, List, length, slice_index_or}
 use Rattle.viz_dataset.specs.declared.dataset.Dataset.TheVariants.{Mesh}
-use Rattle.viz_piece.specs.Pieces.{IsAnswer, IsMeshPiece, in_turn}
-use Rattle.viz_piece.specs.declared.request.Part.{Part}
-use Rattle.viz_piece.specs.declared.request.Request.TheVariants.{Piece}
+use Rattle.viz_parts.specs.Pieces.{IsAnswer, IsMeshPiece, in_turn}
+use Rattle.viz_parts.specs.declared.request.Part.{Part}
+use Rattle.viz_parts.specs.declared.request.Request.TheVariants.{Piece}
 use Rattle.viz_sheet.specs.Sheet.{SheetData}
 
 -- the part is a piece of a mesh whose cells are shared out in turn

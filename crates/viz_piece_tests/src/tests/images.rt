@@ -8,7 +8,7 @@ use std::test::Fail;
 use viz_column::{Column, Kind8};
 use viz_dataset::{Dataset, Image, is_origin, is_spacing};
 use viz_extent::Extent;
-use viz_piece::Part;
+use viz_parts::Part;
 use viz_piece_stitch::stitch;
 
 /// All types of numbers.

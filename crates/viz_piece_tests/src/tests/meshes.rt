@@ -7,7 +7,7 @@ use std::alloc::{AllocError, Global};
 use std::process::Abort;
 use std::test::Fail;
 use viz_dataset::Dataset;
-use viz_piece::{Part, PartSheet};
+use viz_parts::{Part, PartSheet};
 use viz_piece_stitch::stitch;
 use viz_sheet::{Mesh, Sheet};
 

@@ -3,7 +3,7 @@
 
 use std::alloc::{AllocError, Global};
 use std::process::Abort;
-use viz_piece::PartSheet;
+use viz_parts::PartSheet;
 use viz_sheet::Sheet;
 
 /// How many points a cell has.

@@ -1,7 +1,7 @@
 use Rattle.std.proofs.Common.{subst, sym}
 use Rattle.viz_dataset.specs.declared.dataset.Dataset.TheVariants as dataset
-use Rattle.viz_piece.specs.declared.request.Part.TheVariants as part
-use Rattle.viz_piece.specs.declared.request.Request.TheVariants.{Block}
+use Rattle.viz_parts.specs.declared.request.Part.TheVariants as part
+use Rattle.viz_parts.specs.declared.request.Request.TheVariants.{Block}
 use Rattle.viz_kept.specs.Whole.{IsWholePart}
 use Rattle.viz_kept.proofs.WholeLemmas.{image_is_whole}
 use Rattle.viz_kept.proofs.whole.whole_part.Goals as goal

@@ -2,7 +2,7 @@ use Rattle.std.proofs.Common.{◌++◌}
 use Rattle.std.specs.Prelude.{codes}
 use Rattle.std.specs.Fmt.{decimal}
 use Rattle.viz_mesh_write.specs.MeshText.{points_line}
-use Rattle.viz_legacy_write.proofs.PassLemmas.{appended}
+use Rattle.viz_image_write.proofs.PassLemmas.{appended}
 use Rattle.viz_mesh_write.proofs.heads.put_points_line.Goals as goal
 
 pub returns : goal.returns

@@ -2,7 +2,7 @@ use Rattle.std.proofs.Common.{◌<◌, length, arith, rules}
 use Rattle.viz_column.specs.declared.kind.Kind8.TheVariants.{I64}
 use Rattle.viz_fraction.specs.Points.{Point}
 use Rattle.viz_sheet.specs.Arrays.{points_in}
-use Rattle.viz_legacy_write.proofs.PassLemmas.{lines_more}
+use Rattle.viz_image_write.proofs.PassLemmas.{lines_more}
 use Rattle.viz_mesh_write.specs.Rows.{row_of}
 use Rattle.viz_mesh_write.proofs.PointLemmas.{fits_more, no_fit}
 use Rattle.viz_mesh_write.proofs.points.put_sheet_points.Goals as goal

@@ -1,7 +1,7 @@
 use Rattle.std.proofs.Common.{◌+◌, List, length, sym, subst, ◌∙◌}
 use Rattle.std.proofs.lemmas.List.{get_or_default}
-use Rattle.viz_piece.specs.Parts.{PartSheetData}
-use Rattle.viz_piece.specs.Pieces.{IsSheetPart, own_share}
+use Rattle.viz_parts.specs.Parts.{PartSheetData}
+use Rattle.viz_parts.specs.Pieces.{IsSheetPart, own_share}
 use Rattle.viz_sheet.specs.Sheet.{SheetData}
 use Rattle.viz_piece_restrict.specs.Steps.Cuts.{ArePieces}
 use Rattle.viz_piece_restrict.proofs.PieceLemmas.{pieces-more}

@@ -1,5 +1,5 @@
 use Rattle.std.proofs.Common.{◌≡◌, true, false, ap, sym, ◌∙◌, true≢false}
-use Rattle.viz_piece.specs.contracts.request.RequestPartialEq.TheImpl as equality
+use Rattle.viz_parts.specs.contracts.request.RequestPartialEq.TheImpl as equality
 use Rattle.viz_piece_restrict.proofs.RequestLemmas.{request-itself}
 use Rattle.viz_piece_restrict.proofs.restriction.restrict_shared.Goals as goal
 

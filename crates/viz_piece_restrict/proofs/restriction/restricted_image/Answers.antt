@@ -1,6 +1,6 @@
 use Rattle.std.proofs.Common.{subst, sym}
-use Rattle.viz_piece.specs.Pieces.{Covers}
-use Rattle.viz_piece.specs.declared.request.Part.TheVariants.{Image}
+use Rattle.viz_parts.specs.Pieces.{Covers}
+use Rattle.viz_parts.specs.declared.request.Part.TheVariants.{Image}
 use Rattle.viz_piece_restrict.specs.Restricting.{IsRestriction}
 use Rattle.viz_piece_restrict.proofs.CutLemmas.{image-cut}
 use Rattle.viz_piece_restrict.proofs.restriction.restricted_image.Goals as goal

@@ -1,7 +1,7 @@
 use Rattle.std.proofs.Common.{◌≡◌, false, IsTrue, List, length, map, ap, sym, subst, ◌∙◌, rules}
-use Rattle.viz_piece.specs.Parts.{PartSheetData}
-use Rattle.viz_piece.specs.Pieces.{Covers}
-use Rattle.viz_piece.specs.declared.request.Part.TheVariants.{Mesh}
+use Rattle.viz_parts.specs.Parts.{PartSheetData}
+use Rattle.viz_parts.specs.Pieces.{Covers}
+use Rattle.viz_parts.specs.declared.request.Part.TheVariants.{Mesh}
 use Rattle.viz_piece_filters.specs.Filters.{trimmed_part}
 use Rattle.viz_piece_restrict.specs.Restricting.{IsRestriction, IsOneOfMany, IsSamePiece, IsSomeAnswer}
 use Rattle.viz_piece_restrict.specs.Steps.Cuts.{ArePieces}

@@ -1,5 +1,5 @@
 use Rattle.std.proofs.Common.{List, subst}
-use Rattle.viz_piece.specs.declared.request.Part.TheVariants.{Mesh}
+use Rattle.viz_parts.specs.declared.request.Part.TheVariants.{Mesh}
 use Rattle.viz_sheet.specs.Sheet.{SheetData}
 use Rattle.viz_piece_restrict.specs.Steps.Cuts.{AreWholes}
 use Rattle.viz_piece_restrict.proofs.CutLemmas.{some-whole_mesh}

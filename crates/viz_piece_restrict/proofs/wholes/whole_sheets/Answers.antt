@@ -1,5 +1,5 @@
 use Rattle.std.proofs.Common.{◌++◌, ◌∷◌, [], List, subst, sym}
-use Rattle.viz_piece.specs.Parts.{PartSheetData}
+use Rattle.viz_parts.specs.Parts.{PartSheetData}
 use Rattle.viz_piece_restrict.specs.Steps.Cuts.{AreWholes}
 use Rattle.viz_piece_restrict.proofs.PieceLemmas.{wholes-more}
 use Rattle.viz_piece_restrict.proofs.wholes.whole_sheets.Goals as goal

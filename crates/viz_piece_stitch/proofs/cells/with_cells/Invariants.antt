@@ -1,5 +1,5 @@
 use Rattle.std.proofs.Common.{◌≡◌, ◌++◌, map, take}
-use Rattle.viz_piece.specs.Stitching.{own_items}
+use Rattle.viz_parts.specs.Stitching.{own_items}
 use Rattle.viz_sheet.specs.Steps.Lookup.{looked_up}
 use Rattle.viz_piece_stitch.proofs.cells.with_cells.Given as goal
 

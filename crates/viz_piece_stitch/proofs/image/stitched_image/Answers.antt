@@ -1,6 +1,6 @@
 use Rattle.std.proofs.Common.{List, subst, sym}
-use Rattle.viz_piece.specs.Stitching.{AreSlabsOf}
-use Rattle.viz_piece.specs.declared.request.Part.{Part}
+use Rattle.viz_parts.specs.Stitching.{AreSlabsOf}
+use Rattle.viz_parts.specs.declared.request.Part.{Part}
 use Rattle.viz_piece_stitch.proofs.ImageLemmas.{all-images}
 use Rattle.viz_piece_stitch.proofs.image.stitched_image.Goals as goal
 

@@ -1,7 +1,7 @@
 use Rattle.std.proofs.Common.{◌≡◌, ◌<◌, ◌++◌, All, List, ℕ, length, map, ap, sym, subst, ◌∙◌, rules}
 use Rattle.std.specs.List.{Contains}
 use Rattle.std.proofs.lemmas.List.Elements.{All-weaker}
-use Rattle.viz_piece.specs.Stitching.{own_items}
+use Rattle.viz_parts.specs.Stitching.{own_items}
 use Rattle.viz_sheet.specs.Arrays.{names_in, points_in, ranks_in}
 use Rattle.viz_sheet.specs.Ranked.{IsCell, rank_of, ranks_of}
 use Rattle.viz_sheet.specs.Sheet.{SheetData}

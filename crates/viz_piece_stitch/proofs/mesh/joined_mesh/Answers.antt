@@ -1,5 +1,5 @@
 use Rattle.std.proofs.Common.{All, List, subst, ◌∙◌}
-use Rattle.viz_piece.specs.declared.request.Part.{Part}
+use Rattle.viz_parts.specs.declared.request.Part.{Part}
 use Rattle.viz_piece_stitch.specs.Steps.Columns.{IsMeshOf}
 use Rattle.viz_piece_stitch.proofs.MeshLemmas.{column-sheets, joined-all, same-count}
 use Rattle.viz_piece_stitch.proofs.mesh.joined_mesh.Goals as goal

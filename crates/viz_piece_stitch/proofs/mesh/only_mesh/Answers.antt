@@ -1,5 +1,5 @@
 use Rattle.std.proofs.Common.{◌∙◌, rules}
-use Rattle.viz_piece.specs.declared.request.Part.TheVariants.{Mesh}
+use Rattle.viz_parts.specs.declared.request.Part.TheVariants.{Mesh}
 use Rattle.viz_piece_stitch.proofs.MeshLemmas.{only-mesh}
 use Rattle.viz_piece_stitch.proofs.mesh.only_mesh.Goals as goal
 

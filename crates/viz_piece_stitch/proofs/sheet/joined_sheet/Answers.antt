@@ -1,7 +1,7 @@
 use Rattle.std.proofs.Common.{◌≡◌, ◌≤◌, All, List, length, take, ap, sym, subst, ◌∙◌, arith}
 use Rattle.std.specs.List.{flat_map}
 use Rattle.std.proofs.lemmas.List.{length-take-le}
-use Rattle.viz_piece.specs.Parts.{PartSheetData}
+use Rattle.viz_parts.specs.Parts.{PartSheetData}
 use Rattle.viz_sheet.specs.Arrays.{names_in, points_in, ranks_in}
 use Rattle.viz_sheet.specs.Ranked.{IsCell, by_names}
 use Rattle.viz_piece_stitch.specs.Steps.Walk.{AreUnited}

@@ -1,5 +1,5 @@
 use Rattle.std.proofs.Common.{rules}
-use Rattle.viz_piece.specs.declared.request.Part.TheVariants.{Mesh}
+use Rattle.viz_parts.specs.declared.request.Part.TheVariants.{Mesh}
 use Rattle.viz_piece_stitch.proofs.KindLemmas.{all-pieces, some-of}
 use Rattle.viz_piece_stitch.proofs.stitching.is_image.Goals as goal
 

@@ -1,5 +1,5 @@
 use Rattle.std.proofs.Common.{List, subst}
-use Rattle.viz_piece.specs.declared.request.Part.{Part}
+use Rattle.viz_parts.specs.declared.request.Part.{Part}
 use Rattle.viz_piece_stitch.specs.Steps.Wholes.{ArePieces, AreSlabs}
 use Rattle.viz_piece_stitch.proofs.KindLemmas.{image-whole, mesh-whole}
 use Rattle.viz_piece_stitch.proofs.stitching.stitch.Goals as goal

@@ -1,6 +1,6 @@
 use Rattle.std.proofs.Common.{inr, refl}
 use Rattle.viz_dataset.specs.declared.dataset.Dataset.TheVariants.{Mesh}
-use Rattle.viz_piece.specs.Pieces.{in_turn}
+use Rattle.viz_parts.specs.Pieces.{in_turn}
 use Rattle.viz_piece_tests.proofs.pieces.piece_cut.Goals as goal
 
 pub returns : goal.returns

@@ -1,7 +1,7 @@
 use Rattle.std.proofs.Common.{ℕ, ◌+◌, option_to_list, subst, sym}
 use Rattle.std.specs.List.{AllZip, flat_map, range_with_len}
 use Rattle.viz_extent.specs.Slabs.{slab_of}
-use Rattle.viz_piece.specs.Pieces.{IsImageBlock}
+use Rattle.viz_parts.specs.Pieces.{IsImageBlock}
 use Rattle.viz_piece_tests.proofs.SlabLemmas.{zip-more}
 use Rattle.viz_piece_tests.proofs.slabs.slabs_in_turn.Goals as goal
 

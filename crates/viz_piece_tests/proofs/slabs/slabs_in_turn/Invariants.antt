@@ -1,7 +1,7 @@
 use Rattle.std.specs.Prelude.{option_to_list}
 use Rattle.std.specs.List.{AllZip, flat_map, range_with_len}
 use Rattle.viz_extent.specs.Slabs.{slab_of}
-use Rattle.viz_piece.specs.Pieces.{IsImageBlock}
+use Rattle.viz_parts.specs.Pieces.{IsImageBlock}
 use Rattle.viz_piece_tests.proofs.slabs.slabs_in_turn.Given as goal
 
 abbrev pub invariant-loop-p : goal.invariant-loop-p

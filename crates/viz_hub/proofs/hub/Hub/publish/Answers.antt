@@ -1,6 +1,6 @@
 use Rattle.std.proofs.Common.{◌∙◌, count_by, sym, ap}
-use Rattle.viz_core.specs.History.{network_of}
-use Rattle.viz_core.specs.Publishing.{is_stale}
+use Rattle.viz_history.specs.History.{network_of}
+use Rattle.viz_history.specs.Publishing.{is_stale}
 use Rattle.viz_hub.proofs.hub.Hub.publish.Goals as goal
 
 pub returns-clause-stale : goal.returns-clause-stale

@@ -1,0 +1,70 @@
+-- The machine of a history: what each call replies, and what the history is then (docs/DEFINITIONS.md, "Histories").
+use Rattle.std.specs.Prelude.{◌≡◌, ℕ, ◌+◌, ◌<◌, ◌≤◌, List, [], ◌∷◌, ◌++◌, length, Ok, Err}
+use Rattle.viz_parts.specs.declared.stored.Key.{Key}
+use Rattle.viz_parts.specs.declared.stored.Stored.{Stored}
+use Rattle.viz_network.specs.declared.edit.Edit.{Edit}
+use Rattle.viz_network.specs.Edits.{apply}
+use Rattle.viz_history.specs.declared.entry.Entry.{Entry}
+use Rattle.viz_history.specs.declared.entry.EditAnswer.{EditAnswer}
+use Rattle.viz_history.specs.declared.entry.EditAnswer.TheVariants.{Done, Refused, Full, Memory}
+use Rattle.viz_history.specs.declared.pinned.Pinned.{Pinned}
+use Rattle.viz_history.specs.declared.publishing.Kept.{Kept}
+use Rattle.viz_history.specs.History.{entry, network_of}
+use Rattle.viz_history.specs.Publishing.{TakesIn, all_brought}
+
+-- the history, the most entries that it may have, the most parts that may be kept, the kept parts
+-- with the most recently used first, and for how many entries there is room
+pub record State : Type 0 where
+  pub history : List Entry
+  pub limit : ℕ
+  pub capacity : ℕ
+  pub cache : List Stored
+  pub spare : ℕ
+
+-- no entry and no part
+pub record IsFirst (limit capacity : ℕ) (s : State) : Type 0 where
+  pub history : s.history ≡ []
+  pub limit_is : s.limit ≡ limit
+  pub capacity_is : s.capacity ≡ capacity
+  pub cache : s.cache ≡ []
+
+-- all is as before, and no less room
+pub record Stays (old new : State) : Type 0 where
+  pub history : new.history ≡ old.history
+  pub limit : new.limit ≡ old.limit
+  pub capacity : new.capacity ≡ old.capacity
+  pub cache : new.cache ≡ old.cache
+  pub spare : old.spare ≤ new.spare
+
+-- the history has this entry more, and there is room for one entry less at most
+pub record Gains (e : Entry) (old new : State) : Type 0 where
+  pub history : new.history ≡ old.history ++ e ∷ []
+  pub limit : new.limit ≡ old.limit
+  pub capacity : new.capacity ≡ old.capacity
+  pub cache : new.cache ≡ old.cache
+  pub spare : old.spare ≤ new.spare + 1
+
+-- what an edit of a pass, with this number among the pass's, is answered, and the state then
+abbrev pub Replies : ℕ → ℕ → Edit → State → EditAnswer → State → Type 0
+Replies pass count edit old (Done at) new = Gains (entry pass count edit) old new × (at ≡ length old.history + 1) × (length old.history < old.limit)
+    × (apply (length old.history + 1) edit (network_of old.history) ≡ Ok (network_of new.history))
+Replies pass count edit old (Refused r at) new = Stays old new × (at ≡ length old.history) × (length old.history < old.limit)
+    × (apply (length old.history + 1) edit (network_of old.history) ≡ Err r)
+Replies pass count edit old (Full at) new = Stays old new × (at ≡ old.limit) × (length old.history ≡ old.limit)
+Replies pass count edit old Memory new = Stays old new × (length old.history < old.limit)
+
+-- the number of entries, the network of the history, and all kept parts
+pub record IsPinOf (s : State) (p : Pinned) : Type 0 where
+  pub at : p.at ≡ length s.history
+  pub network : p.net ≡ network_of s.history
+  pub entries : p.entries ≡ s.cache
+
+-- the used parts go first, and then the made ones are taken in; all else is as before, no less room
+pub record Publishes (used : List Key) (made : List Stored) (old : State) (count : Kept)
+    (new : State) : Type 0 where
+  pub history : new.history ≡ old.history
+  pub limit : new.limit ≡ old.limit
+  pub capacity : new.capacity ≡ old.capacity
+  pub spare : old.spare ≤ new.spare
+  pub takes : TakesIn (network_of old.history) old.capacity made (all_brought used old.cache) count
+      new.cache
