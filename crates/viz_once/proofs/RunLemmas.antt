@@ -13,26 +13,20 @@ use Rattle.viz_once.specs.declared.outcome.Failed.{Failed}
 use Rattle.viz_once.specs.declared.outcome.Failed.TheVariants as call
 use Rattle.viz_once.specs.declared.outcome.Outcome.{Outcome}
 use Rattle.viz_once.specs.declared.outcome.Outcome.TheVariants as outcome
-use Rattle.viz_once.specs.declared.outcome.Status.{Status}
-use Rattle.viz_once.specs.declared.outcome.Status.TheVariants as status
-use Rattle.viz_once.specs.Account.{Deed, Nothing, Asked, Answered, calls_of, EndsUnwritten, EndsIn, Serves, Settles, IsPut, IsTold, HasFailed}
+use Rattle.viz_once.specs.Account.{Deed, Nothing, Asked, Answered, calls_of, EndsUnwritten, EndsIn, Serves}
 use Rattle.viz_once.specs.Causes.{IsCause}
 use Rattle.viz_once.specs.Command.{Command}
 use Rattle.viz_once.specs.Outputs.{cells_made, points_made}
-use Rattle.viz_once.specs.Promises.{LacksPort, IsScript, IsDone, IsRefused, TellsCauses, IsFault, FirstDid, FirstAnswered, GainsLine, fault_line}
-use Rattle.viz_once.specs.Report.{line_of}
+use Rattle.viz_once.specs.Promises.{LacksPort, IsScript, IsDone, IsRefused, TellsCauses, IsFault, FirstDid, FirstAnswered, fault_line}
+use Rattle.viz_once.specs.Report.{line_of, telling_of}
+use Rattle.viz_told.specs.declared.status.Status.{Status}
+use Rattle.viz_told.specs.declared.status.Status.TheVariants as status
+use Rattle.viz_told.specs.Calls.{HasFailed}
+use Rattle.viz_told.specs.Puts.{GainsLine}
+use Rattle.viz_told.specs.Told.{IsPut, IsTold}
+use Rattle.viz_told.proofs.ToldLemmas.{Answer, is_no_done, is_no_script, is_no_refused, is_no_fault, gains, puts, ends_in_script, told_at}
 use Rattle.viz_once.proofs.CauseLemmas.{one_cause}
-use Rattle.viz_once.proofs.EndLemmas.{Answer, told_at, found_is, puts_or_breaks, portless_ends, refused_ends}
-
--- the line of what was told, where the put was answered by Ok
-line_is : {O : Type 0} (m : out.Ghosts O) (told o : Outcome) (a : Answer) (old new : O) → IsPut m told a old new → told ≡ o → a ≡ Ok tt → GainsLine m (line_of o) old new
-line_is m told o a old new put is ok =
-    let p : IsPut m o (Ok tt) old new = subst (λ (b : Answer). IsPut m o b old new) ok (subst (λ (x : Outcome). IsPut m x a old new) is put) in
-    p.text
-
--- the same of an equal outcome
-as_told : {O : Type 0} (m : out.Ghosts O) (told o : Outcome) (old new : O) → GainsLine m (line_of told) old new → told ≡ o → GainsLine m (line_of o) old new
-as_told m told o old new lines is = subst (λ (x : Outcome). GainsLine m (line_of x) old new) is lines
+use Rattle.viz_once.proofs.EndLemmas.{ToldBy, told_by, refused_ends}
 
 -- ---- what a served command did, by its outcome
 
@@ -69,7 +63,7 @@ refused_deed c (Answered bytes d write.Written) cause h = absurd (let e : outcom
 refused_deed c (Answered bytes d write.Failed) cause h = absurd (let e : outcome.Refused cause ≡ outcome.Fault call.Write = h.1 in cc)
 
 -- the deed of a failed call
-failed_deed : (c : Command) (deed : Deed) (failed : Failed) → EndsIn c deed (outcome.Fault failed) → HasFailed deed × (line_of (outcome.Fault failed) ≡ fault_line deed)
+failed_deed : (c : Command) (deed : Deed) (failed : Failed) → EndsIn c deed (outcome.Fault failed) → HasFailed (calls_of c deed) × (line_of (outcome.Fault failed) ≡ fault_line deed)
 failed_deed c Nothing failed h = absurd (let e : outcome.Fault failed ≡ outcome.Memory = h in cc)
 failed_deed c (Asked (read.Given bytes)) failed h = absurd (elim h [
   | inl e ↦ let bad : outcome.Fault failed ≡ outcome.Memory = e in cc
@@ -116,51 +110,60 @@ module _ {P : Type 0} (m : port.Ghosts P) where
   served (Some c) o (p ∷ ps) (q ∷ qs) h no_usage no_lack = (c, h.0.0, refl, h.0.1, (h.0.2, h.1))
 
   module _ {O : Type 0} (l : out.Ghosts O) (words : Option Command) (old new : List P) (before after : O) (found : Outcome) (ended : Status)
-      (serves : Serves m words found old new) (told : IsTold l found ended before after) where
-    told_as : (o : Outcome) → told.0 ≡ o → (outcome.Memory ≡ o → ⊥) → Serves m words o old new
-    told_as o is apart = subst (λ (x : Outcome). Serves m words x old new) (found_is found told.0 o told.2 is apart) serves
+      (serves : Serves m words found old new) (told : IsTold l (telling_of found) ended before after) where
+    serves_as : (o : Outcome) → found ≡ o → Serves m words o old new
+    serves_as o is = subst (λ (x : Outcome). Serves m words x old new) is serves
+
+    put_as : (o : Outcome) (a : Answer) → found ≡ o → IsPut l (line_of found) a before after → IsPut l (line_of o) a before after
+    put_as o a is put = subst (λ (x : Outcome). IsPut l (line_of x) a before after) is put
+
+    -- what was found and put, by a status that is known
+    at : (known : Status) → ended ≡ known → (status.Memory ≡ known → ⊥) → (a : Answer) × ToldBy found a known × IsPut l (line_of found) a before after
+    at known is apart = told_at l before after ended (telling_of found) (ToldBy found) (told_by found) known told is apart
 
     pub script-Run : IsScript l words old before after ended
     script-Run = record {
       only = λ is.
-          let w = told_at told.0 told.1 ended status.Script told.3 is in
-          let o : Outcome = outcome.NoPort in (
-            lacks words old new (told_as o w.0 (λ e. let bad : (let x : Outcome = outcome.Memory in x) ≡ outcome.NoPort = e in cc)),
-            puts_or_breaks l before after o told.1 w.1 (subst (λ (x : Outcome). IsPut l x told.1 before after) w.0 told.4),
-          );
+          let w = at status.Script is is_no_script in
+          let o : Outcome = outcome.NoPort in
+          (lacks words old new (serves_as o w.1.0), puts l (line_of o) before after w.0 w.1.1 (put_as o w.0 w.1.0 w.2));
       comes = λ lack.
-          portless_ends l before after told.0 told.1 ended
-          (subst (λ (x : Outcome). Settles x told.0) (found_portless words found old new lack serves) told.2) told.3 told.4;
+          ends_in_script l before after ended (telling_of outcome.NoPort) refl
+          (subst (λ (x : Outcome). IsTold l (telling_of x) ended before after) (found_portless words found old new lack serves) told);
     }
 
     pub done-Run : ended ≡ status.Done → IsDone m l words old new before after
     done-Run is =
-        let w = told_at told.0 told.1 ended status.Done told.3 is in
-        let o = outcome.Written w.0 w.1 in
-        let s = served words o old new (told_as o w.2 (λ e. cc)) (λ e. cc) (λ e. cc) in
-        let d = written_deed s.0 s.1 w.0 w.1 s.3 in
-        let ends = d.3.1 in
-        let lines = line_is l told.0 o told.1 before after told.4 w.2 w.3 in
-        (s.0, d.0, d.1, s.2, d.3.0, subst (λ (x : Deed). FirstDid m s.0 x old new) d.2 s.4, as_told l o (outcome.Written (cells_made s.0.filter d.1) (points_made s.0.filter d.1)) before after lines ends)
+        let w = at status.Done is is_no_done in
+        let t = w.1 in
+        let o = outcome.Written t.0 t.1 in
+        let s = served words o old new (serves_as o t.2) (λ e. cc) (λ e. cc) in
+        let d = written_deed s.0 s.1 t.0 t.1 s.3 in
+        let ends : o ≡ outcome.Written (cells_made s.0.filter d.1) (points_made s.0.filter d.1) = d.3.1 in
+        let lines = gains l (line_of o) before after w.0 t.3 (put_as o w.0 t.2 w.2) in
+        (s.0, d.0, d.1, s.2, d.3.0, subst (λ (x : Deed). FirstDid m s.0 x old new) d.2 s.4, subst (λ (x : Outcome). GainsLine l (line_of x) before after) ends lines)
 
     pub refused-Run : ended ≡ status.Refused → IsRefused m l words old new before after
     refused-Run is =
-        let w = told_at told.0 told.1 ended status.Refused told.3 is in
-        let o = outcome.Refused w.0 in
-        let s = served words o old new (told_as o w.1 (λ e. cc)) (λ e. cc) (λ e. cc) in
-        let d = refused_deed s.0 s.1 w.0 s.3 in
-        (s.0, d.0, w.0, s.2, d.2, subst (λ (x : Deed). FirstDid m s.0 x old new) d.1 s.4, line_is l told.0 o told.1 before after told.4 w.1 w.2)
+        let w = at status.Refused is is_no_refused in
+        let t = w.1 in
+        let o = outcome.Refused t.0 in
+        let s = served words o old new (serves_as o t.1) (λ e. cc) (λ e. cc) in
+        let d = refused_deed s.0 s.1 t.0 s.3 in
+        (s.0, d.0, t.0, s.2, d.2, subst (λ (x : Deed). FirstDid m s.0 x old new) d.1 s.4, gains l (line_of o) before after w.0 t.2 (put_as o w.0 t.1 w.2))
 
     pub fault-Run : ended ≡ status.Fault → IsFault m l words old new before after
-    fault-Run is = elim (told_at told.0 told.1 ended status.Fault told.3 is) [
-      | inl w ↦
-          let o = outcome.Fault w.0 in
-          let s = served words o old new (told_as o w.1 (λ e. cc)) (λ e. cc) (λ e. cc) in
-          let d = failed_deed s.0 s.1 w.0 s.3 in
-          let lines = line_is l told.0 o told.1 before after told.4 w.1 w.2 in
-          inl (s.0, s.1, s.2, d.0, s.4, λ t. lines t ∙ ap (λ (x : List ℕ). l.text before ++ x) d.1)
-      | inr failed ↦ inr (told.4.cause failed)
-    ]
+    fault-Run is =
+        let w = at status.Fault is is_no_fault in
+        elim w.1 [
+          | inl t ↦
+              let o = outcome.Fault t.0 in
+              let s = served words o old new (serves_as o t.1) (λ e. cc) (λ e. cc) in
+              let d = failed_deed s.0 s.1 t.0 s.3 in
+              let lines = gains l (line_of o) before after w.0 t.2 (put_as o w.0 t.1 w.2) in
+              inl (s.0, s.1, s.2, d.0, s.4, λ told. lines told ∙ ap (λ (x : List ℕ). l.text before ++ x) d.1)
+          | inr failed ↦ inr (w.2.cause failed)
+        ]
 
 -- ---- where a cause holds
 
@@ -189,7 +192,7 @@ module _ {P : Type 0} (m : port.Ghosts P) where
       refused_or_memory c answer cause o is (subst (λ (d : Deed). EndsIn c d o) (asked_deed c deed answer same) h.0.1)
 
   pub refuses-Run : {O : Type 0} (l : out.Ghosts O) (words : Option Command) (old new : List P) (before after : O) (found : Outcome) (ended : Status)
-      → Serves m words found old new → IsTold l found ended before after → TellsCauses m l words old new before after ended
+      → Serves m words found old new → IsTold l (telling_of found) ended before after → TellsCauses m l words old new before after ended
   refuses-Run l words old new before after found ended serves told = λ c answer cause e is tells asked.
-      let found_so = refused_at c answer cause found old new is tells asked (subst (λ (w : Option Command). Serves m w found old new) e serves) in
-      refused_ends l cause before after found told.0 told.1 ended found_so told.2 told.3 told.4
+      refused_ends l cause before after ended found
+      (refused_at c answer cause found old new is tells asked (subst (λ (w : Option Command). Serves m w found old new) e serves)) told

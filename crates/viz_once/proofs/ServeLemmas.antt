@@ -9,9 +9,10 @@ use Rattle.viz_base.specs.declared.call.Call.TheVariants.{Read, Write}
 use Rattle.viz_base.specs.declared.call.ReadAnswer.TheVariants as read
 use Rattle.viz_base.specs.declared.call.WriteAnswer.{WriteAnswer}
 use Rattle.viz_dataset.specs.declared.dataset.Dataset.{Dataset}
-use Rattle.viz_once.specs.Account.{Asked, Answered, IsDoneAt, HasFailed, LeavesText}
+use Rattle.viz_once.specs.Account.{Asked, Answered, calls_of}
 use Rattle.viz_once.specs.Command.{Command}
 use Rattle.viz_once.specs.Outputs.{output_text}
+use Rattle.viz_told.specs.Calls.{LeavesText, HasFailed, IsCalled}
 
 -- a count that rose after it was no lower rose
 pub rose_after : (a b c : ℕ) → a ≤ b → Rose b c → Rose a c
@@ -32,8 +33,8 @@ module _ {P : Type 0} (m : port.Ghosts P) (c : Command) (p r q : P) (bytes : Lis
       → (IsTrue m.tells_calls → m.calls q ≡ m.calls r ++ Write c.output text answer ∷ [])
       → (IsTrue m.tells_files → LeavesText c.output text answer (m.files q))
       → (IsTrue m.tells_files → SameOthers c.output (m.files r) (m.files q))
-      → (HasFailed (Answered bytes d answer) → Rose (m.faults r) (m.faults q))
-      → IsDoneAt m c (Answered bytes d answer) p q
+      → (HasFailed (calls_of c (Answered bytes d answer)) → Rose (m.faults r) (m.faults q))
+      → IsCalled m (calls_of c (Answered bytes d answer)) p q
   written d answer text is told left others failed = record {
     calls = λ t.
         told t
@@ -49,7 +50,7 @@ module _ {P : Type 0} (m : port.Ghosts P) (c : Command) (p r q : P) (bytes : Lis
   -- a write for which memory ran out
   pub unwritten : (IsTrue m.tells_calls → m.calls q ≡ m.calls r ++ [])
       → (IsTrue m.tells_files → SameFiles (m.files r) (m.files q))
-      → IsDoneAt m c (Asked (read.Given bytes)) p q
+      → IsCalled m (calls_of c (Asked (read.Given bytes))) p q
   unwritten told left = record {
     calls = λ t. told t ∙ append-nil (m.calls r) ∙ asked t;
     files = λ t. (given t, λ name. left t name ∙ kept t name);
