@@ -12,25 +12,25 @@ use Rattle.viz_once.specs.Report.{refused_line, status_of, telling_of}
 use Rattle.viz_told.specs.declared.status.Status.{Status}
 use Rattle.viz_told.specs.declared.status.Status.TheVariants as status
 use Rattle.viz_told.specs.Told.{status_after, IsPut, IsTold}
-use Rattle.viz_told.proofs.ToldLemmas.{Answer, no_memory, failed_is_no_memory, in_its_place, ends_in_memory}
+use Rattle.viz_told.proofs.ToldLemmas.{Answer, in_its_place, ends_in_memory}
 
 -- what was found, and what the put answered, by the status
 abbrev pub ToldBy : Outcome → Answer → Status → Type 0
 ToldBy o a status.Done = (cells : ℕ) × (points : ℕ) × (o ≡ outcome.Written cells points) × (a ≡ Ok tt)
 ToldBy o a status.Refused = (cause : Cause) × (o ≡ outcome.Refused cause) × (a ≡ Ok tt)
-ToldBy o a status.Script = (o ≡ outcome.NoPort) × (a ≡ Err writing.Memory → ⊥)
+ToldBy o a status.Script = o ≡ outcome.NoPort
 ToldBy o a status.Fault = ((failed : Failed) × (o ≡ outcome.Fault failed) × (a ≡ Ok tt)) ⊎ (a ≡ Err writing.Failed)
 ToldBy o a ended = Unit {0}
 
 pub told_by : (o : Outcome) (a : Answer) → ToldBy o a (status_after (status_of o) a)
 told_by outcome.Usage (Ok done) = tt
-told_by outcome.NoPort (Ok done) = (refl, no_memory)
+told_by outcome.NoPort (Ok done) = refl
 told_by (outcome.Written cells points) (Ok done) = (cells, points, refl, refl)
 told_by (outcome.Refused cause) (Ok done) = (cause, refl, refl)
 told_by (outcome.Fault failed) (Ok done) = inl (failed, refl, refl)
 told_by outcome.Memory (Ok done) = tt
 told_by outcome.Usage (Err writing.Failed) = tt
-told_by outcome.NoPort (Err writing.Failed) = (refl, failed_is_no_memory)
+told_by outcome.NoPort (Err writing.Failed) = refl
 told_by (outcome.Written cells points) (Err writing.Failed) = inr refl
 told_by (outcome.Refused cause) (Err writing.Failed) = inr refl
 told_by (outcome.Fault failed) (Err writing.Failed) = inr refl

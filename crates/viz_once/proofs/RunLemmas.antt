@@ -22,9 +22,9 @@ use Rattle.viz_once.specs.Report.{line_of, telling_of}
 use Rattle.viz_told.specs.declared.status.Status.{Status}
 use Rattle.viz_told.specs.declared.status.Status.TheVariants as status
 use Rattle.viz_told.specs.Calls.{HasFailed}
-use Rattle.viz_told.specs.Puts.{GainsLine}
+use Rattle.viz_told.specs.Puts.{GainsLine, PutsOrBreaks}
 use Rattle.viz_told.specs.Told.{IsPut, IsTold}
-use Rattle.viz_told.proofs.ToldLemmas.{Answer, is_no_done, is_no_script, is_no_refused, is_no_fault, gains, puts, ends_in_script, told_at}
+use Rattle.viz_told.proofs.ToldLemmas.{Answer, is_no_done, is_no_script, is_no_refused, is_no_fault, usage_is_no_script, gains, ends_in_script, told_at, puts_at}
 use Rattle.viz_once.proofs.CauseLemmas.{one_cause}
 use Rattle.viz_once.proofs.EndLemmas.{ToldBy, told_by, refused_ends}
 
@@ -124,9 +124,11 @@ module _ {P : Type 0} (m : port.Ghosts P) where
     pub script-Run : IsScript l words old before after ended
     script-Run = record {
       only = λ is.
-          let w = at status.Script is is_no_script in
           let o : Outcome = outcome.NoPort in
-          (lacks words old new (serves_as o w.1.0), puts l (line_of o) before after w.0 w.1.1 (put_as o w.0 w.1.0 w.2));
+          let same : found ≡ o = (at status.Script is is_no_script).1 in (
+            lacks words old new (serves_as o same),
+            subst (λ (x : Outcome). PutsOrBreaks l (line_of x) before after) same (puts_at l before after ended (telling_of found) status.Script told is is_no_script usage_is_no_script),
+          );
       comes = λ lack.
           ends_in_script l before after ended (telling_of outcome.NoPort) refl
           (subst (λ (x : Outcome). IsTold l (telling_of x) ended before after) (found_portless words found old new lack serves) told);

@@ -1,6 +1,5 @@
 -- Values counted by hand, which pin the definitions: the statuses of docs/FORMATS.md, "Report", and the fixed lines.
-use Rattle.std.specs.Prelude.{◌≡◌, List, [], ◌∷◌, codes, map, length, Result, Ok, Err, refl}
-use Rattle.viz_base.specs.declared.refusal.WriteRefusal.{WriteRefusal}
+use Rattle.std.specs.Prelude.{◌≡◌, List, [], ◌∷◌, map, length, Err, refl}
 use Rattle.viz_base.specs.declared.refusal.WriteRefusal.TheVariants as writing
 use Rattle.viz_told.specs.declared.status.Status.{Status}
 use Rattle.viz_told.specs.declared.status.Status.TheVariants.{Done, Usage, Script, Refused, Fault, Memory}

@@ -1,6 +1,5 @@
 -- What the status of a run says of what was told.
 use Rattle.std.proofs.Common.{◌≡◌, List, ℕ, Result, Ok, Err, refl, sym, subst, ◌∙◌, inl, inr}
-use Rattle.std.specs.Prelude.{◌⊎◌}
 use Rattle.viz_base.specs.declared.out.Out as out
 use Rattle.viz_base.specs.declared.refusal.WriteRefusal.{WriteRefusal}
 use Rattle.viz_base.specs.declared.refusal.WriteRefusal.TheVariants as writing
@@ -34,6 +33,12 @@ is_no_refused e = let bad : status.Memory ≡ status.Refused = e in cc
 pub is_no_fault : status.Memory ≡ status.Fault → ⊥
 is_no_fault e = let bad : status.Memory ≡ status.Fault = e in cc
 
+pub usage_is_no_script : status.Usage ≡ status.Script → ⊥
+usage_is_no_script e = let bad : status.Usage ≡ status.Script = e in cc
+
+pub usage_is_no_fault : status.Usage ≡ status.Fault → ⊥
+usage_is_no_fault e = let bad : status.Usage ≡ status.Fault = e in cc
+
 -- ---- the text
 
 module _ {O : Type 0} (m : out.Ghosts O) (text : List ℕ) (old new : O) where
@@ -46,6 +51,17 @@ module _ {O : Type 0} (m : out.Ghosts O) (text : List ℕ) (old new : O) where
   puts (Err writing.Memory) apart put = absurd (apart refl)
 
 -- ---- the status
+
+-- where memory ran out at the put the status is Memory or Usage
+answered : (s : Status) (a : Answer) → (status.Memory ≡ status_after s a → ⊥) → (status.Usage ≡ status_after s a → ⊥) → a ≡ Err writing.Memory → ⊥
+answered s (Ok done) apart other = no_memory
+answered s (Err writing.Failed) apart other = failed_is_no_memory
+answered status.Usage (Err writing.Memory) apart other = λ _. other refl
+answered status.Done (Err writing.Memory) apart other = λ _. apart refl
+answered status.Script (Err writing.Memory) apart other = λ _. apart refl
+answered status.Refused (Err writing.Memory) apart other = λ _. apart refl
+answered status.Fault (Err writing.Memory) apart other = λ _. apart refl
+answered status.Memory (Err writing.Memory) apart other = λ _. apart refl
 
 -- want of memory ends in its status, whatever the put answers
 memory_after : (a : Answer) → status_after status.Memory a ≡ status.Memory
@@ -86,3 +102,11 @@ module _ {O : Type 0} (m : out.Ghosts O) (old new : O) (ended : Status) where
   told_at t R by known told is apart =
       let found = told_as t known told is apart in
       (found.0, subst (R found.0) (sym found.1 ∙ is) (by found.0), found.2)
+
+  -- where the status is neither Memory nor Usage, the text was put, unless the put failed
+  pub puts_at : (t : Telling) (known : Status) → IsTold m t ended old new → ended ≡ known → (status.Memory ≡ known → ⊥) → (status.Usage ≡ known → ⊥)
+      → PutsOrBreaks m t.text old new
+  puts_at t known told is apart other =
+      let found = told_as t known told is apart in
+      let same : known ≡ status_after t.status found.0 = sym is ∙ found.1 in
+      puts m t.text old new found.0 (answered t.status found.0 (λ e. apart (e ∙ sym same)) (λ e. other (e ∙ sym same))) found.2
