@@ -17,7 +17,7 @@ use Rattle.viz_told.proofs.ToldLemmas.{Answer, is_no_done, is_no_usage, is_no_sc
 use Rattle.viz_make.specs.declared.came.Came.{Came}
 use Rattle.viz_make.specs.declared.came.Came.TheVariants as came
 use Rattle.viz_make.specs.declared.made.Made.{Made}
-use Rattle.viz_make.specs.Make.{Make, IsMade, IsClosed, written, EndsIn, IsRan}
+use Rattle.viz_make.specs.Make.{Make, IsMade, IsClosed, written, IsEndOfMaking, IsRan}
 use Rattle.viz_make.specs.Told.{text_of, status_of, telling_of}
 use Rattle.viz_make.specs.Promises.{FirstWrote, TellsRefusals, IsDone, IsScript, IsFault}
 
@@ -48,18 +48,18 @@ told_by came.Memory (Err writing.Memory) = tt
 -- ---- what was done, by how the run ended
 
 module _ (c : Make) where
-  ends_written : (answer : Option WriteAnswer) (made : Made) → EndsIn c answer (came.Written made)
+  ends_written : (answer : Option WriteAnswer) (made : Made) → IsEndOfMaking c answer (came.Written made)
       → (answer ≡ Some write.Written) × IsMade c made × IsClosed made
   ends_written None made h = absurd h
   ends_written (Some write.Written) made h = (refl, h.0, h.1)
   ends_written (Some write.Failed) made h = absurd h
 
-  ends_unwritten : (answer : Option WriteAnswer) → EndsIn c answer came.Unwritten → answer ≡ Some write.Failed
+  ends_unwritten : (answer : Option WriteAnswer) → IsEndOfMaking c answer came.Unwritten → answer ≡ Some write.Failed
   ends_unwritten None h = absurd h
   ends_unwritten (Some write.Written) h = absurd h
   ends_unwritten (Some write.Failed) h = refl
 
-  never_no_port : (answer : Option WriteAnswer) → EndsIn c answer came.NoPort → ⊥
+  never_no_port : (answer : Option WriteAnswer) → IsEndOfMaking c answer came.NoPort → ⊥
   never_no_port None h = h
   never_no_port (Some write.Written) h = h
   never_no_port (Some write.Failed) h = h

@@ -59,14 +59,14 @@ written c None = []
 written c (Some answer) = Write c.output (text_of c) answer ∷ []
 
 -- how a run ended whose write was answered so
-abbrev pub EndsIn : Make → Option WriteAnswer → Came → Type 0
-EndsIn c (Some write.Written) (came.Written made) = IsMade c made × IsClosed made
-EndsIn c (Some write.Failed) came.Unwritten = Unit {0}
-EndsIn c None came.Memory = Unit {0}
-EndsIn c answer ended = ⊥
+abbrev pub IsEndOfMaking : Make → Option WriteAnswer → Came → Type 0
+IsEndOfMaking c (Some write.Written) (came.Written made) = IsMade c made × IsClosed made
+IsEndOfMaking c (Some write.Failed) came.Unwritten = Unit {0}
+IsEndOfMaking c None came.Memory = Unit {0}
+IsEndOfMaking c answer ended = ⊥
 
 -- the first port was used so, and all others are as before; where there is none nothing is done
 abbrev pub IsRan : {P : Type 0} → port.Ghosts P → Make → Came → List P → List P → Type 0
 IsRan m c ended [] new = (ended ≡ came.NoPort) × (new ≡ [])
 IsRan m c ended (p ∷ ps) [] = ⊥
-IsRan m c ended (p ∷ ps) (q ∷ qs) = ((answer : Option WriteAnswer) × EndsIn c answer ended × IsCalled m (written c answer) p q) × (qs ≡ ps)
+IsRan m c ended (p ∷ ps) (q ∷ qs) = ((answer : Option WriteAnswer) × IsEndOfMaking c answer ended × IsCalled m (written c answer) p q) × (qs ≡ ps)

@@ -13,7 +13,7 @@ use Rattle.viz_once.specs.declared.outcome.Failed.{Failed}
 use Rattle.viz_once.specs.declared.outcome.Failed.TheVariants as call
 use Rattle.viz_once.specs.declared.outcome.Outcome.{Outcome}
 use Rattle.viz_once.specs.declared.outcome.Outcome.TheVariants as outcome
-use Rattle.viz_once.specs.Account.{Deed, Nothing, Asked, Answered, calls_of, EndsUnwritten, EndsIn, Serves}
+use Rattle.viz_once.specs.Account.{Deed, Nothing, Asked, Answered, calls_of, EndsUnwritten, IsOutcomeOf, Serves}
 use Rattle.viz_once.specs.Causes.{IsCause}
 use Rattle.viz_once.specs.Command.{Command}
 use Rattle.viz_once.specs.Outputs.{cells_made, points_made}
@@ -31,8 +31,8 @@ use Rattle.viz_once.proofs.EndLemmas.{ToldBy, told_by, refused_ends}
 -- ---- what a served command did, by its outcome
 
 -- the deed of a written file
-written_deed : (c : Command) (deed : Deed) (cells points : ℕ) → EndsIn c deed (outcome.Written cells points)
-    → (bytes : List ℕ) × (d : _) × (deed ≡ Answered bytes d write.Written) × EndsIn c (Answered bytes d write.Written) (outcome.Written cells points)
+written_deed : (c : Command) (deed : Deed) (cells points : ℕ) → IsOutcomeOf c deed (outcome.Written cells points)
+    → (bytes : List ℕ) × (d : _) × (deed ≡ Answered bytes d write.Written) × IsOutcomeOf c (Answered bytes d write.Written) (outcome.Written cells points)
 written_deed c Nothing cells points h = absurd (let e : outcome.Written cells points ≡ outcome.Memory = h in cc)
 written_deed c (Asked (read.Given bytes)) cells points h = absurd (elim h [
   | inl e ↦ let bad : outcome.Written cells points ≡ outcome.Memory = e in cc
@@ -44,7 +44,7 @@ written_deed c (Answered bytes d write.Written) cells points h = (bytes, d, refl
 written_deed c (Answered bytes d write.Failed) cells points h = absurd (let e : outcome.Written cells points ≡ outcome.Fault call.Write = h.1 in cc)
 
 -- the deed of a refusal
-refused_deed : (c : Command) (deed : Deed) (cause : Cause) → EndsIn c deed (outcome.Refused cause)
+refused_deed : (c : Command) (deed : Deed) (cause : Cause) → IsOutcomeOf c deed (outcome.Refused cause)
     → (answer : ReadAnswer) × (deed ≡ Asked answer) × IsCause c.filter answer cause
 refused_deed c Nothing cause h = absurd (let e : outcome.Refused cause ≡ outcome.Memory = h in cc)
 refused_deed c (Asked (read.Given bytes)) cause h = (
@@ -63,7 +63,7 @@ refused_deed c (Answered bytes d write.Written) cause h = absurd (let e : outcom
 refused_deed c (Answered bytes d write.Failed) cause h = absurd (let e : outcome.Refused cause ≡ outcome.Fault call.Write = h.1 in cc)
 
 -- the deed of a failed call
-failed_deed : (c : Command) (deed : Deed) (failed : Failed) → EndsIn c deed (outcome.Fault failed) → HasFailed (calls_of c deed) × (line_of (outcome.Fault failed) ≡ fault_line deed)
+failed_deed : (c : Command) (deed : Deed) (failed : Failed) → IsOutcomeOf c deed (outcome.Fault failed) → HasFailed (calls_of c deed) × (line_of (outcome.Fault failed) ≡ fault_line deed)
 failed_deed c Nothing failed h = absurd (let e : outcome.Fault failed ≡ outcome.Memory = h in cc)
 failed_deed c (Asked (read.Given bytes)) failed h = absurd (elim h [
   | inl e ↦ let bad : outcome.Fault failed ≡ outcome.Memory = e in cc
@@ -75,7 +75,7 @@ failed_deed c (Answered bytes d write.Written) failed h = absurd (let e : outcom
 failed_deed c (Answered bytes d write.Failed) failed h = (tt, ap line_of h.1)
 
 -- a served command has a port
-never_no_port : (c : Command) (deed : Deed) → EndsIn c deed outcome.NoPort → ⊥
+never_no_port : (c : Command) (deed : Deed) → IsOutcomeOf c deed outcome.NoPort → ⊥
 never_no_port c Nothing h = let e : (let o : Outcome = outcome.NoPort in o) ≡ outcome.Memory = h in cc
 never_no_port c (Asked (read.Given bytes)) h = elim h [
   | inl e ↦ let bad : (let o : Outcome = outcome.NoPort in o) ≡ outcome.Memory = e in cc
@@ -103,7 +103,7 @@ module _ {P : Type 0} (m : port.Ghosts P) where
 
   -- the first port served a command
   served : (words : Option Command) (o : Outcome) (old new : List P) → Serves m words o old new → (o ≡ outcome.Usage → ⊥) → (o ≡ outcome.NoPort → ⊥)
-      → (c : Command) × (deed : Deed) × (words ≡ Some c) × EndsIn c deed o × FirstDid m c deed old new
+      → (c : Command) × (deed : Deed) × (words ≡ Some c) × IsOutcomeOf c deed o × FirstDid m c deed old new
   served None o old new h no_usage no_lack = absurd (no_usage h.0)
   served (Some c) o [] new h no_usage no_lack = absurd (no_lack h.0)
   served (Some c) o (p ∷ ps) [] h no_usage no_lack = absurd h
@@ -191,7 +191,7 @@ module _ {P : Type 0} (m : port.Ghosts P) where
   refused_at c answer cause o (p ∷ ps) (q ∷ qs) is tells asked h =
       let deed = h.0.0 in
       let same : calls_of c deed ≡ Read c.input answer ∷ [] = append_cancel_left (m.calls p) (calls_of c deed) (Read c.input answer ∷ []) (sym (h.0.2.calls tells) ∙ asked.0) in
-      refused_or_memory c answer cause o is (subst (λ (d : Deed). EndsIn c d o) (asked_deed c deed answer same) h.0.1)
+      refused_or_memory c answer cause o is (subst (λ (d : Deed). IsOutcomeOf c d o) (asked_deed c deed answer same) h.0.1)
 
   pub refuses-Run : {O : Type 0} (l : out.Ghosts O) (words : Option Command) (old new : List P) (before after : O) (found : Outcome) (ended : Status)
       → Serves m words found old new → IsTold l (telling_of found) ended before after → TellsCauses m l words old new before after ended

@@ -60,14 +60,14 @@ EndsWritten c d write.Written o = o ≡ outcome.Written (cells_made c.filter d) 
 EndsWritten c d write.Failed o = o ≡ outcome.Fault call.Write
 
 -- the outcome of a command that did this
-abbrev pub EndsIn : Command → Deed → Outcome → Type 0
-EndsIn c Nothing o = o ≡ outcome.Memory
-EndsIn c (Asked answer) o = EndsUnwritten c answer o
-EndsIn c (Answered bytes d answer) o = IsInput c bytes d × EndsWritten c d answer o
+abbrev pub IsOutcomeOf : Command → Deed → Outcome → Type 0
+IsOutcomeOf c Nothing o = o ≡ outcome.Memory
+IsOutcomeOf c (Asked answer) o = EndsUnwritten c answer o
+IsOutcomeOf c (Answered bytes d answer) o = IsInput c bytes d × EndsWritten c d answer o
 
 -- a port served a command, with this outcome
 abbrev pub IsServed : {P : Type 0} → port.Ghosts P → Command → Outcome → P → P → Type 0
-IsServed m c o old new = (deed : Deed) × EndsIn c deed o × IsCalled m (calls_of c deed) old new
+IsServed m c o old new = (deed : Deed) × IsOutcomeOf c deed o × IsCalled m (calls_of c deed) old new
 
 -- the first port served the command of the words, and all other ports are as before
 abbrev pub Serves : {P : Type 0} → port.Ghosts P → Option Command → Outcome → List P → List P → Type 0

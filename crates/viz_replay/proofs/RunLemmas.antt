@@ -25,7 +25,7 @@ use Rattle.viz_told.specs.Told.{status_at_fault, status_at_memory, status_after,
 use Rattle.viz_told.proofs.ToldLemmas.{Answer, is_no_done, is_no_usage, is_no_script, is_no_refused, is_no_fault, usage_is_no_script, usage_is_no_fault, gains, ends_in_memory, ends_in_script, told_at, puts_at}
 use Rattle.viz_replay.specs.declared.came.Came.{Came}
 use Rattle.viz_replay.specs.declared.came.Came.TheVariants as came
-use Rattle.viz_replay.specs.Replay.{Replay, asked, IsRefusal, IsUpdated, EndsIn, IsRan}
+use Rattle.viz_replay.specs.Replay.{Replay, asked, IsRefusal, IsUpdated, IsEndOfReplay, IsRan}
 use Rattle.viz_replay.specs.Told.{line_of, update_status, status_of, telling_of}
 use Rattle.viz_replay.specs.Promises.{IsUpdatedFrom, IsDone, IsRefused, IsScript, TellsRefusals, IsFault}
 
@@ -90,26 +90,26 @@ told_by came.Memory (Err writing.Memory) = tt
 -- ---- what was done, by how the run ended
 
 module _ {P : Type 0} (m : port.Ghosts P) (c : Replay) (old new : List P) where
-  updated : (answer : Option ReadAnswer) (l : Line) → EndsIn m c answer (came.Updated l) old new
+  updated : (answer : Option ReadAnswer) (l : Line) → IsEndOfReplay m c answer (came.Updated l) old new
       → (bytes : List ℕ) × (answer ≡ Some (read.Given bytes)) × ((entries : List JournalEntry) × (journal_of bytes ≡ Ok entries) × IsUpdated m c entries l old new)
   updated None l h = absurd h
   updated (Some read.Failed) l h = absurd h
   updated (Some (read.TooLong taken)) l h = absurd h
   updated (Some (read.Given bytes)) l h = (bytes, refl, h)
 
-  unread : (answer : Option ReadAnswer) → EndsIn m c answer came.Unread old new → (answer ≡ Some read.Failed) × (new ≡ old)
+  unread : (answer : Option ReadAnswer) → IsEndOfReplay m c answer came.Unread old new → (answer ≡ Some read.Failed) × (new ≡ old)
   unread None h = absurd h
   unread (Some read.Failed) h = (refl, h)
   unread (Some (read.TooLong taken)) h = absurd h
   unread (Some (read.Given bytes)) h = absurd h
 
-  no_port : (answer : Option ReadAnswer) → EndsIn m c answer came.NoPort old new → (answer ≡ None) × ((old ≡ []) × (new ≡ []))
+  no_port : (answer : Option ReadAnswer) → IsEndOfReplay m c answer came.NoPort old new → (answer ≡ None) × ((old ≡ []) × (new ≡ []))
   no_port None h = (refl, h)
   no_port (Some read.Failed) h = absurd h
   no_port (Some (read.TooLong taken)) h = absurd h
   no_port (Some (read.Given bytes)) h = absurd h
 
-  refused_journal : (answer : Option ReadAnswer) (n : ℕ) (r : ScriptRefusal) → EndsIn m c answer (came.Refused n r) old new
+  refused_journal : (answer : Option ReadAnswer) (n : ℕ) (r : ScriptRefusal) → IsEndOfReplay m c answer (came.Refused n r) old new
       → (a : ReadAnswer) × (answer ≡ Some a) × IsRefusal a n r × (new ≡ old)
   refused_journal None n r h = absurd h
   refused_journal (Some read.Failed) n r h = (read.Failed, refl, h.0, h.1)
@@ -132,7 +132,7 @@ module _ {P : Type 0} (m : port.Ghosts P) (c : Replay) (old new : List P) where
   abbrev EndsRefused : ℕ → ScriptRefusal → Came → Type 0
   EndsRefused line why found = (new ≡ old) × ((found ≡ came.Memory) ⊎ (found ≡ came.Refused line why))
 
-  refused_or_memory : (answer : ReadAnswer) (line : ℕ) (why : ScriptRefusal) (found : Came) → IsRefusal answer line why → EndsIn m c (Some answer) found old new → EndsRefused line why found
+  refused_or_memory : (answer : ReadAnswer) (line : ℕ) (why : ScriptRefusal) (found : Came) → IsRefusal answer line why → IsEndOfReplay m c (Some answer) found old new → EndsRefused line why found
   refused_or_memory read.Failed line why found is h = absurd is
   refused_or_memory (read.TooLong taken) line why (came.Refused l r) is h = (h.1, inr (ap₂ came.Refused (h.0.0 ∙ sym is.0) (h.0.1 ∙ sym is.1)))
   refused_or_memory (read.TooLong taken) line why came.NoPort is h = absurd h
@@ -160,8 +160,8 @@ module _ {P O : Type 0} (m : port.Ghosts P) (o : out.Ghosts O) (c : Replay) (des
   asked_is : (answer : Option ReadAnswer) → ran.0 ≡ answer → IsCalled m (asked c.journal answer) desk new_desk
   asked_is answer is = subst (λ (a : Option ReadAnswer). IsCalled m (asked c.journal a) desk new_desk) is ran.2
 
-  ends_in : (r : Came) → found ≡ r → EndsIn m c ran.0 r old new
-  ends_in r is = subst (λ (x : Came). EndsIn m c ran.0 x old new) is ran.1
+  ends_in : (r : Came) → found ≡ r → IsEndOfReplay m c ran.0 r old new
+  ends_in r is = subst (λ (x : Came). IsEndOfReplay m c ran.0 x old new) is ran.1
 
   updated_from : (l : Line) → found ≡ came.Updated l → IsUpdatedFrom m c l desk new_desk old new
   updated_from l is =
@@ -209,7 +209,7 @@ module _ {P O : Type 0} (m : port.Ghosts P) (o : out.Ghosts O) (c : Replay) (des
     journal = λ answer line why is tells one.
         let same = append_cancel_left (m.calls desk) (asked c.journal ran.0) (Read c.journal answer ∷ []) (sym (ran.2.calls tells) ∙ one) in
         let read_is = asked_is_one c.journal ran.0 answer same in
-        let f = refused_or_memory m c old new answer line why found is (subst (λ (a : Option ReadAnswer). EndsIn m c a found old new) read_is ran.1) in
+        let f = refused_or_memory m c old new answer line why found is (subst (λ (a : Option ReadAnswer). IsEndOfReplay m c a found old new) read_is ran.1) in
         (f.0, script_ends o before after ended (came.Refused line why) found refl f.1 told);
   }
 
@@ -262,7 +262,7 @@ module _ {P O : Type 0} (m : port.Ghosts P) (o : out.Ghosts O) (c : Replay) (des
       stay [] = refl
       stay (p ∷ ps) = refl
 
-  others_in : (answer : Option ReadAnswer) (r : Came) → EndsIn m c answer r old new → OthersStay old new
+  others_in : (answer : Option ReadAnswer) (r : Came) → IsEndOfReplay m c answer r old new → OthersStay old new
   others_in None came.NoPort h = same_ports old new (h.1 ∙ sym h.0)
   others_in None came.Memory h = same_ports old new h
   others_in None came.Unread h = absurd h

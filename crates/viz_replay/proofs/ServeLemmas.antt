@@ -10,7 +10,7 @@ use Rattle.viz_journal.specs.declared.entry.JournalEntry.{JournalEntry}
 use Rattle.viz_journal.specs.Reading.{journal_of}
 use Rattle.viz_replay.specs.declared.came.Came.{Came}
 use Rattle.viz_replay.specs.declared.came.Came.TheVariants as came
-use Rattle.viz_replay.specs.Replay.{Replay, asked, EndsIn}
+use Rattle.viz_replay.specs.Replay.{Replay, asked, IsEndOfReplay}
 use Rattle.viz_replay.specs.Served.{IsServed}
 use Rattle.viz_told.specs.Calls.{IsCalled}
 
@@ -27,7 +27,7 @@ asked_after m journal p r bytes told given kept later same = record {
 }
 
 pub ends_after : {P : Type 0} (m : port.Ghosts P) (c : Replay) (bytes : List ℕ) (entries : List JournalEntry) (ended : Came) (old new : List P) → journal_of bytes ≡ Ok entries
-    → IsServed m c entries ended old new → EndsIn m c (Some (read.Given bytes)) ended old new
+    → IsServed m c entries ended old new → IsEndOfReplay m c (Some (read.Given bytes)) ended old new
 ends_after m c bytes entries (came.Updated l) old new reads s = (entries, reads, s)
 ends_after m c bytes entries came.Memory old new reads s = s
 ends_after m c bytes entries came.NoPort old new reads s = absurd s

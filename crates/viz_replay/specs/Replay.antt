@@ -54,17 +54,17 @@ IsUpdated m c entries line old new =
     FirstOnly (Updates m (network_at c.count entries) (entries_at c.count entries) c.sink c.output line) old new
 
 -- how a run ended whose read was answered so, and what was done at the ports: they are called only for a journal
-abbrev pub EndsIn : {P : Type 0} → port.Ghosts P → Replay → Option ReadAnswer → Came → List P → List P → Type 0
-EndsIn m c None came.NoPort old new = (old ≡ []) × (new ≡ [])
-EndsIn m c None came.Memory old new = new ≡ old
-EndsIn m c (Some read.Failed) came.Unread old new = new ≡ old
-EndsIn m c (Some answer) (came.Refused line r) old new = IsRefusal answer line r × (new ≡ old)
-EndsIn m c (Some (read.Given bytes)) came.Memory old new = new ≡ old
-EndsIn m c (Some (read.Given bytes)) (came.Updated line) old new =
+abbrev pub IsEndOfReplay : {P : Type 0} → port.Ghosts P → Replay → Option ReadAnswer → Came → List P → List P → Type 0
+IsEndOfReplay m c None came.NoPort old new = (old ≡ []) × (new ≡ [])
+IsEndOfReplay m c None came.Memory old new = new ≡ old
+IsEndOfReplay m c (Some read.Failed) came.Unread old new = new ≡ old
+IsEndOfReplay m c (Some answer) (came.Refused line r) old new = IsRefusal answer line r × (new ≡ old)
+IsEndOfReplay m c (Some (read.Given bytes)) came.Memory old new = new ≡ old
+IsEndOfReplay m c (Some (read.Given bytes)) (came.Updated line) old new =
     (entries : List JournalEntry) × (journal_of bytes ≡ Ok entries) × IsUpdated m c entries line old new
-EndsIn m c answer ended old new = ⊥
+IsEndOfReplay m c answer ended old new = ⊥
 
 -- a run over a desk and ports; where there is no port the desk isn't used
 abbrev pub IsRan : {P : Type 0} → port.Ghosts P → Replay → Came → P → P → List P → List P → Type 0
 IsRan m c ended desk new_desk old new =
-    (answer : Option ReadAnswer) × EndsIn m c answer ended old new × IsCalled m (asked c.journal answer) desk new_desk
+    (answer : Option ReadAnswer) × IsEndOfReplay m c answer ended old new × IsCalled m (asked c.journal answer) desk new_desk

@@ -26,7 +26,7 @@ use Rattle.viz_account.specs.Account.{faults_told, RoseBy, AreActors}
 use Rattle.viz_script_run.specs.declared.ran.Ran.{Ran}
 use Rattle.viz_script_run.specs.declared.ran.Ran.TheVariants as ran
 use Rattle.viz_phases.specs.Groups.{actors_over}
-use Rattle.viz_script_run.specs.Deeds.{Deed, Nothing, Asked, Kept, IsAccounted, IsServed, EndsIn, IsRan, calls_of, is_written}
+use Rattle.viz_script_run.specs.Deeds.{Deed, Nothing, Asked, Kept, IsAccounted, IsServed, IsEndOfScript, IsRan, calls_of, is_written}
 use Rattle.viz_script_run.specs.Told.{text_of, refused_script, is_fault, has_memory, has_fault, has_refused, served_status, status_of, telling_of}
 use Rattle.viz_told.specs.declared.status.Status.{Status}
 use Rattle.viz_told.specs.declared.status.Status.TheVariants as status
@@ -110,7 +110,7 @@ told_by ran.Memory (Err writing.Memory) = tt
 -- ---- what was done, by how the run ended
 
 module _ {P : Type 0} (m : port.Ghosts P) (old new : List P) where
-  served_deed : (deed : Deed) (rows : List Row) (kept : Bool) → EndsIn m deed (ran.Served rows kept) old new
+  served_deed : (deed : Deed) (rows : List Row) (kept : Bool) → IsEndOfScript m deed (ran.Served rows kept) old new
       → (bytes : List ℕ) × (text : List ℕ) × (answer : WriteAnswer) × (deed ≡ Kept bytes text answer) × IsAccounted m bytes rows text old new × (kept ≡ is_written answer)
   served_deed Nothing rows kept h = absurd h
   served_deed (Asked read.Failed) rows kept h = absurd h
@@ -118,7 +118,7 @@ module _ {P : Type 0} (m : port.Ghosts P) (old new : List P) where
   served_deed (Asked (read.Given bytes)) rows kept h = absurd h
   served_deed (Kept bytes text answer) rows kept h = (bytes, text, answer, refl, h.0, h.1)
 
-  refused_deed : (deed : Deed) (line : ℕ) (why : ScriptRefusal) → EndsIn m deed (ran.Refused line why) old new
+  refused_deed : (deed : Deed) (line : ℕ) (why : ScriptRefusal) → IsEndOfScript m deed (ran.Refused line why) old new
       → (answer : ReadAnswer) × (deed ≡ Asked answer) × IsRefusal (actors_over old) answer line why × (new ≡ old)
   refused_deed Nothing line why h = absurd h
   refused_deed (Asked read.Failed) line why h = absurd h
@@ -126,7 +126,7 @@ module _ {P : Type 0} (m : port.Ghosts P) (old new : List P) where
   refused_deed (Asked (read.Given bytes)) line why h = (read.Given bytes, refl, h.0, h.1)
   refused_deed (Kept bytes text answer) line why h = absurd h
 
-  unread_deed : (deed : Deed) → EndsIn m deed ran.Unread old new → (deed ≡ Asked read.Failed) × (new ≡ old)
+  unread_deed : (deed : Deed) → IsEndOfScript m deed ran.Unread old new → (deed ≡ Asked read.Failed) × (new ≡ old)
   unread_deed Nothing h = absurd h
   unread_deed (Asked read.Failed) h = (refl, h)
   unread_deed (Asked (read.TooLong taken)) h = absurd h
@@ -158,7 +158,7 @@ module _ {P : Type 0} (m : port.Ghosts P) (old new : List P) where
   abbrev EndsRefused : ℕ → ScriptRefusal → Ran → Type 0
   EndsRefused line why found = (new ≡ old) × ((found ≡ ran.Memory) ⊎ (found ≡ ran.Refused line why))
 
-  refused_or_memory : (answer : ReadAnswer) (line : ℕ) (why : ScriptRefusal) (found : Ran) → IsRefusal (actors_over old) answer line why → EndsIn m (Asked answer) found old new
+  refused_or_memory : (answer : ReadAnswer) (line : ℕ) (why : ScriptRefusal) (found : Ran) → IsRefusal (actors_over old) answer line why → IsEndOfScript m (Asked answer) found old new
       → EndsRefused line why found
   refused_or_memory read.Failed line why found is h = absurd is
   refused_or_memory (read.TooLong taken) line why (ran.Refused l r) is h = (h.2, inr (ap₂ ran.Refused (h.0 ∙ sym is.0) (h.1 ∙ sym is.1)))
@@ -228,8 +228,8 @@ module _ {P O : Type 0} (m : port.Ghosts P) (o : out.Ghosts O) (script journal :
   deed_is : (deed : Deed) → came.0 ≡ deed → IsCalled m (calls_of script journal deed) desk new_desk
   deed_is deed is = subst (λ (d : Deed). IsCalled m (calls_of script journal d) desk new_desk) is came.2
 
-  ends_in : (r : Ran) → found ≡ r → EndsIn m came.0 r old new
-  ends_in r is = subst (λ (x : Ran). EndsIn m came.0 x old new) is came.1
+  ends_in : (r : Ran) → found ≡ r → IsEndOfScript m came.0 r old new
+  ends_in r is = subst (λ (x : Ran). IsEndOfScript m came.0 x old new) is came.1
 
   served_rows : (rows : List Row) (kept : Bool) → found ≡ ran.Served rows kept
       → (answer : WriteAnswer) × IsServedBy m script journal rows answer desk new_desk old new × (kept ≡ is_written answer)
@@ -274,7 +274,7 @@ module _ {P O : Type 0} (m : port.Ghosts P) (o : out.Ghosts O) (script journal :
   tells_refusals = λ answer line why is tells asked.
       let same = append_cancel_left (m.calls desk) (calls_of script journal came.0) (Read script answer ∷ []) (sym (came.2.calls tells) ∙ asked) in
       let deed = asked_deed script journal came.0 answer same in
-      let f = refused_or_memory m old new answer line why found is (subst (λ (d : Deed). EndsIn m d found old new) deed came.1) in
+      let f = refused_or_memory m old new answer line why found is (subst (λ (d : Deed). IsEndOfScript m d found old new) deed came.1) in
       (f.0, script_ends o before after ended line why found f.1 told)
 
   unread : found ≡ ran.Unread → ended ≡ status.Fault → IsUnread m o script journal desk new_desk old new before after
@@ -313,7 +313,7 @@ module _ {P O : Type 0} (m : port.Ghosts P) (o : out.Ghosts O) (script journal :
     | inr u ↦ inl (u.0.cause tt)
   ]
 
-  cut_off_in : (deed : Deed) (r : Ran) → EndsIn m deed r old new → IsCalled m (calls_of script journal deed) desk new_desk → IsCutOff m script journal desk new_desk old new
+  cut_off_in : (deed : Deed) (r : Ran) → IsEndOfScript m deed r old new → IsCalled m (calls_of script journal deed) desk new_desk → IsCutOff m script journal desk new_desk old new
   cut_off_in Nothing ran.Memory h d = inl (inl d, h)
   cut_off_in Nothing ran.Unread h d = absurd h
   cut_off_in Nothing (ran.Refused line r) h d = absurd h

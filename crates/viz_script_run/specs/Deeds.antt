@@ -70,16 +70,16 @@ is_written write.Written = true
 is_written write.Failed = false
 
 -- how a run ended that did this at the desk, and what it did at the ports: they are called only for a script
-abbrev pub EndsIn : {P : Type 0} → port.Ghosts P → Deed → Ran → List P → List P → Type 0
-EndsIn m Nothing ran.Memory old new = new ≡ old
-EndsIn m (Asked read.Failed) ran.Unread old new = new ≡ old
-EndsIn m (Asked (read.TooLong taken)) (ran.Refused line r) old new = (line ≡ 0) × (r ≡ refusal.TooLong) × (new ≡ old)
-EndsIn m (Asked (read.Given bytes)) (ran.Refused line r) old new = (script_of (actors_over old) bytes ≡ Err (line, r)) × (new ≡ old)
-EndsIn m (Asked (read.Given bytes)) ran.Memory old new = (new ≡ old) ⊎ IsServed m bytes old new
-EndsIn m (Kept bytes text answer) (ran.Served rows kept) old new = IsAccounted m bytes rows text old new × (kept ≡ is_written answer)
-EndsIn m deed came old new = ⊥
+abbrev pub IsEndOfScript : {P : Type 0} → port.Ghosts P → Deed → Ran → List P → List P → Type 0
+IsEndOfScript m Nothing ran.Memory old new = new ≡ old
+IsEndOfScript m (Asked read.Failed) ran.Unread old new = new ≡ old
+IsEndOfScript m (Asked (read.TooLong taken)) (ran.Refused line r) old new = (line ≡ 0) × (r ≡ refusal.TooLong) × (new ≡ old)
+IsEndOfScript m (Asked (read.Given bytes)) (ran.Refused line r) old new = (script_of (actors_over old) bytes ≡ Err (line, r)) × (new ≡ old)
+IsEndOfScript m (Asked (read.Given bytes)) ran.Memory old new = (new ≡ old) ⊎ IsServed m bytes old new
+IsEndOfScript m (Kept bytes text answer) (ran.Served rows kept) old new = IsAccounted m bytes rows text old new × (kept ≡ is_written answer)
+IsEndOfScript m deed came old new = ⊥
 
 -- a run of a script over a desk and ports
 abbrev pub IsRan : {P : Type 0} → port.Ghosts P → List ℕ → List ℕ → Ran → P → P → List P → List P → Type 0
 IsRan m script journal came desk new_desk old new =
-    (deed : Deed) × EndsIn m deed came old new × IsCalled m (calls_of script journal deed) desk new_desk
+    (deed : Deed) × IsEndOfScript m deed came old new × IsCalled m (calls_of script journal deed) desk new_desk

@@ -10,13 +10,13 @@ use Rattle.viz_told.specs.Calls.{IsCalled}
 use Rattle.viz_script_run.specs.declared.ran.Ran.{Ran}
 use Rattle.viz_script_run.specs.declared.ran.Ran.TheVariants as ran
 use Rattle.viz_script_run.specs.Numbering.{IsJournalBy}
-use Rattle.viz_script_run.specs.Deeds.{Asked, Kept, EndsIn, is_written}
+use Rattle.viz_script_run.specs.Deeds.{Asked, Kept, IsEndOfScript, is_written}
 
 -- how a run ended whose script has these bytes, and what it did at the desk behind the read
 abbrev pub IsRanBehind : {P : Type 0} → port.Ghosts P → List ℕ → List ℕ → Ran → P → P → List P → List P → Type 0
 IsRanBehind m bytes journal came desk new_desk old new =
-    (EndsIn m (Asked (read.Given bytes)) came old new × IsCalled m [] desk new_desk)
-    ⊎ ((text : List ℕ) × (answer : WriteAnswer) × EndsIn m (Kept bytes text answer) came old new
+    (IsEndOfScript m (Asked (read.Given bytes)) came old new × IsCalled m [] desk new_desk)
+    ⊎ ((text : List ℕ) × (answer : WriteAnswer) × IsEndOfScript m (Kept bytes text answer) came old new
     × IsCalled m (Write journal text answer ∷ []) desk new_desk)
 
 -- the rows, and whether the write was done
