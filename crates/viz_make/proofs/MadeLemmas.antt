@@ -1,5 +1,5 @@
 -- The numbers of a made volume, and its port.
-use Rattle.std.proofs.Common.{◌≡◌, ℕ, ◌+◌, ◌≤◌, List, [], ◌∷◌, ◌++◌, length, Option, None, Some, refl, sym, ap, ap₂, subst, ◌∙◌}
+use Rattle.std.proofs.Common.{◌≡◌, ℕ, ◌+◌, [], ◌∷◌, length, sym, ap, ap₂, subst, ◌∙◌}
 use Rattle.std.specs.List.{All}
 use Rattle.std.proofs.lemmas.List.Elements.{All-head}
 use Rattle.viz_extent.specs.Extent.{Bounds, IsExtent, count_of}
@@ -12,7 +12,7 @@ use Rattle.viz_sheet.specs.Sheet.{SheetData}
 use Rattle.viz_surface_law.specs.declared.audits.Counts.{Counts}
 use Rattle.viz_surface_law.specs.Surfaces.{IsSurface, by_edges}
 use Rattle.viz_surface_law.specs.Audit.{count_sides, count_two, count_lone, count_border}
-use Rattle.viz_surface_law.specs.Contours.{contour_of, triangles_of, ContoursAreSurfaces, ContourSidesAddUp, LoneSidesAreBorders}
+use Rattle.viz_surface_law.specs.Contours.{triangles_of, ContoursAreSurfaces, ContourSidesAddUp, LoneSidesAreBorders}
 use Rattle.viz_volume.specs.Narrow.{middle, VolumesAreNarrow}
 use Rattle.viz_volume.specs.Volume.{volume, volume_sum}
 use Rattle.viz_make.specs.declared.made.Made.{Made}

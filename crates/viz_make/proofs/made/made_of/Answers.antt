@@ -1,4 +1,3 @@
-use Rattle.std.proofs.Common.{◌≡◌, ◌∙◌, sym}
 use Rattle.viz_make.specs.Views.{make_of}
 use Rattle.viz_make.proofs.MadeLemmas.{narrow, is_made}
 use Rattle.viz_make.proofs.made.made_of.Goals as goal
