@@ -5,7 +5,7 @@ use Rattle.std.specs.List.{All, flat_map, list_all}
 use Rattle.std.proofs.lemmas.Bool.Decides.{nat_tests}
 use Rattle.viz_kuhn.specs.Corners.{Corner, corner, path_of}
 use Rattle.viz_kuhn.specs.Kuhn.{Row, rows}
-use Rattle.viz_facets.proofs.CubeSums.{is_in}
+use Rattle.viz_surface_law.proofs.Sharing.CubeSums.{is_in}
 
 -- three corners of a cube in ascending order, and whether the facet is run through so
 pub record Facet : Type 0 where

@@ -3,7 +3,7 @@
 ghost use Rattle.std.specs.Prelude.{◌≡◌, ◌<◌, ◌==◌, [], ◌∷◌, All};
 ghost use Rattle.std.specs.List.{list_all};
 ghost use Rattle.viz_extent.specs.Extent.{count_of};
-ghost use Rattle.viz_facets.specs.Facets.{is_on_boundary, lies_at_end, x_of, y_of, z_of};
+ghost use Rattle.viz_surface_law.specs.Facets.{is_on_boundary, lies_at_end, x_of, y_of, z_of};
 
 use viz_extent::Extent;
 
@@ -11,7 +11,7 @@ use viz_extent::Extent;
 /// grid, or all at its upper end.
 ///
 /// An axis with one index has both ends there, so that every facet of that grid lies on it.
-pub fn facet_on_boundary(whole: &Extent, corners: [u64; 3]) -> bool
+pub(crate) fn facet_on_boundary(whole: &Extent, corners: [u64; 3]) -> bool
     requires below { All (λ leaf. leaf < count_of whole.now) corners }
     ensures value { result ≡ is_on_boundary whole.now corners }
 {

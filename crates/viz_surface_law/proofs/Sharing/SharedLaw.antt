@@ -9,12 +9,12 @@ use Rattle.viz_kuhn.specs.Corners.{Corner, corner}
 use Rattle.viz_kuhn.specs.Kuhn.{Row, rows}
 use Rattle.viz_kuhn.specs.Places.{Place, place, place_of}
 use Rattle.viz_kuhn.specs.Cubes.{all_lowest, leaves_of, six_at}
-use Rattle.viz_facets.specs.Facets.{x_of, y_of, z_of, has_facet, sharing, lies_at_end, is_on_boundary}
-use Rattle.viz_facets.proofs.ListCounts.{sum_by-flat_map, sum_by-map, sum_by-same, sum_by-plus, by_test, positive}
-use Rattle.viz_facets.proofs.CubeSums.{same_place, has_at, cubes_at}
-use Rattle.viz_facets.proofs.FacetTable.{Facet, facet, flipped, facets_of, all_facets, is_chain, same_flag, same_shape, other, facets_once, at_end, is_axis, axis_law, is_apart, all_apart, Each, Each_at}
-use Rattle.viz_facets.proofs.LeafFacets.{Leaves, leaves, same_leaves}
-use Rattle.viz_facets.proofs.GridFacets.{Chain, chains, chain_tells, In, leaf_at, facet_at, ascends, same_facets, lowest_in, StandsAt, low_corner, place_again, itself, chain_flipped, three}
+use Rattle.viz_surface_law.specs.Facets.{x_of, y_of, z_of, has_facet, sharing, lies_at_end, is_on_boundary}
+use Rattle.viz_surface_law.proofs.Sharing.ListCounts.{sum_by-flat_map, sum_by-map, sum_by-same, sum_by-plus, by_test, positive}
+use Rattle.viz_surface_law.proofs.Sharing.CubeSums.{same_place, has_at, cubes_at}
+use Rattle.viz_surface_law.proofs.Sharing.FacetTable.{Facet, facet, flipped, facets_of, all_facets, is_chain, same_flag, same_shape, other, facets_once, at_end, is_axis, axis_law, is_apart, all_apart, Each, Each_at}
+use Rattle.viz_surface_law.proofs.Sharing.LeafFacets.{Leaves, leaves, same_leaves}
+use Rattle.viz_surface_law.proofs.Sharing.GridFacets.{Chain, chains, chain_tells, In, leaf_at, facet_at, ascends, same_facets, lowest_in, StandsAt, low_corner, place_again, itself, chain_flipped, three}
 
 -- whether a facet has these leaves, whichever way it is run through
 abbrev has_leaves : ℕ → ℕ → ℕ → Leaves → Bool

@@ -11,13 +11,13 @@ use Rattle.viz_extent.proofs.NumberingLemmas.{parts-of_index}
 use Rattle.viz_kuhn.specs.Corners.{Corner, corner}
 use Rattle.viz_kuhn.specs.Places.{Place, place_of, place}
 use Rattle.viz_kuhn.specs.Cubes.{HasCube, leaf_of, all_lowest, lowest_of, cubes_of}
-use Rattle.viz_facets.proofs.CubeSums.{same_place, has_at, is_in}
-use Rattle.viz_facets.proofs.FacetTable.{Facet, all_facets, is_chain, is_up, is_bits, all_chains, same_corner, same_shape, same_flag, gap, facet, flipped}
-use Rattle.viz_facets.proofs.LeafFacets.{Leaves, leaves, Ascends, same_leaves, flag-decides}
+use Rattle.viz_surface_law.proofs.Sharing.CubeSums.{same_place, has_at, is_in}
+use Rattle.viz_surface_law.proofs.Sharing.FacetTable.{Facet, all_facets, is_chain, is_up, is_bits, all_chains, same_corner, same_shape, same_flag, gap, facet, flipped}
+use Rattle.viz_surface_law.proofs.Sharing.LeafFacets.{Leaves, leaves, Ascends, same_leaves, flag-decides}
 use Rattle.std.specs.Prelude.{count_by}
 use Rattle.std.proofs.lemmas.List.{get_or_default}
 use Rattle.viz_kuhn.proofs.CubeLemmas.{length-all_lowest, numbers_each}
-use Rattle.viz_facets.specs.Facets.{x_of, y_of, z_of}
+use Rattle.viz_surface_law.specs.Facets.{x_of, y_of, z_of}
 
 -- ---- corners
 

@@ -3,7 +3,7 @@ use Rattle.std.proofs.Common.{◌≡◌, ◌≢◌, ℕ, ◌<◌, ◌==◌, Bool
 use Rattle.std.specs.Prelude.{◌⊎◌}
 use Rattle.std.specs.Bool.{Decides}
 use Rattle.std.proofs.lemmas.Bool.Decides.{Decides-like, Decides-and, Decides-eqb}
-use Rattle.viz_facets.proofs.FacetTable.{same_flag}
+use Rattle.viz_surface_law.proofs.Sharing.FacetTable.{same_flag}
 
 -- a facet by its leaves in ascending order
 pub record Leaves : Type 0 where

@@ -4,4 +4,3 @@ pub mod FacetTable
 pub mod LeafFacets
 pub mod GridFacets
 pub mod SharedLaw
-mod StandardFacts

@@ -8,7 +8,7 @@ use Rattle.viz_extent.specs.Extent.{Bounds}
 use Rattle.viz_kuhn.specs.Corners.{Corner}
 use Rattle.viz_kuhn.specs.Places.{Place, place, place_of}
 use Rattle.viz_kuhn.specs.Cubes.{cubes_x, cubes_y, cubes_z, lowest_in_row, lowest_in_layer, all_lowest}
-use Rattle.viz_facets.proofs.ListCounts.{count_by-flat_map, sum_by-map, sum_by-same, count_by-if, count_by-and}
+use Rattle.viz_surface_law.proofs.Sharing.ListCounts.{count_by-flat_map, sum_by-map, sum_by-same, count_by-if, count_by-and}
 
 -- whether an index less a step is among n from one on
 abbrev pub is_in : ℕ → ℕ → ℕ → ℕ → Bool

@@ -1,6 +1,6 @@
 //! Facets of small grids, by hand.
 
-use crate::facet_on_boundary;
+use crate::facets::facet_on_boundary;
 use std::test::Fail;
 use viz_extent::Extent;
 
