@@ -1,6 +1,6 @@
 //! Volumes by hand.
 
-use crate::generate;
+use crate::volume::generate;
 use std::test::Fail;
 use viz_extent::Extent;
 

@@ -25,8 +25,8 @@ use Rattle.viz_meaning.specs.Names.{lesser_end, greater_end, names_of}
 use Rattle.viz_meaning.specs.Narrow.{IsNarrowEdge, IsNarrowName, IsNarrowSection}
 use Rattle.viz_meaning.specs.Section.{point_of, section_cells, zero_point}
 use Rattle.viz_meaning.specs.Tetrahedra.{leaf_points, point_of_leaf, tetrahedra_sheet}
-use Rattle.viz_volume.specs.Volume.{next, value_in, values_behind, volume}
-use Rattle.viz_volume.specs.Narrow.{middle, VolumesAreNarrow}
+use Rattle.viz_make.specs.Volume.{next, value_in, values_behind, volume}
+use Rattle.viz_make.specs.NarrowVolumes.{middle, VolumesAreNarrow}
 
 -- ---- points whose numbers are bounded
 

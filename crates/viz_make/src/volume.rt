@@ -1,7 +1,7 @@
 //! The values of a volume, and its image.
 
 ghost use Rattle.std.specs.Prelude.{◌≡◌, ◌<◌, ◌^◌, IfOk, length, sum};
-ghost use Rattle.viz_volume.specs.Volume.{next, value_in, values_behind, volume, volume_sum};
+ghost use Rattle.viz_make.specs.Volume.{next, value_in, values_behind, volume, volume_sum};
 
 use std::alloc::{AllocError, Global};
 use viz_column::Column;

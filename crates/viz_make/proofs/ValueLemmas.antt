@@ -1,6 +1,6 @@
 -- Values behind a number, one by one.
 use Rattle.std.proofs.Common.{◌≡◌, ℕ, zero, suc, ◌+◌, ◌-◌, ◌<◌, List, ◌∷◌, ◌++◌, [], length, refl, ap, sym, ◌∙◌, append_assoc, arith}
-use Rattle.viz_volume.specs.Volume.{next, value_in, values_behind}
+use Rattle.viz_make.specs.Volume.{next, value_in, values_behind}
 
 pub values_length : (r n : ℕ) → length (values_behind r n) ≡ n
 values_length r zero = refl

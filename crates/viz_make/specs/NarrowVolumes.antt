@@ -4,7 +4,7 @@ use Rattle.viz_extent.specs.Extent.{Bounds, IsExtent}
 use Rattle.viz_fraction.specs.Forms.{contour_form}
 use Rattle.viz_meaning.specs.Narrow.{AreNarrowSections}
 use Rattle.viz_meaning.specs.Tetrahedra.{tetrahedra_sheet}
-use Rattle.viz_volume.specs.Volume.{volume}
+use Rattle.viz_make.specs.Volume.{volume}
 
 -- the level at which made volumes are cut: half of all values lie below it
 abbrev pub middle : ℤ

@@ -1,6 +1,6 @@
 use Rattle.std.proofs.Common.{◌≡◌, ◌-◌, ◌++◌, length}
-use Rattle.viz_volume.specs.Volume.{values_behind}
-use Rattle.viz_volume.proofs.generated.values_behind.Given as goal
+use Rattle.viz_make.specs.Volume.{values_behind}
+use Rattle.viz_make.proofs.volume.values_behind.Given as goal
 
 -- the values so far, and those that follow the number that was reached
 abbrev pub invariant-loop : goal.invariant-loop

@@ -1,5 +1,5 @@
 use Rattle.std.proofs.Common.{◌≡◌, ◌≤◌, ◌*◌, take, sum}
-use Rattle.viz_volume.proofs.generated.sum_of.Given as goal
+use Rattle.viz_make.proofs.volume.sum_of.Given as goal
 
 abbrev pub invariant-loop-value : goal.invariant-loop-value
 invariant-loop-value l = record {
