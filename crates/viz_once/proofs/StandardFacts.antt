@@ -18,7 +18,7 @@ use Rattle.viz_lex.specs.declared.fault.FileKind.TheVariants as kind
 use Rattle.viz_once.specs.declared.command.Filter.TheVariants.{Threshold, Contour}
 use Rattle.viz_once.specs.declared.outcome.Cause.TheVariants.{BadFile, WrongInput, TooWide}
 use Rattle.viz_once.specs.Causes.{fault_text}
-use Rattle.viz_once.specs.Command.{Command, number_of, file_name_of, filter_of, command_of}
+use Rattle.viz_once.specs.Command.{Command, file_name_of, filter_of, command_of}
 use Rattle.viz_once.specs.Outputs.{cube_count, contoured, output_text, cells_made, points_made}
 use Rattle.viz_once.specs.Report.{file_line, refused_line}
 
@@ -111,21 +111,21 @@ abbrev no_command : Option Command
 no_command = None
 
 once_threshold : command_of (codes "once" ∷ codes "b.vtk" ∷ codes "o.vtk" ∷ codes "threshold" ∷ codes "-2" ∷ codes "3" ∷ []) ≡ command (record { input = codes "b.vtk"; output = codes "o.vtk"; filter = Threshold (negsuc 1) (pos 3) })
-unfolding number_of file_name_of filter_of command_of
+unfolding file_name_of filter_of command_of
 once_threshold = refl
 
 once_contour : command_of (codes "once" ∷ codes "b.vtk" ∷ codes "o.vtk" ∷ codes "contour" ∷ codes "-5" ∷ []) ≡ command (record { input = codes "b.vtk"; output = codes "o.vtk"; filter = Contour (negsuc 4) })
-unfolding number_of file_name_of filter_of command_of
+unfolding file_name_of filter_of command_of
 once_contour = refl
 
 contour_takes_one_number : command_of (codes "once" ∷ codes "b.vtk" ∷ codes "o.vtk" ∷ codes "contour" ∷ codes "2" ∷ codes "3" ∷ []) ≡ no_command
-unfolding number_of file_name_of filter_of command_of
+unfolding file_name_of filter_of command_of
 contour_takes_one_number = refl
 
 plus_is_no_number : command_of (codes "once" ∷ codes "b.vtk" ∷ codes "o.vtk" ∷ codes "threshold" ∷ codes "+2" ∷ codes "3" ∷ []) ≡ no_command
-unfolding number_of file_name_of filter_of command_of
+unfolding file_name_of filter_of command_of
 plus_is_no_number = refl
 
 point_begins_no_name : command_of (codes "once" ∷ codes ".b.vtk" ∷ codes "o.vtk" ∷ codes "threshold" ∷ codes "2" ∷ codes "3" ∷ []) ≡ no_command
-unfolding number_of file_name_of filter_of command_of
+unfolding file_name_of filter_of command_of
 point_begins_no_name = refl

@@ -1,6 +1,6 @@
 use Rattle.std.proofs.Common.{sym, ◌∙◌}
 use Rattle.viz_once.proofs.CommandLemmas.{file_name-IsUtf8}
-use Rattle.viz_once.proofs.command.file_name.Goals as goal
+use Rattle.viz_once.proofs.command.file_name_text.Goals as goal
 
 pub returns-in-Err : goal.returns-in-Err
 returns-in-Err c =
