@@ -9,6 +9,7 @@ use Rattle.viz_fraction.specs.Cases.{cells_at}
 use Rattle.viz_fraction.specs.Decimals.{fixed_of}
 use Rattle.viz_fraction.specs.Divisors.{gcd}
 use Rattle.viz_fraction.specs.Points.{divisor_of, numbers}
+use Rattle.viz_kuhn.specs.Cubes.{cubes_of}
 use Rattle.viz_kuhn.specs.Kuhn.{rows}
 use Rattle.viz_image_write.specs.ImageText.{title_lines, form_line, dataset_line, dimensions_line, vector_line, origin_line, spacing_line, geometry_lines, point_data_line, array_line, table_line, header_lines, image_text}
 use Rattle.viz_sheet.specs.Sheet.{SheetData}
@@ -19,7 +20,7 @@ use Rattle.viz_once.specs.declared.command.Filter.TheVariants.{Threshold, Contou
 use Rattle.viz_once.specs.declared.outcome.Cause.TheVariants.{BadFile, WrongInput, TooWide}
 use Rattle.viz_once.specs.Causes.{fault_text}
 use Rattle.viz_once.specs.Command.{Command, file_name_of, filter_of, command_of}
-use Rattle.viz_once.specs.Outputs.{cube_count, contoured, output_text, cells_made, points_made}
+use Rattle.viz_once.specs.Outputs.{contoured, output_text, cells_made, points_made}
 use Rattle.viz_once.specs.Report.{file_line, refused_line}
 
 -- so many units, in billionths
@@ -81,7 +82,7 @@ middle_of_a_line : output_text (Contour (pos 1)) (Mesh (line_to 3 ∷ []))
 unfolding digits cells_at fixed_of gcd divisor_of form_line scalars_head mesh_titles mesh_line points_line points_text section_line section_text parts_text mesh_text contoured
 middle_of_a_line = refl
 
-single_layer : cube_count square ≡ 0
+single_layer : cubes_of square ≡ 0
 single_layer = refl
 
 cells_and_points : file_line 0 4 ≡ codes "file cells 0 points 4\n"
