@@ -11,15 +11,13 @@ use std::rt::{Env, Files};
 use std::{env, io};
 use viz_base::{ACTORS, Bytes, DirPort, FILE_LIMIT, OpenGate, Out, StdOut, WriteRefusal};
 use viz_session::{Status, run};
+use viz_told::usage_line;
 
 /// The program's name in front of the words that clap reads.
 const NAME: &str = "vizrun";
 
 /// The folder that vizrun is started in, which the empty text names too.
 const HERE: &str = ".";
-
-/// What is printed where the words can't be had.
-const USAGE: &[u8] = b"vizrun: usage\n";
 
 /// The words behind the program's own name.
 fn words<R: Env + AllocGlobal>(rt: &R) -> io::Result<Vec<String>> {
@@ -90,7 +88,7 @@ fn put_shown<O: Out>(alloc: Global, out: &mut O, text: &[u8]) -> Status {
 
 /// Puts the line of words that are no command.
 fn put_usage<O: Out>(alloc: Global, out: &mut O) -> Status {
-    let _ = out.put(alloc, USAGE);
+    let _ = out.put(alloc, usage_line());
     Status::Usage
 }
 

@@ -1,7 +1,5 @@
 -- What a run that makes a volume did at its port (docs/DEFINITIONS.md, "The account of a run").
-use Rattle.std.specs.Prelude.{◌≡◌, ℕ, ◌+◌, ◌≤◌, List, [], ◌∷◌, ◌++◌, length, false, Option, None, Some, IsTrue}
-use Rattle.viz_base.specs.Faults.{Rose}
-use Rattle.viz_base.specs.Files.{Files, SameFiles, SameOthers}
+use Rattle.std.specs.Prelude.{◌≡◌, ℕ, ◌+◌, List, [], ◌∷◌, length, false, Option, None, Some}
 use Rattle.viz_base.specs.declared.port.Port as port
 use Rattle.viz_base.specs.declared.call.Call.{Call}
 use Rattle.viz_base.specs.declared.call.Call.TheVariants.{Write}
@@ -11,9 +9,9 @@ use Rattle.viz_extent.specs.Extent.{Bounds, count_of}
 use Rattle.viz_dataset.specs.Images.{ImageData}
 use Rattle.viz_image_write.specs.ImageText.{image_text}
 use Rattle.viz_grid_section.specs.Edges.{Edge}
-use Rattle.viz_once.specs.Account.{LeavesText}
 use Rattle.viz_surface_law.specs.Audit.{count_sides, count_two, count_lone, count_border}
 use Rattle.viz_surface_law.specs.Contours.{triangles_of}
+use Rattle.viz_told.specs.Calls.{IsCalled}
 use Rattle.viz_make.specs.Volume.{volume, volume_sum}
 use Rattle.viz_make.specs.NarrowVolumes.{middle}
 use Rattle.viz_make.specs.declared.came.Came.{Came}
@@ -60,28 +58,15 @@ abbrev pub written : Make → Option WriteAnswer → List Call
 written c None = []
 written c (Some answer) = Write c.output (text_of c) answer ∷ []
 
--- the files around it
-abbrev pub FilesAround : Make → Option WriteAnswer → Files → Files → Type 0
-FilesAround c None old new = SameFiles old new
-FilesAround c (Some answer) old new = LeavesText c.output (text_of c) answer new × SameOthers c.output old new
-
--- the volume was written to a port, with this answer, or its write wasn't answered
-pub record IsAnswered {P : Type 0} (m : port.Ghosts P) (c : Make) (answer : Option WriteAnswer) (old new : P) : Type 0 where
-  pub calls : IsTrue m.tells_calls → m.calls new ≡ m.calls old ++ written c answer
-  pub files : IsTrue m.tells_files → FilesAround c answer (m.files old) (m.files new)
-  pub cause : answer ≡ Some write.Failed → Rose (m.faults old) (m.faults new)
-  pub later : m.faults old ≤ m.faults new
-  pub limit : m.limit new ≡ m.limit old
-
 -- how a run ended whose write was answered so
-abbrev pub EndsIn : Make → Option WriteAnswer → Came → Type 0
-EndsIn c (Some write.Written) (came.Written made) = IsMade c made × IsClosed made
-EndsIn c (Some write.Failed) came.Unwritten = Unit {0}
-EndsIn c None came.Memory = Unit {0}
-EndsIn c answer ended = ⊥
+abbrev pub IsEndOfMaking : Make → Option WriteAnswer → Came → Type 0
+IsEndOfMaking c (Some write.Written) (came.Written made) = IsMade c made × IsClosed made
+IsEndOfMaking c (Some write.Failed) came.Unwritten = Unit {0}
+IsEndOfMaking c None came.Memory = Unit {0}
+IsEndOfMaking c answer ended = ⊥
 
 -- the first port was used so, and all others are as before; where there is none nothing is done
 abbrev pub IsRan : {P : Type 0} → port.Ghosts P → Make → Came → List P → List P → Type 0
 IsRan m c ended [] new = (ended ≡ came.NoPort) × (new ≡ [])
 IsRan m c ended (p ∷ ps) [] = ⊥
-IsRan m c ended (p ∷ ps) (q ∷ qs) = ((answer : Option WriteAnswer) × EndsIn c answer ended × IsAnswered m c answer p q) × (qs ≡ ps)
+IsRan m c ended (p ∷ ps) (q ∷ qs) = ((answer : Option WriteAnswer) × IsEndOfMaking c answer ended × IsCalled m (written c answer) p q) × (qs ≡ ps)

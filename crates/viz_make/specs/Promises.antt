@@ -5,18 +5,19 @@ use Rattle.viz_base.specs.declared.port.Port as port
 use Rattle.viz_base.specs.declared.out.Out as out
 use Rattle.viz_base.specs.declared.call.WriteAnswer.{WriteAnswer}
 use Rattle.viz_base.specs.declared.call.WriteAnswer.TheVariants as write
-use Rattle.viz_once.specs.Promises.{FirstOnly, GainsLine, PutsOrBreaks, EndsInScript}
-use Rattle.viz_once.specs.Report.{no_port_line, write_fault_line}
-use Rattle.viz_once.specs.declared.outcome.Status.{Status}
-use Rattle.viz_once.specs.declared.outcome.Status.TheVariants as status
+use Rattle.viz_told.specs.declared.status.Status.{Status}
+use Rattle.viz_told.specs.Calls.{IsCalled}
+use Rattle.viz_told.specs.Lines.{no_port_line, write_fault_line}
+use Rattle.viz_told.specs.Ports.{FirstOnly}
+use Rattle.viz_told.specs.Puts.{GainsLine, PutsOrBreaks, EndsInScript}
 use Rattle.viz_make.specs.declared.came.Came.TheVariants as came
 use Rattle.viz_make.specs.declared.made.Made.{Made}
-use Rattle.viz_make.specs.Make.{Make, IsMade, IsClosed, IsAnswered}
+use Rattle.viz_make.specs.Make.{Make, IsMade, IsClosed, written}
 use Rattle.viz_make.specs.Told.{text_of}
 
 -- the write of the volume was answered so, and nothing else was called
 abbrev pub FirstWrote : {P : Type 0} → port.Ghosts P → Make → WriteAnswer → List P → List P → Type 0
-FirstWrote m c answer old new = FirstOnly (IsAnswered m c (Some answer)) old new
+FirstWrote m c answer old new = FirstOnly (IsCalled m (written c (Some answer))) old new
 
 -- a run that answers Done wrote the volume, and told its numbers and those of its audit, by which its contour is closed up to the boundary
 abbrev pub IsDone : {P O : Type 0} → port.Ghosts P → out.Ghosts O → Make → List P → List P → O → O → Type 0

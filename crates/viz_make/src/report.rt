@@ -1,18 +1,15 @@
 //! The text that a run puts, and its status (docs/FORMATS.md, "Report").
 
-ghost use Rattle.std.specs.Prelude.{◌≡◌, ◌++◌, IfOk, OnOk, Result};
-ghost use Rattle.viz_base.specs.declared.refusal.WriteRefusal.{WriteRefusal as Refusal};
-ghost use Rattle.viz_make.specs.Told.{audit_text, made_lines, made_text, text_of, status_of, status_at_fault, status_after, IsTold};
-ghost use Rattle.viz_once.specs.Report.{no_port_line, write_fault_line, memory_line};
+ghost use Rattle.std.specs.Prelude.{◌≡◌, ◌++◌, IfOk, OnOk};
+ghost use Rattle.viz_make.specs.Told.{audit_text, made_lines, made_text, telling_of};
 ghost use Rattle.viz_report.specs.Report.{and_number, counts_text};
-ghost use Rattle.viz_script_run.specs.Told.{IsPut};
 
 use crate::came::Came;
 use crate::made::Made;
 use std::alloc::{AllocError, Global};
-use viz_base::{Out, WriteRefusal};
+use viz_base::Bytes;
 use viz_lex::put_whole;
-use viz_once::Status;
+use viz_told::{Status, Tells, Text, memory_line, no_port_line, write_fault_line};
 
 /// Adds a word and a number behind it.
 fn put_number(text: &mut Vec<u8>, word: &[u8], n: u64) -> Result<(), AllocError>
@@ -54,92 +51,35 @@ fn put_audit(text: &mut Vec<u8>, made: &Made) -> Result<(), AllocError>
 }
 
 /// The lines of a made volume.
-fn made_lines(alloc: Global, made: &Made) -> Result<Vec<u8>, AllocError>
-    ensures { IfOk result (λ text. text.items ≡ made_lines made.now) }
+fn made_lines(alloc: Global, made: &Made) -> Result<Bytes, AllocError>
+    ensures { IfOk result (λ text. text ≡ made_lines made.now) }
 {
     let mut text = Vec::new(alloc);
     put_made(&mut text, made)?;
     text.push(b'\n')?;
     put_audit(&mut text, made)?;
     text.push(b'\n')?;
-    Ok(text)
+    Ok(Bytes::new(text))
 }
 
-#[tactic(auto, unfolding(viz_once::specs::Report::no_port_line))]
-fn no_port() -> &'static [u8]
-    ensures { result.now ≡ no_port_line }
-{
-    b"script line 0 ActorRange\n"
-}
+impl Tells for Came {
+    ghost telling = { telling_of };
 
-#[tactic(auto, unfolding(viz_once::specs::Report::write_fault_line))]
-fn write_fault() -> &'static [u8]
-    ensures { result.now ≡ write_fault_line }
-{
-    b"fault write\n"
-}
-
-#[tactic(auto, unfolding(viz_once::specs::Report::memory_line))]
-fn memory() -> &'static [u8]
-    ensures { result.now ≡ memory_line }
-{
-    b"memory\n"
-}
-
-/// The status where the whole text was put.
-fn status_of(came: &Came) -> Status
-    ensures { result ≡ status_of came.now }
-{
-    match came {
-        Came::NoPort => Status::Script,
-        Came::Written(_) => Status::Done,
-        Came::Unwritten => Status::Fault,
-        Came::Memory => Status::Memory,
+    fn status(&self) -> Status {
+        match self {
+            Came::NoPort => Status::Script,
+            Came::Written(_) => Status::Done,
+            Came::Unwritten => Status::Fault,
+            Came::Memory => Status::Memory,
+        }
     }
-}
 
-/// The status where the put failed.
-fn status_at_fault(came: &Came) -> Status
-    ensures { result ≡ status_at_fault came.now }
-{
-    match came {
-        Came::NoPort => Status::Script,
-        Came::Written(_) | Came::Unwritten => Status::Fault,
-        Came::Memory => Status::Memory,
-    }
-}
-
-fn status_after(came: &Came, answer: &Result<(), WriteRefusal>) -> Status
-    ensures { result ≡ status_after came.now answer.now }
-{
-    match answer {
-        Ok(()) => status_of(came),
-        Err(WriteRefusal::Failed) => status_at_fault(came),
-        Err(WriteRefusal::Memory) => Status::Memory,
-    }
-}
-
-/// Puts the text of a run, once.
-fn put<O: Out>(alloc: Global, out: &mut O, told: &Came, text: &[u8]) -> Status
-    requires { text.now ≡ text_of told.now }
-    ensures { (answer : Result (Unit {0}) Refusal) × (result ≡ status_after told.now answer)
-        × IsPut O.Out (text_of told.now) answer out.old out.new }
-{
-    let answer = out.put(alloc, text);
-    status_after(told, &answer)
-}
-
-/// Puts the text of a run, once, and gives the status.
-pub fn report<O: Out>(alloc: Global, out: &mut O, came: &Came) -> Status
-    ensures { IsTold O.Out came.now result out.old out.new }
-{
-    match came {
-        Came::NoPort => put(alloc, out, came, no_port()),
-        Came::Written(made) => match made_lines(alloc, made) {
-            Ok(text) => put(alloc, out, came, &text),
-            Err(_) => put(alloc, out, &Came::Memory, memory()),
-        },
-        Came::Unwritten => put(alloc, out, came, write_fault()),
-        Came::Memory => put(alloc, out, came, memory()),
+    fn text(&self, alloc: Global) -> Result<Text, AllocError> {
+        match self {
+            Came::NoPort => Ok(Text::Fixed(no_port_line())),
+            Came::Written(made) => Ok(Text::Made(made_lines(alloc, made)?)),
+            Came::Unwritten => Ok(Text::Fixed(write_fault_line())),
+            Came::Memory => Ok(Text::Fixed(memory_line())),
+        }
     }
 }

@@ -5,15 +5,15 @@ ghost use Rattle.viz_base.specs.Faults.{Rose, one_more};
 ghost use Rattle.viz_make.specs.declared.came.Came.{Came as End};
 ghost use Rattle.viz_make.specs.Make.{IsRan};
 ghost use Rattle.viz_make.specs.Promises.{IsDone, IsFault, IsScript, TellsRefusals};
-ghost use Rattle.viz_make.specs.Told.{IsTold};
+ghost use Rattle.viz_make.specs.Told.{telling_of};
 ghost use Rattle.viz_make.specs.Views.{make_of};
-ghost use Rattle.viz_once.specs.Promises.{FirstRose, OthersStay};
+ghost use Rattle.viz_told.specs.Ports.{FirstRose, OthersStay};
+ghost use Rattle.viz_told.specs.Told.{IsTold};
 
-use crate::report::report;
 use crate::serving::{Make, serve};
 use std::alloc::Global;
 use viz_base::{Out, Port};
-use viz_once::Status;
+use viz_told::{Status, tell};
 
 /// Makes the volume of a number, writes it by the first port, and puts its numbers and the audit of
 /// its contour at 128.
@@ -27,7 +27,7 @@ pub fn run_make<P: Port, O: Out>(
 ) -> Status
     // What the run was: how it ended, and the text put of it.
     ensures account { (came : End) × IsRan P.Port (make_of command.now) came ports.old.items
-        ports.new.items × IsTold O.Out came result out.old out.new }
+        ports.new.items × IsTold O.Out (telling_of came) result out.old out.new }
 
     // What follows of it for each status.
     ensures script { result ≡ Status.Script → IsScript P.Port O.Out
@@ -47,5 +47,5 @@ pub fn run_make<P: Port, O: Out>(
     ensures one_put { O.puts out.new ≡ one_more (O.puts out.old) }
 {
     let came = serve(alloc, command, ports);
-    report(alloc, out, &came)
+    tell(alloc, out, &came)
 }

@@ -2,8 +2,9 @@
 
 ghost use Rattle.std.specs.Prelude.{◌≡◌, Option};
 ghost use Rattle.viz_base.specs.declared.call.WriteAnswer.{WriteAnswer};
-ghost use Rattle.viz_make.specs.Make.{EndsIn, IsAnswered, IsRan};
+ghost use Rattle.viz_make.specs.Make.{IsEndOfMaking, IsRan, written};
 ghost use Rattle.viz_make.specs.Views.{make_of};
+ghost use Rattle.viz_told.specs.Calls.{IsCalled};
 
 use crate::came::Came;
 use crate::made::made_of;
@@ -24,8 +25,8 @@ pub struct Make<'a> {
 
 /// Makes the volume, audits its contour, and writes the volume with one call.
 fn serve_port<P: Port>(alloc: Global, command: &Make<'_>, port: &mut P) -> Came
-    ensures { (answer : Option WriteAnswer) × EndsIn (make_of command.now) answer result
-        × IsAnswered P.Port (make_of command.now) answer port.old port.new }
+    ensures { (answer : Option WriteAnswer) × IsEndOfMaking (make_of command.now) answer result
+        × IsCalled P.Port (written (make_of command.now) answer) port.old port.new }
 {
     let Ok((text, made)) = made_of(alloc, command) else {
         return Came::Memory;

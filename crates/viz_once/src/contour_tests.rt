@@ -1,6 +1,5 @@
 //! Contours of files in memory. `contour_texts` says who counted each surface.
 
-use crate::Status;
 use crate::contour_texts::{
     CUBE, FIRST_LEVEL, FIRST_REPORT, FIRST_SURFACE, FIRST_VALUES, LAYER_FILE, MIXED_FILE,
     MIXED_REPORT, MIXED_SURFACE, NO_REPORT, NO_SURFACE, TIE_SURFACE,
@@ -16,6 +15,7 @@ use std::process::Abort;
 use std::test::Fail;
 use viz_base::MemoryPort;
 use viz_lex::put_whole;
+use viz_told::Status;
 
 // The contour of a file of these bytes at the level.
 fn contoured(

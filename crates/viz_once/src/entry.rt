@@ -4,15 +4,17 @@ ghost use Rattle.std.specs.Prelude.{◌≡◌, ◌⊎◌, ◌↔◌, None};
 ghost use Rattle.viz_base.specs.Faults.{Rose, one_more};
 ghost use Rattle.viz_once.specs.Account.{Serves, IsRun};
 ghost use Rattle.viz_once.specs.Command.{command_of};
-ghost use Rattle.viz_once.specs.Promises.{PutsLine, OthersStay, IsScript, IsDone, IsRefused, TellsCauses, IsFault, FirstRose};
-ghost use Rattle.viz_once.specs.Report.{usage_line};
+ghost use Rattle.viz_once.specs.Promises.{IsScript, IsDone, IsRefused, TellsCauses, IsFault};
+ghost use Rattle.viz_told.specs.Lines.{usage_line};
+ghost use Rattle.viz_told.specs.Ports.{FirstRose, OthersStay};
+ghost use Rattle.viz_told.specs.Puts.{PutsLine};
 
 use crate::command::command;
 use crate::once::serve;
-use crate::outcome::{Outcome, Status};
-use crate::report::report;
+use crate::outcome::Outcome;
 use std::alloc::Global;
 use viz_base::{Bytes, Out, Port};
+use viz_told::{Status, tell};
 
 /// Serves the command by the first port, and calls no other.
 fn serve_first<P: Port>(alloc: Global, words: &[Bytes], ports: &mut [P]) -> Outcome
@@ -68,5 +70,5 @@ pub fn run_once<P: Port, O: Out>(
     ensures one_put { O.puts out.new ≡ one_more (O.puts out.old) }
 {
     let outcome = serve_words(alloc, words, ports);
-    report(alloc, out, &outcome)
+    tell(alloc, out, &outcome)
 }

@@ -17,7 +17,6 @@ mod threshold;
 
 pub use command::file_name_text;
 pub use entry::run_once;
-pub use outcome::Status;
 
 #[cfg(test)]
 mod contour_tests;

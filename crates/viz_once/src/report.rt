@@ -1,63 +1,17 @@
 //! The line that a run puts, and its status (docs/FORMATS.md, "Report").
 
-ghost use Rattle.std.specs.Prelude.{◌≡◌, ◌++◌, OnOk, IfOk, Result};
-ghost use Rattle.viz_base.specs.declared.refusal.WriteRefusal.{WriteRefusal as Refusal};
+ghost use Rattle.std.specs.Prelude.{◌≡◌, ◌++◌, OnOk, IfOk};
 ghost use Rattle.viz_lex.specs.declared.fault.FileKind.TheVariants.{CellType};
-ghost use Rattle.viz_once.specs.Account.{IsPut, IsTold};
 ghost use Rattle.viz_once.specs.Causes.{IsPlain, kind_text, place_text, fault_text, cause_text};
-ghost use Rattle.viz_once.specs.Report.{HasMadeLine, line_of, file_line, refused_line, status_of, status_at_fault, status_at_memory, status_after};
+ghost use Rattle.viz_once.specs.Report.{file_line, refused_line, telling_of};
 
-use crate::outcome::{Cause, Failed, Outcome, Status};
+use crate::outcome::{Cause, Failed, Outcome};
 use std::alloc::{AllocError, Global};
-use viz_base::{Out, WriteRefusal};
+use viz_base::Bytes;
 use viz_lex::{FileFault, FileKind, put_whole};
-
-/// The status where the whole line was put.
-fn status_of(outcome: &Outcome) -> Status
-    ensures { result ≡ status_of outcome.now }
-{
-    match outcome {
-        Outcome::Usage => Status::Usage,
-        Outcome::NoPort => Status::Script,
-        Outcome::Written { .. } => Status::Done,
-        Outcome::Refused(_) => Status::Refused,
-        Outcome::Fault(_) => Status::Fault,
-        Outcome::Memory => Status::Memory,
-    }
-}
-
-/// The status where the put failed.
-fn status_at_fault(outcome: &Outcome) -> Status
-    ensures { result ≡ status_at_fault outcome.now }
-{
-    match outcome {
-        Outcome::Usage => Status::Usage,
-        Outcome::NoPort => Status::Script,
-        Outcome::Memory => Status::Memory,
-        _ => Status::Fault,
-    }
-}
-
-/// The status where memory ran out at the put.
-fn status_at_memory(outcome: &Outcome) -> Status
-    ensures { result ≡ status_at_memory outcome.now }
-{
-    match outcome {
-        Outcome::Usage => Status::Usage,
-        _ => Status::Memory,
-    }
-}
-
-/// The status by what the put answered.
-fn status_after(outcome: &Outcome, answer: &Result<(), WriteRefusal>) -> Status
-    ensures { result ≡ status_after outcome.now answer.now }
-{
-    match answer {
-        Ok(()) => status_of(outcome),
-        Err(WriteRefusal::Failed) => status_at_fault(outcome),
-        Err(WriteRefusal::Memory) => status_at_memory(outcome),
-    }
-}
+use viz_told::{
+    Status, Tells, Text, memory_line, no_port_line, read_fault_line, usage_line, write_fault_line,
+};
 
 /// The word of a kind, but for the number of one that has a number.
 fn kind_word(kind: &FileKind) -> &'static str
@@ -142,82 +96,53 @@ fn put_cause(text: &mut Vec<u8>, cause: &Cause) -> Result<(), AllocError>
 
 /// The line of a refusal.
 #[tactic(auto, unfolding(crate::specs::Report::refused_line))]
-fn refused_line(alloc: Global, cause: &Cause) -> Result<Vec<u8>, AllocError>
-    ensures { IfOk result (λ text. text.items ≡ refused_line cause.now) }
+fn refused_line(alloc: Global, cause: &Cause) -> Result<Bytes, AllocError>
+    ensures { IfOk result (λ text. text ≡ refused_line cause.now) }
 {
     let mut text = Vec::from_slice(alloc, b"refused ")?;
     put_cause(&mut text, cause)?;
     text.push(b'\n')?;
-    Ok(text)
+    Ok(Bytes::new(text))
 }
 
 /// The line of a written file.
 #[tactic(auto, unfolding(crate::specs::Report::file_line))]
-fn file_line(alloc: Global, cells: u64, points: u64) -> Result<Vec<u8>, AllocError>
-    ensures { IfOk result (λ text. text.items ≡ file_line cells points) }
+fn file_line(alloc: Global, cells: u64, points: u64) -> Result<Bytes, AllocError>
+    ensures { IfOk result (λ text. text ≡ file_line cells points) }
 {
     let mut text = Vec::from_slice(alloc, b"file cells ")?;
     put_whole(&mut text, i128::from(cells))?;
     text.extend_from_slice(b" points ")?;
     put_whole(&mut text, i128::from(points))?;
     text.push(b'\n')?;
-    Ok(text)
+    Ok(Bytes::new(text))
 }
 
-/// The line of an outcome whose line is the same each time; of any other, that memory ran out.
-#[tactic(auto, unfolding(crate::specs::Report::usage_line, crate::specs::Report::no_port_line, crate::specs::Report::read_fault_line, crate::specs::Report::write_fault_line, crate::specs::Report::memory_line))]
-fn fixed_line(outcome: &Outcome) -> &'static [u8]
-    ensures { (HasMadeLine outcome.now → ⊥) → result.now ≡ line_of outcome.now }
-{
-    match outcome {
-        Outcome::Usage => b"vizrun: usage\n",
-        Outcome::NoPort => b"script line 0 ActorRange\n",
-        Outcome::Fault(Failed::Read) => b"fault read\n",
-        Outcome::Fault(Failed::Write) => b"fault write\n",
-        Outcome::Memory | Outcome::Written { .. } | Outcome::Refused(_) => b"memory\n",
-    }
-}
+impl Tells for Outcome {
+    ghost telling = { telling_of };
 
-/// Puts the line of an outcome, once.
-fn put<O: Out>(alloc: Global, out: &mut O, told: &Outcome, line: &[u8]) -> Status
-    requires { line.now ≡ line_of told.now }
-    ensures { (answer : Result (Unit {0}) Refusal) × (result ≡ status_after told.now answer)
-        × IsPut O.Out told.now answer out.old out.new }
-{
-    let answer = out.put(alloc, line);
-    status_after(told, &answer)
-}
-
-/// Puts a line that was made, or that memory ran out.
-fn put_made<O: Out>(
-    alloc: Global,
-    out: &mut O,
-    outcome: &Outcome,
-    made: Result<Vec<u8>, AllocError>,
-) -> Status
-    requires line { IfOk made (λ text. text.items ≡ line_of outcome.now) }
-    requires made { HasMadeLine outcome.now }
-    ensures { IsTold O.Out outcome.now result out.old out.new }
-{
-    match made {
-        Ok(text) => put(alloc, out, outcome, &text),
-        Err(_) => put(alloc, out, &Outcome::Memory, fixed_line(&Outcome::Memory)),
-    }
-}
-
-/// Puts the line of an outcome, once, and gives the status.
-pub fn report<O: Out>(alloc: Global, out: &mut O, outcome: &Outcome) -> Status
-    ensures { IsTold O.Out outcome.now result out.old out.new }
-{
-    match outcome {
-        Outcome::Written { cells, points } => {
-            let made = file_line(alloc, *cells, *points);
-            put_made(alloc, out, outcome, made)
+    fn status(&self) -> Status {
+        match self {
+            Outcome::Usage => Status::Usage,
+            Outcome::NoPort => Status::Script,
+            Outcome::Written { .. } => Status::Done,
+            Outcome::Refused(_) => Status::Refused,
+            Outcome::Fault(_) => Status::Fault,
+            Outcome::Memory => Status::Memory,
         }
-        Outcome::Refused(cause) => {
-            let made = refused_line(alloc, cause);
-            put_made(alloc, out, outcome, made)
+    }
+
+    fn text(&self, alloc: Global) -> Result<Text, AllocError> {
+        match self {
+            Outcome::Usage => Ok(Text::Fixed(usage_line())),
+            Outcome::NoPort => Ok(Text::Fixed(no_port_line())),
+            Outcome::Written { cells, points } => {
+                Ok(Text::Made(file_line(alloc, *cells, *points)?))
+            }
+            Outcome::Refused(cause) => Ok(Text::Made(refused_line(alloc, cause)?)),
+            Outcome::Fault(Failed::Read) => Ok(Text::Fixed(read_fault_line())),
+            Outcome::Fault(Failed::Write) => Ok(Text::Fixed(write_fault_line())),
+            Outcome::Memory => Ok(Text::Fixed(memory_line())),
         }
-        _ => put(alloc, out, outcome, fixed_line(outcome)),
     }
 }

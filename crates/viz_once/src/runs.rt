@@ -1,9 +1,10 @@
 //! Runs over files in memory, for the tests.
 
-use crate::{Status, run_once};
+use crate::run_once;
 use std::alloc::Global;
 use std::test::Fail;
 use viz_base::{Bytes, FILE_LIMIT, FileEntry, MemoryOut, MemoryPort, Port, Word};
+use viz_told::Status;
 
 pub fn words(alloc: Global, line: &str) -> Result<Vec<Bytes>, Fail> {
     let mut words = Vec::new(alloc);

@@ -5,11 +5,12 @@ use crate::image_files::{
     CORNER, CORNER_BINARY, CORNER_END, LARGE, LARGE_WRITTEN, PAST_TYPE, SQUARE, SQUARE_WRITTEN,
 };
 use crate::mesh_files::{CUT, FAR_LINE, FLOAT_POINTS, GRID, NO_CELLS, STRIP};
+use crate::run_once;
 use crate::runs::{files, joined, output_of, port, ran, ran_on, replaced, words};
-use crate::{Status, run_once};
 use std::process::Abort;
 use std::test::Fail;
 use viz_base::{FILE_LIMIT, FailAt, MemoryOut, MemoryPort, NeverFails};
+use viz_told::Status;
 
 const ONCE: &str = "once a.vtk o.vtk threshold 2 3";
 

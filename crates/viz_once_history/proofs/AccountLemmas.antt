@@ -11,7 +11,7 @@ use Rattle.viz_once.specs.declared.outcome.Cause.{Cause}
 use Rattle.viz_once.specs.declared.outcome.Cause.TheVariants.{TooLong, BadFile, WrongInput, TooWide, TooMany}
 use Rattle.viz_once.specs.declared.outcome.Outcome.{Outcome}
 use Rattle.viz_once.specs.declared.outcome.Outcome.TheVariants as outcome
-use Rattle.viz_once.specs.Account.{Deed, Nothing, Asked, Answered, EndsIn, IsServed, Serves}
+use Rattle.viz_once.specs.Account.{Deed, Nothing, Asked, Answered, IsOutcomeOf, IsServed, Serves}
 use Rattle.viz_once.specs.Causes.{IsCauseOf}
 use Rattle.viz_once.specs.Command.{Command, command_of}
 use Rattle.viz_once.specs.Outputs.{cells_made, points_made}
@@ -31,7 +31,7 @@ fault_at filter bytes TooWide is = (at_op fault.TooWide, refl)
 fault_at filter bytes TooMany is = (at_op fault.TooMany, refl)
 
 module _ (c : Command) (numbers : HasNumbers c.filter) where
-  ends_by : (deed : Deed) (o : Outcome) → EndsIn c deed o → EndsByHistory c deed o
+  ends_by : (deed : Deed) (o : Outcome) → IsOutcomeOf c deed o → EndsByHistory c deed o
   ends_by Nothing o h = h
   ends_by (Asked read.Failed) o h = h
   ends_by (Asked (read.TooLong taken)) o h = h.2 ∙ ap outcome.Refused h.1

@@ -13,13 +13,16 @@ use Rattle.viz_once.specs.declared.outcome.Cause.TheVariants.{TooLong}
 use Rattle.viz_once.specs.declared.outcome.Failed.TheVariants as call
 use Rattle.viz_once.specs.declared.outcome.Outcome.{Outcome}
 use Rattle.viz_once.specs.declared.outcome.Outcome.TheVariants as outcome
-use Rattle.viz_once.specs.declared.outcome.Status.{Status}
-use Rattle.viz_once.specs.Account.{Deed, Nothing, Asked, Answered, IsDoneAt, IsTold, IsRun}
+use Rattle.viz_once.specs.Account.{Deed, Nothing, Asked, Answered, calls_of, IsRun}
 use Rattle.viz_once.specs.Causes.{cause_text}
 use Rattle.viz_once.specs.Command.{Command, command_of}
 use Rattle.viz_once.specs.Outputs.{output_text}
+use Rattle.viz_once.specs.Report.{telling_of}
 use Rattle.viz_report.specs.declared.line.Reason.TheVariants.{Fault as Named}
 use Rattle.viz_report.specs.Words.{reason_text}
+use Rattle.viz_told.specs.declared.status.Status.{Status}
+use Rattle.viz_told.specs.Calls.{IsCalled}
+use Rattle.viz_told.specs.Told.{IsTold}
 use Rattle.viz_once_history.specs.FixedHistory.{history_of, network_for, IsFileFor, fault_of}
 use Rattle.viz_once_history.specs.Laws.{IsMadeFor}
 
@@ -49,7 +52,7 @@ EndsByHistory c (Answered bytes d answer) o = IsLegal (history_of c.filter bytes
 
 -- a port served a command so, with this outcome
 abbrev pub IsServedByHistory : {P : Type 0} → port.Ghosts P → Command → Outcome → P → P → Type 0
-IsServedByHistory m c o old new = (deed : Deed) × EndsByHistory c deed o × IsDoneAt m c deed old new
+IsServedByHistory m c o old new = (deed : Deed) × EndsByHistory c deed o × IsCalled m (calls_of c deed) old new
 
 -- the first port served the command of the words so, and all other ports are as before
 abbrev pub ServesByHistory : {P : Type 0} → port.Ghosts P → Option Command → Outcome → List P → List P → Type 0
@@ -65,7 +68,7 @@ pub record IsOnceAccount {P O : Type 0} (ports : port.Ghosts P) (output : out.Gh
     (old new : List P) (before after : O) (ended : Status) : Type 0 where
   pub found : Outcome
   pub served : ServesByHistory ports (command_of words) found old new
-  pub told : IsTold output found ended before after
+  pub told : IsTold output (telling_of found) ended before after
 
 -- each run of a command of one file is accounted for by its fixed history
 abbrev pub RunsAreAccounted : {P O : Type 0} → port.Ghosts P → out.Ghosts O → Type 0

@@ -8,29 +8,28 @@ use Rattle.viz_base.specs.declared.out.Out as out
 use Rattle.viz_base.specs.declared.call.Call.TheVariants.{Read}
 use Rattle.viz_base.specs.declared.call.ReadAnswer.{ReadAnswer}
 use Rattle.viz_base.specs.declared.call.ReadAnswer.TheVariants as read
-use Rattle.viz_base.specs.declared.refusal.WriteRefusal.{WriteRefusal}
 use Rattle.viz_base.specs.declared.refusal.WriteRefusal.TheVariants as writing
 use Rattle.viz_journal.specs.declared.entry.JournalEntry.{JournalEntry}
 use Rattle.viz_journal.specs.Reading.{journal_of}
-use Rattle.viz_once.specs.Promises.{FirstRose, OthersStay, EndsInScript}
-use Rattle.viz_once.specs.declared.outcome.Status.{Status}
-use Rattle.viz_once.specs.declared.outcome.Status.TheVariants as status
 use Rattle.viz_words.specs.declared.refusal.ScriptRefusal.{ScriptRefusal}
 use Rattle.viz_report.specs.declared.line.Line.{Line}
 use Rattle.viz_report.specs.declared.line.Line.TheVariants as line
 use Rattle.viz_report.specs.declared.line.Reason.{Reason}
-use Rattle.viz_script_run.specs.Told.{IsPut}
-use Rattle.viz_script_run.proofs.RunLemmas.{gains, puts, no_memory, failed_is_no_memory, rose_by}
+use Rattle.viz_script_run.proofs.RunLemmas.{rose_by}
+use Rattle.viz_told.specs.declared.status.Status.{Status}
+use Rattle.viz_told.specs.declared.status.Status.TheVariants as status
+use Rattle.viz_told.specs.Calls.{IsCalled}
+use Rattle.viz_told.specs.Ports.{FirstRose, OthersStay}
+use Rattle.viz_told.specs.Puts.{GainsLine, PutsOrBreaks, EndsInScript}
+use Rattle.viz_told.specs.Told.{status_at_fault, status_at_memory, status_after, IsPut, IsTold}
+use Rattle.viz_told.proofs.ToldLemmas.{Answer, is_no_done, is_no_usage, is_no_script, is_no_refused, is_no_fault, usage_is_no_script, usage_is_no_fault, gains, ends_in_memory, ends_in_script, told_at, puts_at}
 use Rattle.viz_replay.specs.declared.came.Came.{Came}
 use Rattle.viz_replay.specs.declared.came.Came.TheVariants as came
-use Rattle.viz_replay.specs.Replay.{Replay, asked, IsAsked, IsRefusal, IsUpdated, EndsIn, IsRan}
-use Rattle.viz_replay.specs.Told.{line_of, update_status, status_of, fault_over, status_after, Settles, IsTold}
+use Rattle.viz_replay.specs.Replay.{Replay, asked, IsRefusal, IsUpdated, IsEndOfReplay, IsRan}
+use Rattle.viz_replay.specs.Told.{line_of, update_status, status_of, telling_of}
 use Rattle.viz_replay.specs.Promises.{IsUpdatedFrom, IsDone, IsRefused, IsScript, TellsRefusals, IsFault}
 
-abbrev pub Answer : Type 0
-Answer = Result (Unit {0}) WriteRefusal
-
--- ---- what was told, and what the put answered, by the status
+-- ---- what was found, and what the put answered, by the status
 
 abbrev pub ToldBy : Came → Answer → Status → Type 0
 ToldBy c a status.Done = (at : ℕ) × (cells : ℕ) × (points : ℕ) × (ran : ℕ) × (c ≡ came.Updated (line.File at cells points ran)) × (a ≡ Ok tt)
@@ -50,7 +49,7 @@ told_line (line.Audit at sides two lone border) a ok = tt
 told_line line.ReadFault a ok = tt
 told_line line.Memory a ok = tt
 
-failed_line : (l : Line) (a : Answer) → a ≡ Err writing.Failed → ToldBy (came.Updated l) a (fault_over (update_status l))
+failed_line : (l : Line) (a : Answer) → a ≡ Err writing.Failed → ToldBy (came.Updated l) a (status_at_fault (update_status l))
 failed_line (line.File at cells points ran) a failed =
     inr (line.File at cells points ran, refl, (λ e. let bad : status.Done ≡ status.Memory = e in cc), inr failed)
 failed_line (line.Refused reason at) a failed =
@@ -62,7 +61,16 @@ failed_line (line.Audit at sides two lone border) a failed = tt
 failed_line line.ReadFault a failed = tt
 failed_line line.Memory a failed = tt
 
-told_by : (c : Came) (a : Answer) → ToldBy c a (status_after c a)
+no_room : (l : Line) (a : Answer) → ToldBy (came.Updated l) a (status_at_memory (update_status l))
+no_room (line.File at cells points ran) a = tt
+no_room (line.Refused reason at) a = tt
+no_room line.WriteFault a = tt
+no_room (line.Edit at) a = tt
+no_room (line.Audit at sides two lone border) a = tt
+no_room line.ReadFault a = tt
+no_room line.Memory a = tt
+
+told_by : (c : Came) (a : Answer) → ToldBy c a (status_after (status_of c) a)
 told_by came.NoPort (Ok done) = inl refl
 told_by came.NoPort (Err writing.Failed) = inl refl
 told_by came.NoPort (Err writing.Memory) = tt
@@ -74,56 +82,39 @@ told_by (came.Refused n r) (Err writing.Failed) = inr (n, r, refl)
 told_by (came.Refused n r) (Err writing.Memory) = tt
 told_by (came.Updated l) (Ok done) = told_line l (Ok tt) refl
 told_by (came.Updated l) (Err writing.Failed) = failed_line l (Err writing.Failed) refl
-told_by (came.Updated l) (Err writing.Memory) = tt
+told_by (came.Updated l) (Err writing.Memory) = no_room l (Err writing.Memory)
 told_by came.Memory (Ok done) = tt
 told_by came.Memory (Err writing.Failed) = tt
 told_by came.Memory (Err writing.Memory) = tt
 
-told_at : (c : Came) (a : Answer) (ended known : Status) → ended ≡ status_after c a → ended ≡ known → ToldBy c a known
-told_at c a ended known e is = subst (ToldBy c a) (sym e ∙ is) (told_by c a)
-
--- a put that was answered for want of memory ends in that status
-pub unanswered : (c : Came) (a : Answer) (ended known : Status) → ended ≡ status_after c a → ended ≡ known → (status.Memory ≡ known → ⊥) → a ≡ Err writing.Memory → ⊥
-unanswered c a ended known e is apart memory = apart (sym (subst (λ (x : Answer). ended ≡ status_after c x) memory e) ∙ is)
-
--- what is told was found, where it isn't want of memory
-found_is : (found told c : Came) → Settles found told → told ≡ c → (came.Memory ≡ c → ⊥) → found ≡ c
-found_is found told c settles is apart = elim settles [
-  | inl same ↦ sym same ∙ is
-  | inr memory ↦ absurd (apart (sym memory ∙ is))
-]
-
 -- ---- what was done, by how the run ended
 
 module _ {P : Type 0} (m : port.Ghosts P) (c : Replay) (old new : List P) where
-  updated : (answer : Option ReadAnswer) (l : Line) → EndsIn m c answer (came.Updated l) old new
+  updated : (answer : Option ReadAnswer) (l : Line) → IsEndOfReplay m c answer (came.Updated l) old new
       → (bytes : List ℕ) × (answer ≡ Some (read.Given bytes)) × ((entries : List JournalEntry) × (journal_of bytes ≡ Ok entries) × IsUpdated m c entries l old new)
   updated None l h = absurd h
   updated (Some read.Failed) l h = absurd h
   updated (Some (read.TooLong taken)) l h = absurd h
   updated (Some (read.Given bytes)) l h = (bytes, refl, h)
 
-  unread : (answer : Option ReadAnswer) → EndsIn m c answer came.Unread old new → (answer ≡ Some read.Failed) × (new ≡ old)
+  unread : (answer : Option ReadAnswer) → IsEndOfReplay m c answer came.Unread old new → (answer ≡ Some read.Failed) × (new ≡ old)
   unread None h = absurd h
   unread (Some read.Failed) h = (refl, h)
   unread (Some (read.TooLong taken)) h = absurd h
   unread (Some (read.Given bytes)) h = absurd h
 
-  no_port : (answer : Option ReadAnswer) → EndsIn m c answer came.NoPort old new → (answer ≡ None) × ((old ≡ []) × (new ≡ []))
+  no_port : (answer : Option ReadAnswer) → IsEndOfReplay m c answer came.NoPort old new → (answer ≡ None) × ((old ≡ []) × (new ≡ []))
   no_port None h = (refl, h)
   no_port (Some read.Failed) h = absurd h
   no_port (Some (read.TooLong taken)) h = absurd h
   no_port (Some (read.Given bytes)) h = absurd h
 
-  refused_journal : (answer : Option ReadAnswer) (n : ℕ) (r : ScriptRefusal) → EndsIn m c answer (came.Refused n r) old new
+  refused_journal : (answer : Option ReadAnswer) (n : ℕ) (r : ScriptRefusal) → IsEndOfReplay m c answer (came.Refused n r) old new
       → (a : ReadAnswer) × (answer ≡ Some a) × IsRefusal a n r × (new ≡ old)
   refused_journal None n r h = absurd h
   refused_journal (Some read.Failed) n r h = (read.Failed, refl, h.0, h.1)
   refused_journal (Some (read.TooLong taken)) n r h = (read.TooLong taken, refl, h.0, h.1)
   refused_journal (Some (read.Given bytes)) n r h = (read.Given bytes, refl, h.0, h.1)
-
-as_line : {O : Type 0} (m : out.Ghosts O) (told c : Came) (a : Answer) (old new : O) → told ≡ c → IsPut m (line_of told) a old new → IsPut m (line_of c) a old new
-as_line m told c a old new is put = subst (λ (x : Came). IsPut m (line_of x) a old new) is put
 
 -- ---- where a journal is refused
 
@@ -141,7 +132,7 @@ module _ {P : Type 0} (m : port.Ghosts P) (c : Replay) (old new : List P) where
   abbrev EndsRefused : ℕ → ScriptRefusal → Came → Type 0
   EndsRefused line why found = (new ≡ old) × ((found ≡ came.Memory) ⊎ (found ≡ came.Refused line why))
 
-  refused_or_memory : (answer : ReadAnswer) (line : ℕ) (why : ScriptRefusal) (found : Came) → IsRefusal answer line why → EndsIn m c (Some answer) found old new → EndsRefused line why found
+  refused_or_memory : (answer : ReadAnswer) (line : ℕ) (why : ScriptRefusal) (found : Came) → IsRefusal answer line why → IsEndOfReplay m c (Some answer) found old new → EndsRefused line why found
   refused_or_memory read.Failed line why found is h = absurd is
   refused_or_memory (read.TooLong taken) line why (came.Refused l r) is h = (h.1, inr (ap₂ came.Refused (h.0.0 ∙ sym is.0) (h.0.1 ∙ sym is.1)))
   refused_or_memory (read.TooLong taken) line why came.NoPort is h = absurd h
@@ -155,108 +146,93 @@ module _ {P : Type 0} (m : port.Ghosts P) (c : Replay) (old new : List P) where
   refused_or_memory (read.Given bytes) line why came.NoPort is h = absurd h
   refused_or_memory (read.Given bytes) line why came.Unread is h = absurd h
 
-module _ {O : Type 0} (o : out.Ghosts O) (old new : O) where
-  -- the status of a put that tells this, or that memory ran out
-  script_by : (c : Came) (a : Answer) (ended : Status) → status_of c ≡ status.Script → ended ≡ status_after c a → IsPut o (line_of c) a old new → EndsInScript o (line_of c) old new ended
-  script_by c (Ok done) ended is e put = inl (e ∙ is, puts o (line_of c) old new (Ok done) no_memory put)
-  script_by c (Err writing.Failed) ended is e put = inl (e ∙ ap fault_over is, puts o (line_of c) old new (Err writing.Failed) failed_is_no_memory put)
-  script_by c (Err writing.Memory) ended is e put = inr e
-
-  memory_by : (text : List ℕ) (a : Answer) (ended : Status) → ended ≡ status_after came.Memory a → EndsInScript o text old new ended
-  memory_by text (Ok done) ended e = inr e
-  memory_by text (Err writing.Failed) ended e = inr e
-  memory_by text (Err writing.Memory) ended e = inr e
-
-  script_ends : (c : Came) (found told : Came) (a : Answer) (ended : Status) → status_of c ≡ status.Script → (found ≡ came.Memory) ⊎ (found ≡ c) → Settles found told
-      → ended ≡ status_after told a → IsPut o (line_of told) a old new → EndsInScript o (line_of c) old new ended
-  script_ends c found told a ended is (inl memory) (inl same) e put = memory_by (line_of c) a ended (subst (λ (r : Came). ended ≡ status_after r a) (same ∙ memory) e)
-  script_ends c found told a ended is (inr refused) (inl same) e put =
-      script_by c a ended is (subst (λ (r : Came). ended ≡ status_after r a) (same ∙ refused) e) (as_line o told c a old new (same ∙ refused) put)
-  script_ends c found told a ended is which (inr memory) e put = memory_by (line_of c) a ended (subst (λ (r : Came). ended ≡ status_after r a) memory e)
+module _ {O : Type 0} (o : out.Ghosts O) (old new : O) (ended : Status) where
+  -- the status of a run that ended so, or that ran out of memory
+  script_ends : (c found : Came) → status_of c ≡ status.Script → (found ≡ came.Memory) ⊎ (found ≡ c) → IsTold o (telling_of found) ended old new → EndsInScript o (line_of c) old new ended
+  script_ends c found is (inl memory) told = inr (ends_in_memory o old new ended (telling_of found) (ap status_of memory) told)
+  script_ends c found is (inr same) told =
+      ends_in_script o old new ended (telling_of c) is (subst (λ (x : Came). IsTold o (telling_of x) ended old new) same told)
 
 -- ---- the promises
 
 module _ {P O : Type 0} (m : port.Ghosts P) (o : out.Ghosts O) (c : Replay) (desk new_desk : P) (old new : List P) (before after : O) (ended : Status)
-    (found : Came) (ran : IsRan m c found desk new_desk old new) (telling : IsTold o found ended before after) where
-  asked_is : (answer : Option ReadAnswer) → ran.0 ≡ answer → IsAsked m c.journal answer desk new_desk
-  asked_is answer is = subst (λ (a : Option ReadAnswer). IsAsked m c.journal a desk new_desk) is ran.2
+    (found : Came) (ran : IsRan m c found desk new_desk old new) (told : IsTold o (telling_of found) ended before after) where
+  asked_is : (answer : Option ReadAnswer) → ran.0 ≡ answer → IsCalled m (asked c.journal answer) desk new_desk
+  asked_is answer is = subst (λ (a : Option ReadAnswer). IsCalled m (asked c.journal a) desk new_desk) is ran.2
 
-  ends_in : (r : Came) → found ≡ r → EndsIn m c ran.0 r old new
-  ends_in r is = subst (λ (x : Came). EndsIn m c ran.0 x old new) is ran.1
+  ends_in : (r : Came) → found ≡ r → IsEndOfReplay m c ran.0 r old new
+  ends_in r is = subst (λ (x : Came). IsEndOfReplay m c ran.0 x old new) is ran.1
 
-  found_line : (l : Line) → telling.0 ≡ came.Updated l → found ≡ came.Updated l
-  found_line l is = found_is found telling.0 (came.Updated l) telling.2 is (λ e. let bad : came.Memory ≡ came.Updated l = e in cc)
-
-  updated_from : (l : Line) → telling.0 ≡ came.Updated l → IsUpdatedFrom m c l desk new_desk old new
+  updated_from : (l : Line) → found ≡ came.Updated l → IsUpdatedFrom m c l desk new_desk old new
   updated_from l is =
-      let u = updated m c old new ran.0 l (ends_in (came.Updated l) (found_line l is)) in
+      let u = updated m c old new ran.0 l (ends_in (came.Updated l) is) in
       (u.0, u.2.0, u.2.1, u.2.2, asked_is (Some (read.Given u.0)) u.1)
 
-  put_answered : (known : Status) → ended ≡ known → (status.Memory ≡ known → ⊥) → telling.1 ≡ Err writing.Memory → ⊥
-  put_answered known is apart = unanswered telling.0 telling.1 ended known telling.3 is apart
+  -- what was found and put, by a status that is known
+  at : (known : Status) → ended ≡ known → (status.Memory ≡ known → ⊥) → (a : Answer) × ToldBy found a known × IsPut o (line_of found) a before after
+  at known is apart = told_at o before after ended (telling_of found) (ToldBy found) (told_by found) known told is apart
 
-  is_no_script : status.Memory ≡ status.Script → ⊥
-  is_no_script e = let bad : status.Memory ≡ status.Script = e in cc
+  line_put : (r : Came) (known : Status) → found ≡ r → ended ≡ known → (status.Memory ≡ known → ⊥) → (status.Usage ≡ known → ⊥) → PutsOrBreaks o (line_of r) before after
+  line_put r known same is apart other =
+      subst (λ (x : Came). PutsOrBreaks o (line_of x) before after) same (puts_at o before after ended (telling_of found) known told is apart other)
 
-  is_no_fault : status.Memory ≡ status.Fault → ⊥
-  is_no_fault e = let bad : status.Memory ≡ status.Fault = e in cc
-
-  line_put : (r : Came) → telling.0 ≡ r → IsPut o (line_of r) telling.1 before after
-  line_put r is = as_line o telling.0 r telling.1 before after is telling.4
+  line_gained : (r : Came) (a : Answer) → found ≡ r → a ≡ Ok tt → IsPut o (line_of found) a before after → GainsLine o (line_of r) before after
+  line_gained r a same ok put = gains o (line_of r) before after a ok (subst (λ (x : Came). IsPut o (line_of x) a before after) same put)
 
   pub done : ended ≡ status.Done → IsDone m o c desk new_desk old new before after
   done is =
-      let t = told_at telling.0 telling.1 ended status.Done telling.3 is in
+      let w = at status.Done is is_no_done in
+      let t = w.1 in
       let l : Line = line.File t.0 t.1 t.2 t.3 in
-      (t.0, t.1, t.2, t.3, updated_from l t.4, gains o (line_of (came.Updated l)) before after telling.1 t.5 (line_put (came.Updated l) t.4))
+      (t.0, t.1, t.2, t.3, updated_from l t.4, line_gained (came.Updated l) w.0 t.4 t.5 w.2)
 
   pub refused : ended ≡ status.Refused → IsRefused m o c desk new_desk old new before after
   refused is =
-      let t = told_at telling.0 telling.1 ended status.Refused telling.3 is in
+      let w = at status.Refused is is_no_refused in
+      let t = w.1 in
       let l : Line = line.Refused t.0 t.1 in
-      (t.0, t.1, updated_from l t.2, gains o (line_of (came.Updated l)) before after telling.1 t.3 (line_put (came.Updated l) t.2))
+      (t.0, t.1, updated_from l t.2, line_gained (came.Updated l) w.0 t.2 t.3 w.2)
 
   pub script : ended ≡ status.Script → IsScript m o c desk new_desk old new before after
-  script is = elim (told_at telling.0 telling.1 ended status.Script telling.3 is) [
+  script is = elim (at status.Script is is_no_script).1 [
     | inl e ↦
-        let f = found_is found telling.0 came.NoPort telling.2 e (λ bad. let b : came.Memory ≡ came.NoPort = bad in cc) in
-        let d = no_port m c old new ran.0 (ends_in came.NoPort f) in
-        inl (d.1.0, d.1.1, asked_is None d.0, puts o (line_of came.NoPort) before after telling.1 (put_answered status.Script is is_no_script) (line_put came.NoPort e))
+        let d = no_port m c old new ran.0 (ends_in came.NoPort e) in
+        inl (d.1.0, d.1.1, asked_is None d.0, line_put came.NoPort status.Script e is is_no_script usage_is_no_script)
     | inr t ↦
-        let f = found_is found telling.0 (came.Refused t.0 t.1) telling.2 t.2 (λ bad. let b : came.Memory ≡ came.Refused t.0 t.1 = bad in cc) in
-        let d = refused_journal m c old new ran.0 t.0 t.1 (ends_in (came.Refused t.0 t.1) f) in
-        inr (d.0, t.0, t.1, d.2, d.3, asked_is (Some d.0) d.1, puts o (line_of (came.Refused t.0 t.1)) before after telling.1 (put_answered status.Script is is_no_script) (line_put (came.Refused t.0 t.1) t.2))
+        let d = refused_journal m c old new ran.0 t.0 t.1 (ends_in (came.Refused t.0 t.1) t.2) in
+        inr (d.0, t.0, t.1, d.2, d.3, asked_is (Some d.0) d.1, line_put (came.Refused t.0 t.1) status.Script t.2 is is_no_script usage_is_no_script)
   ]
 
   pub tells_refusals : (old ≡ [] → found ≡ came.NoPort) → TellsRefusals m o c desk new_desk old new before after ended
   tells_refusals none = record {
-    no_port = λ e. script_ends o before after came.NoPort found telling.0 telling.1 ended refl (inr (none e)) telling.2 telling.3 telling.4;
+    no_port = λ e. script_ends o before after ended came.NoPort found refl (inr (none e)) told;
     journal = λ answer line why is tells one.
         let same = append_cancel_left (m.calls desk) (asked c.journal ran.0) (Read c.journal answer ∷ []) (sym (ran.2.calls tells) ∙ one) in
         let read_is = asked_is_one c.journal ran.0 answer same in
-        let f = refused_or_memory m c old new answer line why found is (subst (λ (a : Option ReadAnswer). EndsIn m c a found old new) read_is ran.1) in
-        (f.0, script_ends o before after (came.Refused line why) found telling.0 telling.1 ended refl f.1 telling.2 telling.3 telling.4);
+        let f = refused_or_memory m c old new answer line why found is (subst (λ (a : Option ReadAnswer). IsEndOfReplay m c a found old new) read_is ran.1) in
+        (f.0, script_ends o before after ended (came.Refused line why) found refl f.1 told);
   }
 
-  failure : (l : Line) → (l ≡ line.WriteFault) ⊎ (telling.1 ≡ Err writing.Failed)
+  failure : (l : Line) (a : Answer) → IsPut o (line_of found) a before after → (l ≡ line.WriteFault) ⊎ (a ≡ Err writing.Failed)
       → (l ≡ line.WriteFault) ⊎ Rose (o.faults before) (o.faults after)
-  failure l (inl is) = inl is
-  failure l (inr failed) = inr (telling.4.cause failed)
+  failure l a put (inl is) = inl is
+  failure l a put (inr failed) = inr (put.cause failed)
 
   pub fault : ended ≡ status.Fault → IsFault m o c desk new_desk old new before after
-  fault is = elim (told_at telling.0 telling.1 ended status.Fault telling.3 is) [
-    | inl e ↦
-        let f = found_is found telling.0 came.Unread telling.2 e (λ bad. let b : came.Memory ≡ came.Unread = bad in cc) in
-        let d = unread m c old new ran.0 (ends_in came.Unread f) in
-        inl (asked_is (Some read.Failed) d.0, d.1, puts o (line_of came.Unread) before after telling.1 (put_answered status.Fault is is_no_fault) (line_put came.Unread e))
-    | inr t ↦ inr (
-      t.0,
-      updated_from t.0 t.1,
-      t.2,
-      failure t.0 t.3,
-      puts o (line_of (came.Updated t.0)) before after telling.1 (put_answered status.Fault is is_no_fault) (line_put (came.Updated t.0) t.1),
-    )
-  ]
+  fault is =
+      let w = at status.Fault is is_no_fault in
+      elim w.1 [
+        | inl e ↦
+            let d = unread m c old new ran.0 (ends_in came.Unread e) in
+            inl (asked_is (Some read.Failed) d.0, d.1, line_put came.Unread status.Fault e is is_no_fault usage_is_no_fault)
+        | inr t ↦ inr (
+          t.0,
+          updated_from t.0 t.1,
+          t.2,
+          failure t.0 w.0 w.2 t.3,
+          line_put (came.Updated t.0) status.Fault t.1 is is_no_fault usage_is_no_fault,
+        )
+      ]
 
   first_rose : (entries : List JournalEntry) (before_ports after_ports : List P) → IsUpdated m c entries line.WriteFault before_ports after_ports → FirstRose m before_ports after_ports
   first_rose entries [] after_ports u = absurd u
@@ -265,7 +241,7 @@ module _ {P O : Type 0} (m : port.Ghosts P) (o : out.Ghosts O) (c : Replay) (des
 
   pub cause : ended ≡ status.Fault → Rose (m.faults desk) (m.faults new_desk) ⊎ (FirstRose m old new ⊎ Rose (o.faults before) (o.faults after))
   cause is = elim (fault is) [
-    | inl read ↦ inl (read.0.cause refl)
+    | inl read ↦ inl (read.0.cause tt)
     | inr t ↦ elim t.3 [
       | inl failed ↦
           let u = subst (λ (l : Line). IsUpdatedFrom m c l desk new_desk old new) failed t.1 in
@@ -286,7 +262,7 @@ module _ {P O : Type 0} (m : port.Ghosts P) (o : out.Ghosts O) (c : Replay) (des
       stay [] = refl
       stay (p ∷ ps) = refl
 
-  others_in : (answer : Option ReadAnswer) (r : Came) → EndsIn m c answer r old new → OthersStay old new
+  others_in : (answer : Option ReadAnswer) (r : Came) → IsEndOfReplay m c answer r old new → OthersStay old new
   others_in None came.NoPort h = same_ports old new (h.1 ∙ sym h.0)
   others_in None came.Memory h = same_ports old new h
   others_in None came.Unread h = absurd h
@@ -312,4 +288,4 @@ module _ {P O : Type 0} (m : port.Ghosts P) (o : out.Ghosts O) (c : Replay) (des
   others = others_in ran.0 found ran.1
 
   pub no_usage : ended ≢ status.Usage
-  no_usage is = told_at telling.0 telling.1 ended status.Usage telling.3 is
+  no_usage is = (at status.Usage is is_no_usage).1

@@ -10,23 +10,24 @@ use Rattle.viz_journal.specs.declared.entry.JournalEntry.{JournalEntry}
 use Rattle.viz_journal.specs.Reading.{journal_of}
 use Rattle.viz_replay.specs.declared.came.Came.{Came}
 use Rattle.viz_replay.specs.declared.came.Came.TheVariants as came
-use Rattle.viz_replay.specs.Replay.{Replay, IsAsked, EndsIn}
+use Rattle.viz_replay.specs.Replay.{Replay, asked, IsEndOfReplay}
 use Rattle.viz_replay.specs.Served.{IsServed}
+use Rattle.viz_told.specs.Calls.{IsCalled}
 
 pub asked_after : {P : Type 0} (m : port.Ghosts P) (journal : List ℕ) (p r : P) (bytes : List ℕ)
     → (IsTrue m.tells_calls → m.calls r ≡ m.calls p ++ Read journal (read.Given bytes) ∷ []) → (IsTrue m.tells_files → m.files p journal ≡ Some bytes)
     → (IsTrue m.tells_files → SameFiles (m.files p) (m.files r)) → m.faults p ≤ m.faults r → m.limit r ≡ m.limit p
-    → IsAsked m journal (Some (read.Given bytes)) p r
+    → IsCalled m (asked journal (Some (read.Given bytes))) p r
 asked_after m journal p r bytes told given kept later same = record {
   calls = told;
   files = λ t. (given t, kept t);
-  cause = λ e. absurd (let bad : (let a : Option ReadAnswer = Some (read.Given bytes) in a) ≡ Some read.Failed = e in cc);
+  cause = λ f. absurd f;
   later = later;
   limit = same;
 }
 
 pub ends_after : {P : Type 0} (m : port.Ghosts P) (c : Replay) (bytes : List ℕ) (entries : List JournalEntry) (ended : Came) (old new : List P) → journal_of bytes ≡ Ok entries
-    → IsServed m c entries ended old new → EndsIn m c (Some (read.Given bytes)) ended old new
+    → IsServed m c entries ended old new → IsEndOfReplay m c (Some (read.Given bytes)) ended old new
 ends_after m c bytes entries (came.Updated l) old new reads s = (entries, reads, s)
 ends_after m c bytes entries came.Memory old new reads s = s
 ends_after m c bytes entries came.NoPort old new reads s = absurd s

@@ -7,24 +7,25 @@ use Rattle.viz_base.specs.declared.call.ReadAnswer.{ReadAnswer}
 use Rattle.viz_base.specs.declared.call.ReadAnswer.TheVariants as read
 use Rattle.viz_journal.specs.declared.entry.JournalEntry.{JournalEntry}
 use Rattle.viz_journal.specs.Reading.{journal_of}
-use Rattle.viz_once.specs.Promises.{GainsLine, PutsOrBreaks, EndsInScript}
-use Rattle.viz_once.specs.Report.{no_port_line, read_fault_line}
-use Rattle.viz_once.specs.declared.outcome.Status.{Status}
-use Rattle.viz_once.specs.declared.outcome.Status.TheVariants as status
 use Rattle.viz_report.specs.declared.line.Line.{Line}
 use Rattle.viz_report.specs.declared.line.Line.TheVariants as line
 use Rattle.viz_report.specs.declared.line.Reason.{Reason}
 use Rattle.viz_words.specs.declared.refusal.ScriptRefusal.{ScriptRefusal}
 use Rattle.viz_script_run.specs.Promises.{DeskAnswered}
 use Rattle.viz_script_run.specs.Told.{refused_script}
-use Rattle.viz_replay.specs.Replay.{Replay, IsAsked, IsRefusal, IsUpdated}
+use Rattle.viz_told.specs.declared.status.Status.{Status}
+use Rattle.viz_told.specs.declared.status.Status.TheVariants as status
+use Rattle.viz_told.specs.Calls.{IsCalled}
+use Rattle.viz_told.specs.Lines.{no_port_line, read_fault_line}
+use Rattle.viz_told.specs.Puts.{GainsLine, PutsOrBreaks, EndsInScript}
+use Rattle.viz_replay.specs.Replay.{Replay, asked, IsRefusal, IsUpdated}
 use Rattle.viz_replay.specs.Told.{file_line, refused_line, update_line, update_status}
 
 -- the journal was read, the sink was updated on the network of its first entries, with this line, and nothing else was done
 abbrev pub IsUpdatedFrom : {P : Type 0} → port.Ghosts P → Replay → Line → P → P → List P → List P → Type 0
 IsUpdatedFrom m c l desk new_desk old new =
     (bytes : List ℕ) × (entries : List JournalEntry) × (journal_of bytes ≡ Ok entries) × IsUpdated m c entries l old new
-    × IsAsked m c.journal (Some (read.Given bytes)) desk new_desk
+    × IsCalled m (asked c.journal (Some (read.Given bytes))) desk new_desk
 
 -- a run that answers Done wrote the file of the sink, and told its numbers
 abbrev pub IsDone : {P O : Type 0} → port.Ghosts P → out.Ghosts O → Replay → P → P → List P → List P → O → O → Type 0
@@ -41,9 +42,9 @@ IsRefused m o c desk new_desk old new before after =
 -- a run that answers Script: there is no port, and the desk wasn't used; or the journal is refused for this
 abbrev pub IsScript : {P O : Type 0} → port.Ghosts P → out.Ghosts O → Replay → P → P → List P → List P → O → O → Type 0
 IsScript m o c desk new_desk old new before after =
-    ((old ≡ []) × (new ≡ []) × IsAsked m c.journal None desk new_desk × PutsOrBreaks o no_port_line before after)
+    ((old ≡ []) × (new ≡ []) × IsCalled m (asked c.journal None) desk new_desk × PutsOrBreaks o no_port_line before after)
     ⊎ ((answer : ReadAnswer) × (n : ℕ) × (r : ScriptRefusal) × IsRefusal answer n r × (new ≡ old)
-    × IsAsked m c.journal (Some answer) desk new_desk × PutsOrBreaks o (refused_script n r) before after)
+    × IsCalled m (asked c.journal (Some answer)) desk new_desk × PutsOrBreaks o (refused_script n r) before after)
 
 -- where there is no port, that is told; and where the journal's read was answered so, and the desk was asked for nothing else, a refusal
 -- of it is told, and no port was called
@@ -57,6 +58,6 @@ pub record TellsRefusals {P O : Type 0} (m : port.Ghosts P) (o : out.Ghosts O) (
 -- failed, or the put of its line
 abbrev pub IsFault : {P O : Type 0} → port.Ghosts P → out.Ghosts O → Replay → P → P → List P → List P → O → O → Type 0
 IsFault m o c desk new_desk old new before after =
-    (IsAsked m c.journal (Some read.Failed) desk new_desk × (new ≡ old) × PutsOrBreaks o read_fault_line before after)
+    (IsCalled m (asked c.journal (Some read.Failed)) desk new_desk × (new ≡ old) × PutsOrBreaks o read_fault_line before after)
     ⊎ ((l : Line) × IsUpdatedFrom m c l desk new_desk old new × (update_status l ≢ status.Memory)
     × ((l ≡ line.WriteFault) ⊎ Rose (o.faults before) (o.faults after)) × PutsOrBreaks o (update_line l) before after)

@@ -1,7 +1,5 @@
 -- What a run of a journal's prefix did: at the desk and at the first port (docs/DEFINITIONS.md, "The account of a run").
-use Rattle.std.specs.Prelude.{◌≡◌, ℕ, ◌≤◌, min, List, [], ◌∷◌, ◌++◌, ◌⊎◌, length, take, Option, None, Some, Ok, Err, IsTrue}
-use Rattle.viz_base.specs.Faults.{Rose}
-use Rattle.viz_base.specs.Files.{Files, SameFiles}
+use Rattle.std.specs.Prelude.{◌≡◌, ℕ, min, List, [], ◌∷◌, length, take, Option, None, Some, Ok, Err}
 use Rattle.viz_base.specs.declared.port.Port as port
 use Rattle.viz_base.specs.declared.call.Call.{Call}
 use Rattle.viz_base.specs.declared.call.Call.TheVariants.{Read}
@@ -11,10 +9,10 @@ use Rattle.viz_journal.specs.declared.entry.JournalEntry.{JournalEntry}
 use Rattle.viz_journal.specs.Reading.{edits_of, journal_of}
 use Rattle.viz_network.specs.Network.{Network}
 use Rattle.viz_network.specs.History.{net_of}
-use Rattle.viz_once.specs.Account.{TellsFile}
-use Rattle.viz_once.specs.Promises.{FirstOnly}
 use Rattle.viz_report.specs.declared.line.Line.{Line}
 use Rattle.viz_account.specs.Served.{Updates}
+use Rattle.viz_told.specs.Calls.{IsCalled}
+use Rattle.viz_told.specs.Ports.{FirstOnly}
 use Rattle.viz_words.specs.declared.refusal.ScriptRefusal.{ScriptRefusal}
 use Rattle.viz_words.specs.declared.refusal.ScriptRefusal.TheVariants as refusal
 use Rattle.viz_replay.specs.declared.came.Came.{Came}
@@ -42,19 +40,6 @@ abbrev pub asked : List ℕ → Option ReadAnswer → List Call
 asked journal None = []
 asked journal (Some answer) = Read journal answer ∷ []
 
--- the files around it
-abbrev pub FilesAround : List ℕ → Option ReadAnswer → ℕ → Files → Files → Type 0
-FilesAround journal None limit old new = SameFiles old new
-FilesAround journal (Some answer) limit old new = TellsFile old limit journal answer × SameFiles old new
-
--- the journal was read, with this answer, or its read wasn't answered
-pub record IsAsked {P : Type 0} (m : port.Ghosts P) (journal : List ℕ) (answer : Option ReadAnswer) (old new : P) : Type 0 where
-  pub calls : IsTrue m.tells_calls → m.calls new ≡ m.calls old ++ asked journal answer
-  pub files : IsTrue m.tells_files → FilesAround journal answer (m.limit old) (m.files old) (m.files new)
-  pub cause : answer ≡ Some read.Failed → Rose (m.faults old) (m.faults new)
-  pub later : m.faults old ≤ m.faults new
-  pub limit : m.limit new ≡ m.limit old
-
 -- ---- how it ended
 
 -- why a journal is refused, by what its read answered
@@ -69,17 +54,17 @@ IsUpdated m c entries line old new =
     FirstOnly (Updates m (network_at c.count entries) (entries_at c.count entries) c.sink c.output line) old new
 
 -- how a run ended whose read was answered so, and what was done at the ports: they are called only for a journal
-abbrev pub EndsIn : {P : Type 0} → port.Ghosts P → Replay → Option ReadAnswer → Came → List P → List P → Type 0
-EndsIn m c None came.NoPort old new = (old ≡ []) × (new ≡ [])
-EndsIn m c None came.Memory old new = new ≡ old
-EndsIn m c (Some read.Failed) came.Unread old new = new ≡ old
-EndsIn m c (Some answer) (came.Refused line r) old new = IsRefusal answer line r × (new ≡ old)
-EndsIn m c (Some (read.Given bytes)) came.Memory old new = new ≡ old
-EndsIn m c (Some (read.Given bytes)) (came.Updated line) old new =
+abbrev pub IsEndOfReplay : {P : Type 0} → port.Ghosts P → Replay → Option ReadAnswer → Came → List P → List P → Type 0
+IsEndOfReplay m c None came.NoPort old new = (old ≡ []) × (new ≡ [])
+IsEndOfReplay m c None came.Memory old new = new ≡ old
+IsEndOfReplay m c (Some read.Failed) came.Unread old new = new ≡ old
+IsEndOfReplay m c (Some answer) (came.Refused line r) old new = IsRefusal answer line r × (new ≡ old)
+IsEndOfReplay m c (Some (read.Given bytes)) came.Memory old new = new ≡ old
+IsEndOfReplay m c (Some (read.Given bytes)) (came.Updated line) old new =
     (entries : List JournalEntry) × (journal_of bytes ≡ Ok entries) × IsUpdated m c entries line old new
-EndsIn m c answer ended old new = ⊥
+IsEndOfReplay m c answer ended old new = ⊥
 
 -- a run over a desk and ports; where there is no port the desk isn't used
 abbrev pub IsRan : {P : Type 0} → port.Ghosts P → Replay → Came → P → P → List P → List P → Type 0
 IsRan m c ended desk new_desk old new =
-    (answer : Option ReadAnswer) × EndsIn m c answer ended old new × IsAsked m c.journal answer desk new_desk
+    (answer : Option ReadAnswer) × IsEndOfReplay m c answer ended old new × IsCalled m (asked c.journal answer) desk new_desk

@@ -2,18 +2,18 @@
 
 ghost use Rattle.std.specs.Prelude.{◌≡◌, ◌≢◌, ◌⊎◌};
 ghost use Rattle.viz_base.specs.Faults.{Rose, one_more};
-ghost use Rattle.viz_once.specs.Promises.{FirstRose, OthersStay};
 ghost use Rattle.viz_replay.specs.declared.came.Came.{Came as End};
 ghost use Rattle.viz_replay.specs.Promises.{IsDone, IsRefused, IsFault, IsScript, TellsRefusals};
 ghost use Rattle.viz_replay.specs.Replay.{IsRan};
 ghost use Rattle.viz_replay.specs.Served.{replay_of};
-ghost use Rattle.viz_replay.specs.Told.{IsTold};
+ghost use Rattle.viz_replay.specs.Told.{telling_of};
+ghost use Rattle.viz_told.specs.Ports.{FirstRose, OthersStay};
+ghost use Rattle.viz_told.specs.Told.{IsTold};
 
-use crate::report::report;
 use crate::serving::{Replay, serve};
 use std::alloc::Global;
 use viz_base::{Out, Port};
-use viz_once::Status;
+use viz_told::{Status, tell};
 
 /// Writes the file of a node in the network of a journal's first entries, evaluated from scratch,
 /// by the first port, and puts one line.
@@ -28,7 +28,7 @@ pub fn run_scratch<P: Port, O: Out>(
 ) -> Status
     // What the run was: how it ended, and the line put of it.
     ensures account { (came : End) × IsRan P.Port (replay_of command.now) came desk.old desk.new
-        ports.old.items ports.new.items × IsTold O.Out came result out.old out.new }
+        ports.old.items ports.new.items × IsTold O.Out (telling_of came) result out.old out.new }
 
     // What follows of it for each status.
     ensures script { result ≡ Status.Script → IsScript P.Port O.Out (replay_of command.now)
@@ -51,5 +51,5 @@ pub fn run_scratch<P: Port, O: Out>(
     ensures one_put { O.puts out.new ≡ one_more (O.puts out.old) }
 {
     let came = serve(alloc, command, desk, ports);
-    report(alloc, out, &came)
+    tell(alloc, out, &came)
 }

@@ -2,7 +2,7 @@
 
 ghost use Rattle.std.specs.Prelude.{◌≡◌, min, length, [], Ok};
 ghost use Rattle.viz_journal.specs.Reading.{journal_of};
-ghost use Rattle.viz_replay.specs.Replay.{EndsIn, IsRan, IsUpdated, entries_at};
+ghost use Rattle.viz_replay.specs.Replay.{IsEndOfReplay, IsRan, IsUpdated, entries_at};
 ghost use Rattle.viz_replay.specs.Served.{replay_of, IsServed};
 
 use crate::came::Came;

@@ -15,7 +15,7 @@ use Rattle.viz_account.specs.Account.{AreActors}
 use Rattle.viz_phases.specs.Groups.{numbers, is_of, commands_in, by_phase, actors_over, history_limit}
 use Rattle.viz_script_run.specs.declared.ran.Ran.{Ran}
 use Rattle.viz_script_run.specs.declared.ran.Ran.TheVariants as ran
-use Rattle.viz_script_run.specs.Deeds.{Deed, Nothing, Asked, Kept, EndsIn, IsAccounted, IsServed, bytes_of}
+use Rattle.viz_script_run.specs.Deeds.{Deed, Nothing, Asked, Kept, IsEndOfScript, IsAccounted, IsServed, bytes_of}
 use Rattle.viz_script_run.specs.Promises.{AsksNoneOf}
 
 -- ---- commands
@@ -73,7 +73,7 @@ module _ {P : Type 0} (m : port.Ghosts P) (old new : List P) where
       ∙ none_by a.steps (i + 1) none (numbers phase_limit 1))
 
   -- a script was served, or no port was called
-  pub served_or_same : (deed : Deed) (r : Ran) → EndsIn m deed r old new
+  pub served_or_same : (deed : Deed) (r : Ran) → IsEndOfScript m deed r old new
       → (new ≡ old) ⊎ ((bytes : List ℕ) × (bytes_of deed ≡ Some bytes) × IsServed m bytes old new)
   served_or_same Nothing ran.Memory h = inl h
   served_or_same Nothing ran.Unread h = absurd h

@@ -13,12 +13,8 @@ use Rattle.viz_base.specs.declared.call.ReadAnswer.{ReadAnswer}
 use Rattle.viz_base.specs.declared.call.ReadAnswer.TheVariants as read
 use Rattle.viz_base.specs.declared.call.WriteAnswer.{WriteAnswer}
 use Rattle.viz_base.specs.declared.call.WriteAnswer.TheVariants as write
-use Rattle.viz_base.specs.declared.refusal.WriteRefusal.{WriteRefusal}
 use Rattle.viz_base.specs.declared.refusal.WriteRefusal.TheVariants as writing
 use Rattle.viz_history.specs.declared.entry.Entry.{Entry}
-use Rattle.viz_once.specs.Promises.{GainsLine, PutsOrBreaks, EndsInScript}
-use Rattle.viz_once.specs.declared.outcome.Status.{Status}
-use Rattle.viz_once.specs.declared.outcome.Status.TheVariants as status
 use Rattle.viz_script.specs.Orders.{Asked as Command}
 use Rattle.viz_script.specs.Script.{script_of, phase_limit}
 use Rattle.viz_words.specs.declared.refusal.ScriptRefusal.{ScriptRefusal}
@@ -30,16 +26,19 @@ use Rattle.viz_account.specs.Account.{faults_told, RoseBy, AreActors}
 use Rattle.viz_script_run.specs.declared.ran.Ran.{Ran}
 use Rattle.viz_script_run.specs.declared.ran.Ran.TheVariants as ran
 use Rattle.viz_phases.specs.Groups.{actors_over}
-use Rattle.viz_script_run.specs.Deeds.{Deed, Nothing, Asked, Kept, IsDoneAt, IsAccounted, IsServed, EndsIn, IsRan, calls_of, is_written}
-use Rattle.viz_script_run.specs.Told.{text_of, refused_script, is_fault, has_memory, has_fault, has_refused, served_status, status_after, Settles, IsPut, IsTold}
+use Rattle.viz_script_run.specs.Deeds.{Deed, Nothing, Asked, Kept, IsAccounted, IsServed, IsEndOfScript, IsRan, calls_of, is_written}
+use Rattle.viz_script_run.specs.Told.{text_of, refused_script, is_fault, has_memory, has_fault, has_refused, served_status, status_of, telling_of}
+use Rattle.viz_told.specs.declared.status.Status.{Status}
+use Rattle.viz_told.specs.declared.status.Status.TheVariants as status
+use Rattle.viz_told.specs.Calls.{IsCalled}
+use Rattle.viz_told.specs.Puts.{PutsOrBreaks, EndsInScript}
+use Rattle.viz_told.specs.Told.{status_at_fault, status_at_memory, status_after, IsPut, IsTold}
+use Rattle.viz_told.proofs.ToldLemmas.{Answer, is_no_done, is_no_usage, is_no_script, is_no_refused, is_no_fault, usage_is_no_script, usage_is_no_fault, gains, ends_in_memory, ends_in_script, told_at, puts_at}
 use Rattle.viz_script_run.specs.Promises.{IsRefusal, IsScriptRefused, TellsRefusals, IsServedBy, IsReported, IsServedWithFault, IsUnread, IsCutOff, IdleStay, SomeRose}
 use Rattle.viz_script_run.proofs.RowLemmas.{rows_pass}
 use Rattle.viz_script_run.proofs.IdleLemmas.{served_or_same, idle_ports}
 
-abbrev pub Answer : Type 0
-Answer = Result (Unit {0}) WriteRefusal
-
--- ---- what was told, and what the put answered, by the status
+-- ---- what was found, and what the put answered, by the status
 
 -- statuses of rows, by what they have
 abbrev pub by_rows : Bool → Bool → Bool → Status
@@ -48,19 +47,13 @@ by_rows memory fault refused = cond memory status.Memory (cond fault status.Faul
 abbrev pub ToldBy : Ran → Answer → Status → Type 0
 ToldBy r a status.Done = (rows : List Row) × (r ≡ ran.Served rows true) × (served_status rows true ≡ status.Done) × (a ≡ Ok tt)
 ToldBy r a status.Refused = (rows : List Row) × (r ≡ ran.Served rows true) × (served_status rows true ≡ status.Refused) × (a ≡ Ok tt)
-ToldBy r a status.Script = (line : ℕ) × (why : ScriptRefusal) × (r ≡ ran.Refused line why) × ((a ≡ Err writing.Memory) → ⊥)
+ToldBy r a status.Script = (line : ℕ) × (why : ScriptRefusal) × (r ≡ ran.Refused line why)
 ToldBy r a status.Fault =
-    ((r ≡ ran.Unread) × ((a ≡ Err writing.Memory) → ⊥))
+    (r ≡ ran.Unread)
     ⊎ ((rows : List Row) × (kept : Bool) × (r ≡ ran.Served rows kept) × (has_memory rows ≡ false)
     × ((((has_fault rows || not kept) ≡ true) × (a ≡ Ok tt)) ⊎ (a ≡ Err writing.Failed)))
 ToldBy r a status.Usage = ⊥
 ToldBy r a status.Memory = Unit {0}
-
-pub no_memory : (let a : Answer = Ok tt in a) ≡ Err writing.Memory → ⊥
-no_memory e = let bad : (let a : Answer = Ok tt in a) ≡ Err writing.Memory = e in cc
-
-pub failed_is_no_memory : (let a : Answer = Err writing.Failed in a) ≡ Err writing.Memory → ⊥
-failed_is_no_memory e = let bad : (let a : Answer = Err writing.Failed in a) ≡ Err writing.Memory = e in cc
 
 kept_all : (fault kept : Bool) → (fault || not kept) ≡ false → kept ≡ true
 kept_all fault true e = refl
@@ -88,38 +81,36 @@ module _ (rows : List Row) (kept : Bool) where
   served_told false false false em ef er =
       whole status.Done (kept_all (has_fault rows) kept ef) (status_is false false false em ef er) (ran.Served rows kept) refl
 
-  failed_told : (m : Bool) → has_memory rows ≡ m → ToldBy (ran.Served rows kept) (Err writing.Failed) (cond m status.Memory status.Fault)
-  failed_told true em = tt
-  failed_told false em = inr (rows, kept, refl, em, inr refl)
+  failed_told : (m f r : Bool) → has_memory rows ≡ m → ToldBy (ran.Served rows kept) (Err writing.Failed) (status_at_fault (by_rows m f r))
+  failed_told true f r em = tt
+  failed_told false true r em = inr (rows, kept, refl, em, inr refl)
+  failed_told false false true em = inr (rows, kept, refl, em, inr refl)
+  failed_told false false false em = inr (rows, kept, refl, em, inr refl)
 
-told_by : (r : Ran) (a : Answer) → ToldBy r a (status_after r a)
-told_by ran.Unread (Ok done) = inl (refl, no_memory)
-told_by ran.Unread (Err writing.Failed) = inl (refl, failed_is_no_memory)
+  no_room : (m f r : Bool) → ToldBy (ran.Served rows kept) (Err writing.Memory) (status_at_memory (by_rows m f r))
+  no_room true f r = tt
+  no_room false true r = tt
+  no_room false false true = tt
+  no_room false false false = tt
+
+told_by : (r : Ran) (a : Answer) → ToldBy r a (status_after (status_of r) a)
+told_by ran.Unread (Ok done) = inl refl
+told_by ran.Unread (Err writing.Failed) = inl refl
 told_by ran.Unread (Err writing.Memory) = tt
-told_by (ran.Refused line why) (Ok done) = (line, why, refl, no_memory)
-told_by (ran.Refused line why) (Err writing.Failed) = (line, why, refl, failed_is_no_memory)
+told_by (ran.Refused line why) (Ok done) = (line, why, refl)
+told_by (ran.Refused line why) (Err writing.Failed) = (line, why, refl)
 told_by (ran.Refused line why) (Err writing.Memory) = tt
 told_by (ran.Served rows kept) (Ok done) = served_told rows kept (has_memory rows) (has_fault rows || not kept) (has_refused rows) refl refl refl
-told_by (ran.Served rows kept) (Err writing.Failed) = failed_told rows kept (has_memory rows) refl
-told_by (ran.Served rows kept) (Err writing.Memory) = tt
+told_by (ran.Served rows kept) (Err writing.Failed) = failed_told rows kept (has_memory rows) (has_fault rows || not kept) (has_refused rows) refl
+told_by (ran.Served rows kept) (Err writing.Memory) = no_room rows kept (has_memory rows) (has_fault rows || not kept) (has_refused rows)
 told_by ran.Memory (Ok done) = tt
 told_by ran.Memory (Err writing.Failed) = tt
 told_by ran.Memory (Err writing.Memory) = tt
 
-told_at : (r : Ran) (a : Answer) (ended known : Status) → ended ≡ status_after r a → ended ≡ known → ToldBy r a known
-told_at r a ended known e is = subst (ToldBy r a) (sym e ∙ is) (told_by r a)
-
--- what is told was found, where it isn't want of memory
-found_is : (found told o : Ran) → Settles found told → told ≡ o → (ran.Memory ≡ o → ⊥) → found ≡ o
-found_is found told o settles is apart = elim settles [
-  | inl same ↦ sym same ∙ is
-  | inr memory ↦ absurd (apart (sym memory.1 ∙ is))
-]
-
 -- ---- what was done, by how the run ended
 
 module _ {P : Type 0} (m : port.Ghosts P) (old new : List P) where
-  served_deed : (deed : Deed) (rows : List Row) (kept : Bool) → EndsIn m deed (ran.Served rows kept) old new
+  served_deed : (deed : Deed) (rows : List Row) (kept : Bool) → IsEndOfScript m deed (ran.Served rows kept) old new
       → (bytes : List ℕ) × (text : List ℕ) × (answer : WriteAnswer) × (deed ≡ Kept bytes text answer) × IsAccounted m bytes rows text old new × (kept ≡ is_written answer)
   served_deed Nothing rows kept h = absurd h
   served_deed (Asked read.Failed) rows kept h = absurd h
@@ -127,7 +118,7 @@ module _ {P : Type 0} (m : port.Ghosts P) (old new : List P) where
   served_deed (Asked (read.Given bytes)) rows kept h = absurd h
   served_deed (Kept bytes text answer) rows kept h = (bytes, text, answer, refl, h.0, h.1)
 
-  refused_deed : (deed : Deed) (line : ℕ) (why : ScriptRefusal) → EndsIn m deed (ran.Refused line why) old new
+  refused_deed : (deed : Deed) (line : ℕ) (why : ScriptRefusal) → IsEndOfScript m deed (ran.Refused line why) old new
       → (answer : ReadAnswer) × (deed ≡ Asked answer) × IsRefusal (actors_over old) answer line why × (new ≡ old)
   refused_deed Nothing line why h = absurd h
   refused_deed (Asked read.Failed) line why h = absurd h
@@ -135,7 +126,7 @@ module _ {P : Type 0} (m : port.Ghosts P) (old new : List P) where
   refused_deed (Asked (read.Given bytes)) line why h = (read.Given bytes, refl, h.0, h.1)
   refused_deed (Kept bytes text answer) line why h = absurd h
 
-  unread_deed : (deed : Deed) → EndsIn m deed ran.Unread old new → (deed ≡ Asked read.Failed) × (new ≡ old)
+  unread_deed : (deed : Deed) → IsEndOfScript m deed ran.Unread old new → (deed ≡ Asked read.Failed) × (new ≡ old)
   unread_deed Nothing h = absurd h
   unread_deed (Asked read.Failed) h = (refl, h)
   unread_deed (Asked (read.TooLong taken)) h = absurd h
@@ -149,20 +140,6 @@ written_is write.Failed e = absurd (true≢false e)
 failed_is : (answer : WriteAnswer) → not (is_written answer) ≡ true → answer ≡ write.Failed
 failed_is write.Written e = absurd (true≢false (sym e))
 failed_is write.Failed e = refl
-
--- ---- the text
-
-module _ {O : Type 0} (m : out.Ghosts O) (text : List ℕ) (old new : O) where
-  pub gains : (a : Answer) → a ≡ Ok tt → IsPut m text a old new → GainsLine m text old new
-  gains a ok put = (subst (λ (b : Answer). IsPut m text b old new) ok put).text_after
-
-  pub puts : (a : Answer) → (a ≡ Err writing.Memory → ⊥) → IsPut m text a old new → PutsOrBreaks m text old new
-  puts (Ok done) apart put = λ t. inl (put.text_after t)
-  puts (Err writing.Failed) apart put = λ t. inr (put.cause refl, put.text_after t)
-  puts (Err writing.Memory) apart put = absurd (apart refl)
-
-as_text : {O : Type 0} (m : out.Ghosts O) (told o : Ran) (a : Answer) (old new : O) → told ≡ o → IsPut m (text_of told) a old new → IsPut m (text_of o) a old new
-as_text m told o a old new is put = subst (λ (x : Ran). IsPut m (text_of x) a old new) is put
 
 -- ---- where a script is refused
 
@@ -181,7 +158,7 @@ module _ {P : Type 0} (m : port.Ghosts P) (old new : List P) where
   abbrev EndsRefused : ℕ → ScriptRefusal → Ran → Type 0
   EndsRefused line why found = (new ≡ old) × ((found ≡ ran.Memory) ⊎ (found ≡ ran.Refused line why))
 
-  refused_or_memory : (answer : ReadAnswer) (line : ℕ) (why : ScriptRefusal) (found : Ran) → IsRefusal (actors_over old) answer line why → EndsIn m (Asked answer) found old new
+  refused_or_memory : (answer : ReadAnswer) (line : ℕ) (why : ScriptRefusal) (found : Ran) → IsRefusal (actors_over old) answer line why → IsEndOfScript m (Asked answer) found old new
       → EndsRefused line why found
   refused_or_memory read.Failed line why found is h = absurd is
   refused_or_memory (read.TooLong taken) line why (ran.Refused l r) is h = (h.2, inr (ap₂ ran.Refused (h.0 ∙ sym is.0) (h.1 ∙ sym is.1)))
@@ -198,25 +175,13 @@ module _ {P : Type 0} (m : port.Ghosts P) (old new : List P) where
   refused_or_memory (read.Given bytes) line why ran.Unread is h = absurd h
   refused_or_memory (read.Given bytes) line why (ran.Served rows kept) is h = absurd h
 
--- the status of a put that tells that there is nothing to serve, or that memory ran out
-module _ {O : Type 0} (o : out.Ghosts O) (old new : O) where
-  script_by : (line : ℕ) (why : ScriptRefusal) (a : Answer) (ended : Status) → ended ≡ status_after (ran.Refused line why) a → IsPut o (refused_script line why) a old new
+module _ {O : Type 0} (o : out.Ghosts O) (old new : O) (ended : Status) where
+  -- the status of a script that is refused so, or that ran out of memory
+  script_ends : (line : ℕ) (why : ScriptRefusal) (found : Ran) → (found ≡ ran.Memory) ⊎ (found ≡ ran.Refused line why) → IsTold o (telling_of found) ended old new
       → EndsInScript o (refused_script line why) old new ended
-  script_by line why (Ok done) ended e put = inl (e, puts o (refused_script line why) old new (Ok done) no_memory put)
-  script_by line why (Err writing.Failed) ended e put = inl (e, puts o (refused_script line why) old new (Err writing.Failed) failed_is_no_memory put)
-  script_by line why (Err writing.Memory) ended e put = inr e
-
-  memory_by : (text : List ℕ) (a : Answer) (ended : Status) → ended ≡ status_after ran.Memory a → EndsInScript o text old new ended
-  memory_by text (Ok done) ended e = inr e
-  memory_by text (Err writing.Failed) ended e = inr e
-  memory_by text (Err writing.Memory) ended e = inr e
-
-  script_ends : (line : ℕ) (why : ScriptRefusal) (found told : Ran) (a : Answer) (ended : Status) → (found ≡ ran.Memory) ⊎ (found ≡ ran.Refused line why) → Settles found told
-      → ended ≡ status_after told a → IsPut o (text_of told) a old new → EndsInScript o (refused_script line why) old new ended
-  script_ends line why found told a ended (inl memory) (inl same) e put = memory_by (refused_script line why) a ended (subst (λ (r : Ran). ended ≡ status_after r a) (same ∙ memory) e)
-  script_ends line why found told a ended (inr refused) (inl same) e put =
-      script_by line why a ended (subst (λ (r : Ran). ended ≡ status_after r a) (same ∙ refused) e) (as_text o told (ran.Refused line why) a old new (same ∙ refused) put)
-  script_ends line why found told a ended is (inr memory) e put = memory_by (refused_script line why) a ended (subst (λ (r : Ran). ended ≡ status_after r a) memory.1 e)
+  script_ends line why found (inl memory) told = inr (ends_in_memory o old new ended (telling_of found) (ap status_of memory) told)
+  script_ends line why found (inr same) told =
+      ends_in_script o old new ended (telling_of (ran.Refused line why)) refl (subst (λ (x : Ran). IsTold o (telling_of x) ended old new) same told)
 
 -- ---- counts of faults
 
@@ -259,12 +224,12 @@ module _ {P : Type 0} (m : port.Ghosts P) (limit : ℕ) (h : List Entry) (ends :
 -- ---- the promises
 
 module _ {P O : Type 0} (m : port.Ghosts P) (o : out.Ghosts O) (script journal : List ℕ) (desk new_desk : P) (old new : List P) (before after : O) (ended : Status)
-    (found : Ran) (came : IsRan m script journal found desk new_desk old new) (telling : IsTold o found ended before after) where
-  deed_is : (deed : Deed) → came.0 ≡ deed → IsDoneAt m script journal deed desk new_desk
-  deed_is deed is = subst (λ (d : Deed). IsDoneAt m script journal d desk new_desk) is came.2
+    (found : Ran) (came : IsRan m script journal found desk new_desk old new) (told : IsTold o (telling_of found) ended before after) where
+  deed_is : (deed : Deed) → came.0 ≡ deed → IsCalled m (calls_of script journal deed) desk new_desk
+  deed_is deed is = subst (λ (d : Deed). IsCalled m (calls_of script journal d) desk new_desk) is came.2
 
-  ends_in : (r : Ran) → found ≡ r → EndsIn m came.0 r old new
-  ends_in r is = subst (λ (x : Ran). EndsIn m came.0 x old new) is came.1
+  ends_in : (r : Ran) → found ≡ r → IsEndOfScript m came.0 r old new
+  ends_in r is = subst (λ (x : Ran). IsEndOfScript m came.0 x old new) is came.1
 
   served_rows : (rows : List Row) (kept : Bool) → found ≡ ran.Served rows kept
       → (answer : WriteAnswer) × IsServedBy m script journal rows answer desk new_desk old new × (kept ≡ is_written answer)
@@ -272,74 +237,74 @@ module _ {P O : Type 0} (m : port.Ghosts P) (o : out.Ghosts O) (script journal :
       let d = served_deed m old new came.0 rows kept (ends_in (ran.Served rows kept) is) in
       (d.2, (d.0, d.1, d.4, deed_is (Kept d.0 d.1 d.2) d.3), d.5)
 
-  found_served : (rows : List Row) (kept : Bool) → telling.0 ≡ ran.Served rows kept → found ≡ ran.Served rows kept
-  found_served rows kept is = found_is found telling.0 (ran.Served rows kept) telling.2 is (λ e. let bad : ran.Memory ≡ ran.Served rows kept = e in cc)
+  -- what was found and put, by a status that is known
+  at : (known : Status) → ended ≡ known → (status.Memory ≡ known → ⊥) → (a : Answer) × ToldBy found a known × IsPut o (text_of found) a before after
+  at known is apart = told_at o before after ended (telling_of found) (ToldBy found) (told_by found) known told is apart
 
-  text_put : (r : Ran) → telling.0 ≡ r → IsPut o (text_of r) telling.1 before after
-  text_put r is = as_text o telling.0 r telling.1 before after is telling.4
+  text_put : (r : Ran) (known : Status) → found ≡ r → ended ≡ known → (status.Memory ≡ known → ⊥) → (status.Usage ≡ known → ⊥) → PutsOrBreaks o (text_of r) before after
+  text_put r known same is apart other =
+      subst (λ (x : Ran). PutsOrBreaks o (text_of x) before after) same (puts_at o before after ended (telling_of found) known told is apart other)
 
-  reported : (known : Status) → (rows : List Row) × (telling.0 ≡ ran.Served rows true) × (served_status rows true ≡ known) × (telling.1 ≡ Ok tt)
+  reported : (known : Status) → ended ≡ known → (status.Memory ≡ known → ⊥)
+      → ((a : Answer) → ToldBy found a known → (rows : List Row) × (found ≡ ran.Served rows true) × (served_status rows true ≡ known) × (a ≡ Ok tt))
       → IsReported m o script journal known desk new_desk old new before after
-  reported known t =
-      let s = served_rows t.0 true (found_served t.0 true t.1) in (
+  reported known is apart tells =
+      let w = at known is apart in
+      let t = tells w.0 w.1 in
+      let s = served_rows t.0 true t.1 in (
         t.0,
         subst (λ (answer : WriteAnswer). IsServedBy m script journal t.0 answer desk new_desk old new) (written_is s.0 s.2) s.1,
         t.2,
-        gains o (rows_text t.0) before after telling.1 t.3 (text_put (ran.Served t.0 true) t.1),
+        gains o (rows_text t.0) before after w.0 t.3 (subst (λ (x : Ran). IsPut o (text_of x) w.0 before after) t.1 w.2),
       )
 
   pub done : ended ≡ status.Done → IsReported m o script journal status.Done desk new_desk old new before after
-  done is = reported status.Done (told_at telling.0 telling.1 ended status.Done telling.3 is)
+  done is = reported status.Done is is_no_done (λ a t. t)
 
   pub refused : ended ≡ status.Refused → IsReported m o script journal status.Refused desk new_desk old new before after
-  refused is = reported status.Refused (told_at telling.0 telling.1 ended status.Refused telling.3 is)
+  refused is = reported status.Refused is is_no_refused (λ a t. t)
 
   pub script_refused : ended ≡ status.Script → IsScriptRefused m o script journal desk new_desk old new before after
   script_refused is =
-      let t = told_at telling.0 telling.1 ended status.Script telling.3 is in
-      let f = found_is found telling.0 (ran.Refused t.0 t.1) telling.2 t.2 (λ e. let bad : ran.Memory ≡ ran.Refused t.0 t.1 = e in cc) in
-      let d = refused_deed m old new came.0 t.0 t.1 (ends_in (ran.Refused t.0 t.1) f) in
-      (d.0, t.0, t.1, d.2, deed_is (Asked d.0) d.1, d.3, puts o (refused_script t.0 t.1) before after telling.1 t.3 (text_put (ran.Refused t.0 t.1) t.2))
+      let t = (at status.Script is is_no_script).1 in
+      let d = refused_deed m old new came.0 t.0 t.1 (ends_in (ran.Refused t.0 t.1) t.2) in
+      (d.0, t.0, t.1, d.2, deed_is (Asked d.0) d.1, d.3, text_put (ran.Refused t.0 t.1) status.Script t.2 is is_no_script usage_is_no_script)
 
   pub tells_refusals : TellsRefusals m o script desk new_desk old new before after ended
   tells_refusals = λ answer line why is tells asked.
       let same = append_cancel_left (m.calls desk) (calls_of script journal came.0) (Read script answer ∷ []) (sym (came.2.calls tells) ∙ asked) in
       let deed = asked_deed script journal came.0 answer same in
-      let f = refused_or_memory m old new answer line why found is (subst (λ (d : Deed). EndsIn m d found old new) deed came.1) in
-      (f.0, script_ends o before after line why found telling.0 telling.1 ended f.1 telling.2 telling.3 telling.4)
+      let f = refused_or_memory m old new answer line why found is (subst (λ (d : Deed). IsEndOfScript m d found old new) deed came.1) in
+      (f.0, script_ends o before after ended line why found f.1 told)
 
-  unread : telling.0 ≡ ran.Unread → (telling.1 ≡ Err writing.Memory → ⊥) → IsUnread m o script journal desk new_desk old new before after
-  unread is apart =
-      let f = found_is found telling.0 ran.Unread telling.2 is (λ e. let bad : ran.Memory ≡ ran.Unread = e in cc) in
-      let d = unread_deed m old new came.0 (ends_in ran.Unread f) in
-      (deed_is (Asked read.Failed) d.0, d.1, puts o (text_of ran.Unread) before after telling.1 apart (text_put ran.Unread is))
+  unread : found ≡ ran.Unread → ended ≡ status.Fault → IsUnread m o script journal desk new_desk old new before after
+  unread same is =
+      let d = unread_deed m old new came.0 (ends_in ran.Unread same) in
+      (deed_is (Asked read.Failed) d.0, d.1, text_put ran.Unread status.Fault same is is_no_fault usage_is_no_fault)
 
-  why : (rows : List Row) (kept : Bool) (answer : WriteAnswer) → kept ≡ is_written answer
-      → (((has_fault rows || not kept) ≡ true) × (telling.1 ≡ Ok tt)) ⊎ (telling.1 ≡ Err writing.Failed)
+  why : (rows : List Row) (kept : Bool) (answer : WriteAnswer) (a : Answer) → kept ≡ is_written answer → IsPut o (text_of found) a before after
+      → (((has_fault rows || not kept) ≡ true) × (a ≡ Ok tt)) ⊎ (a ≡ Err writing.Failed)
       → (has_fault rows ≡ true) ⊎ ((answer ≡ write.Failed) ⊎ Rose (o.faults before) (o.faults after))
-  why rows kept answer is (inl t) =
+  why rows kept answer a is put (inl t) =
       ⊎_elim (λ (line : has_fault rows ≡ true). inl line) (λ (lost : not kept ≡ true). inr (inl (failed_is answer (sym (ap not is) ∙ lost)))) (or_cases (has_fault rows) (not kept) t.0)
-  why rows kept answer is (inr failed) = inr (inr (telling.4.cause failed))
-
-  answered : (rows : List Row) (kept : Bool) → (((has_fault rows || not kept) ≡ true) × (telling.1 ≡ Ok tt)) ⊎ (telling.1 ≡ Err writing.Failed)
-      → telling.1 ≡ Err writing.Memory → ⊥
-  answered rows kept (inl t) memory = no_memory (sym t.1 ∙ memory)
-  answered rows kept (inr failed) memory = failed_is_no_memory (sym failed ∙ memory)
+  why rows kept answer a is put (inr failed) = inr (inr (put.cause failed))
 
   pub fault : ended ≡ status.Fault → IsServedWithFault m o script journal desk new_desk old new before after ⊎ IsUnread m o script journal desk new_desk old new before after
-  fault is = elim (told_at telling.0 telling.1 ended status.Fault telling.3 is) [
-    | inl t ↦ inr (unread t.0 t.1)
-    | inr t ↦
-        let s = served_rows t.0 t.1 (found_served t.0 t.1 t.2) in
-        inl (t.0, s.0, s.1, t.3, why t.0 t.1 s.0 s.2 t.4, puts o (rows_text t.0) before after telling.1 (answered t.0 t.1 t.4) (text_put (ran.Served t.0 t.1) t.2))
-  ]
+  fault is =
+      let w = at status.Fault is is_no_fault in
+      elim w.1 [
+        | inl same ↦ inr (unread same is)
+        | inr t ↦
+            let s = served_rows t.0 t.1 t.2 in
+            inl (t.0, s.0, s.1, t.3, why t.0 t.1 s.0 w.0 s.2 w.2 t.4, text_put (ran.Served t.0 t.1) status.Fault t.2 is is_no_fault usage_is_no_fault)
+      ]
 
   rose_in : (rows : List Row) (answer : WriteAnswer) → IsServedBy m script journal rows answer desk new_desk old new
       → (has_fault rows ≡ true) ⊎ ((answer ≡ write.Failed) ⊎ Rose (o.faults before) (o.faults after))
       → Rose (m.faults desk) (m.faults new_desk) ⊎ (SomeRose m old new ⊎ Rose (o.faults before) (o.faults after))
   rose_in rows answer s (inl line) =
       inr (inl (some_rose m _ s.2.history s.2.account.ends s.2.account.passes _ s.2.told old new s.2.account.actors (rows_pass is_fault phase_limit (map (λ (actor : List (List Line)). 1) s.2.told) s.2.told (sym (ap has_fault s.2.rows_are) ∙ line))))
-  rose_in rows answer s (inr (inl lost)) = inl ((subst (λ (a : WriteAnswer). IsDoneAt m script journal (Kept s.0 s.1 a) desk new_desk) lost s.3).cause tt)
+  rose_in rows answer s (inr (inl lost)) = inl ((subst (λ (a : WriteAnswer). IsCalled m (calls_of script journal (Kept s.0 s.1 a)) desk new_desk) lost s.3).cause tt)
   rose_in rows answer s (inr (inr text)) = inr (inr text)
 
   pub cause : ended ≡ status.Fault → Rose (m.faults desk) (m.faults new_desk) ⊎ (SomeRose m old new ⊎ Rose (o.faults before) (o.faults after))
@@ -348,7 +313,7 @@ module _ {P O : Type 0} (m : port.Ghosts P) (o : out.Ghosts O) (script journal :
     | inr u ↦ inl (u.0.cause tt)
   ]
 
-  cut_off_in : (deed : Deed) (r : Ran) → EndsIn m deed r old new → IsDoneAt m script journal deed desk new_desk → IsCutOff m script journal desk new_desk old new
+  cut_off_in : (deed : Deed) (r : Ran) → IsEndOfScript m deed r old new → IsCalled m (calls_of script journal deed) desk new_desk → IsCutOff m script journal desk new_desk old new
   cut_off_in Nothing ran.Memory h d = inl (inl d, h)
   cut_off_in Nothing ran.Unread h d = absurd h
   cut_off_in Nothing (ran.Refused line r) h d = absurd h
@@ -377,4 +342,4 @@ module _ {P O : Type 0} (m : port.Ghosts P) (o : out.Ghosts O) (script journal :
   idle_stay = (came.0, came.2, λ i none. idle_ports m old new came.0 (served_or_same m old new came.0 found came.1) i none)
 
   pub no_usage : ended ≢ status.Usage
-  no_usage is = told_at telling.0 telling.1 ended status.Usage telling.3 is
+  no_usage is = (at status.Usage is is_no_usage).1

@@ -18,7 +18,7 @@ use Rattle.viz_phases.specs.Groups.{by_actor, actors_over, history_limit}
 use Rattle.viz_script_run.specs.Journals.{journal_of}
 use Rattle.viz_phases.specs.Served.{IsServedScript}
 use Rattle.viz_script_run.specs.Numbering.{actors_of, TellsActor, AreOwn, IsJournalBy}
-use Rattle.viz_script_run.specs.Deeds.{Asked, Kept, EndsIn, IsAccounted, IsServed}
+use Rattle.viz_script_run.specs.Deeds.{Asked, Kept, IsEndOfScript, IsAccounted, IsServed}
 use Rattle.viz_script_run.specs.Serving.{IsServedWith, IsKept, IsRanBehind}
 use Rattle.viz_script_run.proofs.RowLemmas.{rows_hold}
 use Rattle.viz_script_run.proofs.SoloLemmas.{rows_count}
@@ -83,12 +83,12 @@ module _ {P : Type 0} (m : port.Ghosts P) (bytes name : List ℕ) (steps : List 
   by_rows : (text : List ℕ) → IsJournalBy rows history text → text ≡ journal_of s.account.passes history
   by_rows text journal = journal s.account.passes (are_own m history_limit phase_limit script rows history s.told old new s.account s.rows_are)
 
-  served_with : (r : Ran) (text : List ℕ) (answer : WriteAnswer) → IsJournalBy rows history text → IsServedWith rows answer r → EndsIn m (Kept bytes text answer) r old new
+  served_with : (r : Ran) (text : List ℕ) (answer : WriteAnswer) → IsJournalBy rows history text → IsServedWith rows answer r → IsEndOfScript m (Kept bytes text answer) r old new
   served_with (ran.Served all kept) text answer journal w = (accounted all text w.0 (by_rows text journal), w.1)
   served_with ran.Unread text answer journal w = absurd w
   served_with (ran.Refused line why) text answer journal w = absurd w
   served_with ran.Memory text answer journal w = absurd w
 
   pub served_behind : IsKept m name rows history came desk new_desk → IsRanBehind m bytes name came desk new_desk old new
-  served_behind (inl memory) = inl (subst (λ (r : Ran). EndsIn m (Asked (read.Given bytes)) r old new) (sym memory.0) (inr served), memory.1)
+  served_behind (inl memory) = inl (subst (λ (r : Ran). IsEndOfScript m (Asked (read.Given bytes)) r old new) (sym memory.0) (inr served), memory.1)
   served_behind (inr kept) = inr (kept.0, kept.1, served_with came kept.0 kept.1 kept.2 kept.3, kept.4)

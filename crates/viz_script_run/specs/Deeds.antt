@@ -1,7 +1,5 @@
 -- What a run of a script did: at the desk, at the ports, and how it ended (docs/DEFINITIONS.md, "The account of a script").
-use Rattle.std.specs.Prelude.{◌≡◌, ℕ, ◌≤◌, Bool, true, false, List, [], ◌∷◌, ◌++◌, ◌⊎◌, All, map, Option, None, Some, Ok, Err, IsTrue}
-use Rattle.viz_base.specs.Faults.{Rose}
-use Rattle.viz_base.specs.Files.{Files, SameFiles, SameOthers}
+use Rattle.std.specs.Prelude.{◌≡◌, ℕ, Bool, true, false, List, [], ◌∷◌, ◌⊎◌, All, map, Option, None, Some, Ok, Err}
 use Rattle.viz_base.specs.declared.port.Port as port
 use Rattle.viz_base.specs.declared.call.Call.{Call}
 use Rattle.viz_base.specs.declared.call.Call.TheVariants.{Read, Write}
@@ -10,7 +8,6 @@ use Rattle.viz_base.specs.declared.call.ReadAnswer.TheVariants as read
 use Rattle.viz_base.specs.declared.call.WriteAnswer.{WriteAnswer}
 use Rattle.viz_base.specs.declared.call.WriteAnswer.TheVariants as write
 use Rattle.viz_history.specs.declared.entry.Entry.{Entry}
-use Rattle.viz_once.specs.Account.{TellsFile, LeavesText}
 use Rattle.viz_script.specs.Script.{Stepped, script_of, phase_limit}
 use Rattle.viz_words.specs.declared.refusal.ScriptRefusal.TheVariants as refusal
 use Rattle.viz_report.specs.declared.line.Line.{Line}
@@ -18,6 +15,7 @@ use Rattle.viz_report.specs.declared.line.Row.{Row}
 use Rattle.viz_report.specs.Report.{report_rows}
 use Rattle.viz_account.specs.Account.{IsAccountOf}
 use Rattle.viz_account.specs.Laws.{CountEdits, IsClosedLine}
+use Rattle.viz_told.specs.Calls.{IsCalled}
 use Rattle.viz_script_run.specs.declared.ran.Ran.{Ran}
 use Rattle.viz_script_run.specs.declared.ran.Ran.TheVariants as ran
 use Rattle.viz_phases.specs.Groups.{by_actor, actors_over, history_limit}
@@ -42,27 +40,6 @@ abbrev pub bytes_of : Deed → Option (List ℕ)
 bytes_of (Asked (read.Given bytes)) = Some bytes
 bytes_of (Kept bytes text answer) = Some bytes
 bytes_of deed = None
-
--- the files around a deed: what was read stood there, what was written stands there, and all else is as before
-abbrev pub FilesAround : List ℕ → List ℕ → Deed → ℕ → Files → Files → Type 0
-FilesAround script journal Nothing limit old new = SameFiles old new
-FilesAround script journal (Asked answer) limit old new = TellsFile old limit script answer × SameFiles old new
-FilesAround script journal (Kept bytes text answer) limit old new =
-    (old script ≡ Some bytes) × LeavesText journal text answer new × SameOthers journal old new
-
--- a deed that ended with a failed call
-abbrev pub HasFailed : Deed → Type 0
-HasFailed (Asked read.Failed) = Unit {0}
-HasFailed (Kept bytes text write.Failed) = Unit {0}
-HasFailed deed = ⊥
-
--- this was done at the desk: its calls and its files where it tells them, and its count of faults
-pub record IsDoneAt {P : Type 0} (m : port.Ghosts P) (script journal : List ℕ) (deed : Deed) (old new : P) : Type 0 where
-  pub calls : IsTrue m.tells_calls → m.calls new ≡ m.calls old ++ calls_of script journal deed
-  pub files : IsTrue m.tells_files → FilesAround script journal deed (m.limit old) (m.files old) (m.files new)
-  pub cause : HasFailed deed → Rose (m.faults old) (m.faults new)
-  pub later : m.faults old ≤ m.faults new
-  pub limit : m.limit new ≡ m.limit old
 
 -- ---- the ports
 
@@ -93,16 +70,16 @@ is_written write.Written = true
 is_written write.Failed = false
 
 -- how a run ended that did this at the desk, and what it did at the ports: they are called only for a script
-abbrev pub EndsIn : {P : Type 0} → port.Ghosts P → Deed → Ran → List P → List P → Type 0
-EndsIn m Nothing ran.Memory old new = new ≡ old
-EndsIn m (Asked read.Failed) ran.Unread old new = new ≡ old
-EndsIn m (Asked (read.TooLong taken)) (ran.Refused line r) old new = (line ≡ 0) × (r ≡ refusal.TooLong) × (new ≡ old)
-EndsIn m (Asked (read.Given bytes)) (ran.Refused line r) old new = (script_of (actors_over old) bytes ≡ Err (line, r)) × (new ≡ old)
-EndsIn m (Asked (read.Given bytes)) ran.Memory old new = (new ≡ old) ⊎ IsServed m bytes old new
-EndsIn m (Kept bytes text answer) (ran.Served rows kept) old new = IsAccounted m bytes rows text old new × (kept ≡ is_written answer)
-EndsIn m deed came old new = ⊥
+abbrev pub IsEndOfScript : {P : Type 0} → port.Ghosts P → Deed → Ran → List P → List P → Type 0
+IsEndOfScript m Nothing ran.Memory old new = new ≡ old
+IsEndOfScript m (Asked read.Failed) ran.Unread old new = new ≡ old
+IsEndOfScript m (Asked (read.TooLong taken)) (ran.Refused line r) old new = (line ≡ 0) × (r ≡ refusal.TooLong) × (new ≡ old)
+IsEndOfScript m (Asked (read.Given bytes)) (ran.Refused line r) old new = (script_of (actors_over old) bytes ≡ Err (line, r)) × (new ≡ old)
+IsEndOfScript m (Asked (read.Given bytes)) ran.Memory old new = (new ≡ old) ⊎ IsServed m bytes old new
+IsEndOfScript m (Kept bytes text answer) (ran.Served rows kept) old new = IsAccounted m bytes rows text old new × (kept ≡ is_written answer)
+IsEndOfScript m deed came old new = ⊥
 
 -- a run of a script over a desk and ports
 abbrev pub IsRan : {P : Type 0} → port.Ghosts P → List ℕ → List ℕ → Ran → P → P → List P → List P → Type 0
 IsRan m script journal came desk new_desk old new =
-    (deed : Deed) × EndsIn m deed came old new × IsDoneAt m script journal deed desk new_desk
+    (deed : Deed) × IsEndOfScript m deed came old new × IsCalled m (calls_of script journal deed) desk new_desk

@@ -8,17 +8,18 @@ use Rattle.viz_base.specs.declared.call.ReadAnswer.{ReadAnswer}
 use Rattle.viz_base.specs.declared.call.ReadAnswer.TheVariants as read
 use Rattle.viz_base.specs.declared.call.WriteAnswer.{WriteAnswer}
 use Rattle.viz_base.specs.declared.call.WriteAnswer.TheVariants as write
-use Rattle.viz_once.specs.Promises.{GainsLine, PutsOrBreaks, EndsInScript}
-use Rattle.viz_once.specs.Report.{read_fault_line}
-use Rattle.viz_once.specs.declared.outcome.Status.{Status}
-use Rattle.viz_once.specs.declared.outcome.Status.TheVariants as status
 use Rattle.viz_script.specs.Script.{Stepped, script_of}
 use Rattle.viz_words.specs.declared.refusal.ScriptRefusal.{ScriptRefusal}
 use Rattle.viz_words.specs.declared.refusal.ScriptRefusal.TheVariants as refusal
 use Rattle.viz_report.specs.declared.line.Row.{Row}
 use Rattle.viz_report.specs.Report.{rows_text}
 use Rattle.viz_phases.specs.Groups.{actors_over}
-use Rattle.viz_script_run.specs.Deeds.{Deed, Nothing, Asked, Kept, bytes_of, IsDoneAt, IsAccounted, IsServed}
+use Rattle.viz_told.specs.declared.status.Status.{Status}
+use Rattle.viz_told.specs.declared.status.Status.TheVariants as status
+use Rattle.viz_told.specs.Calls.{IsCalled}
+use Rattle.viz_told.specs.Lines.{read_fault_line}
+use Rattle.viz_told.specs.Puts.{GainsLine, PutsOrBreaks, EndsInScript}
+use Rattle.viz_script_run.specs.Deeds.{Deed, Nothing, Asked, Kept, calls_of, bytes_of, IsAccounted, IsServed}
 use Rattle.viz_script_run.specs.Told.{refused_script, served_status, has_memory, has_fault}
 
 -- ---- scripts that are refused
@@ -34,7 +35,7 @@ abbrev pub IsScriptRefused : {P O : Type 0} → port.Ghosts P → out.Ghosts O
     → List ℕ → List ℕ → P → P → List P → List P → O → O → Type 0
 IsScriptRefused m o script journal desk new_desk old new before after =
     (answer : ReadAnswer) × (line : ℕ) × (r : ScriptRefusal) × IsRefusal (actors_over old) answer line r
-    × IsDoneAt m script journal (Asked answer) desk new_desk × (new ≡ old) × PutsOrBreaks o (refused_script line r) before after
+    × IsCalled m (calls_of script journal (Asked answer)) desk new_desk × (new ≡ old) × PutsOrBreaks o (refused_script line r) before after
 
 -- the desk was asked for this file alone, and answered so
 abbrev pub DeskAnswered : {P : Type 0} → port.Ghosts P → List ℕ → ReadAnswer → P → P → Type 0
@@ -54,7 +55,7 @@ abbrev pub IsServedBy : {P : Type 0} → port.Ghosts P
     → List ℕ → List ℕ → List Row → WriteAnswer → P → P → List P → List P → Type 0
 IsServedBy m script journal rows answer desk new_desk old new =
     (bytes : List ℕ) × (text : List ℕ) × IsAccounted m bytes rows text old new
-    × IsDoneAt m script journal (Kept bytes text answer) desk new_desk
+    × IsCalled m (calls_of script journal (Kept bytes text answer)) desk new_desk
 
 -- a run that answers Done or Refused: the journal was written, and the report put; its rows have this status
 abbrev pub IsReported : {P O : Type 0} → port.Ghosts P → out.Ghosts O
@@ -76,20 +77,20 @@ IsServedWithFault m o script journal desk new_desk old new before after =
 abbrev pub IsUnread : {P O : Type 0} → port.Ghosts P → out.Ghosts O
     → List ℕ → List ℕ → P → P → List P → List P → O → O → Type 0
 IsUnread m o script journal desk new_desk old new before after =
-    IsDoneAt m script journal (Asked read.Failed) desk new_desk × (new ≡ old) × PutsOrBreaks o read_fault_line before after
+    IsCalled m (calls_of script journal (Asked read.Failed)) desk new_desk × (new ≡ old) × PutsOrBreaks o read_fault_line before after
 
 -- the desk was asked for nothing, or for the script alone
 abbrev pub AskedAtMost : {P : Type 0} → port.Ghosts P → List ℕ → List ℕ → P → P → Type 0
 AskedAtMost m script journal desk new_desk =
-    IsDoneAt m script journal Nothing desk new_desk
-    ⊎ ((answer : ReadAnswer) × IsDoneAt m script journal (Asked answer) desk new_desk)
+    IsCalled m (calls_of script journal Nothing) desk new_desk
+    ⊎ ((answer : ReadAnswer) × IsCalled m (calls_of script journal (Asked answer)) desk new_desk)
 
 -- a run that answers Memory: the desk was asked at most for the script, and no port was called; or there is an account all the
 -- same, whose journal alone may have been written
 abbrev pub IsCutOff : {P : Type 0} → port.Ghosts P → List ℕ → List ℕ → P → P → List P → List P → Type 0
 IsCutOff m script journal desk new_desk old new =
     (AskedAtMost m script journal desk new_desk × (new ≡ old))
-    ⊎ (((bytes : List ℕ) × IsServed m bytes old new × IsDoneAt m script journal (Asked (read.Given bytes)) desk new_desk)
+    ⊎ (((bytes : List ℕ) × IsServed m bytes old new × IsCalled m (calls_of script journal (Asked (read.Given bytes))) desk new_desk)
     ⊎ ((rows : List Row) × (answer : WriteAnswer) × IsServedBy m script journal rows answer desk new_desk old new))
 
 -- ---- actors without commands
@@ -103,7 +104,7 @@ AsksNoneOf actors actor deed = (bytes : List ℕ) (steps : List Stepped) → byt
 -- actor i + 1
 abbrev pub IdleStay : {P : Type 0} → port.Ghosts P → List ℕ → List ℕ → P → P → List P → List P → Type 0
 IdleStay m script journal desk new_desk old new =
-    (deed : Deed) × IsDoneAt m script journal deed desk new_desk
+    (deed : Deed) × IsCalled m (calls_of script journal deed) desk new_desk
     × ((i : ℕ) → AsksNoneOf (actors_over old) (i + 1) deed → slice_get new i ≡ slice_get old i)
 
 -- ---- counts

@@ -1,21 +1,17 @@
 -- The text that a run of a script puts, and its status (docs/FORMATS.md, "Report").
-use Rattle.std.specs.Prelude.{◌≡◌, ℕ, ◌≤◌, Bool, true, false, not, cond, ◌||◌, List, ◌++◌, ◌⊎◌, codes, Result, Ok, Err, IsTrue}
+use Rattle.std.specs.Prelude.{ℕ, Bool, true, false, not, cond, ◌||◌, List, ◌++◌, codes}
 use Rattle.std.specs.List.{list_any}
 use Rattle.std.specs.Fmt.{decimal}
-use Rattle.viz_base.specs.Faults.{Rose, one_more, answers_after}
-use Rattle.viz_base.specs.declared.out.Out as out
-use Rattle.viz_base.specs.declared.refusal.WriteRefusal.{WriteRefusal}
-use Rattle.viz_base.specs.declared.refusal.WriteRefusal.TheVariants as writing
-use Rattle.viz_once.specs.Account.{TextAfter}
-use Rattle.viz_once.specs.Report.{read_fault_line, memory_line}
-use Rattle.viz_once.specs.declared.outcome.Status.{Status}
-use Rattle.viz_once.specs.declared.outcome.Status.TheVariants as status
 use Rattle.viz_words.specs.declared.refusal.ScriptRefusal.{ScriptRefusal}
 use Rattle.viz_words.specs.declared.refusal.ScriptRefusal.TheVariants as refusal
 use Rattle.viz_report.specs.declared.line.Line.{Line}
 use Rattle.viz_report.specs.declared.line.Line.TheVariants as line
 use Rattle.viz_report.specs.declared.line.Row.{Row}
 use Rattle.viz_report.specs.Report.{rows_text}
+use Rattle.viz_told.specs.declared.status.Status.{Status}
+use Rattle.viz_told.specs.declared.status.Status.TheVariants as status
+use Rattle.viz_told.specs.Lines.{read_fault_line, memory_line}
+use Rattle.viz_told.specs.Told.{Telling}
 use Rattle.viz_script_run.specs.declared.ran.Ran.{Ran}
 use Rattle.viz_script_run.specs.declared.ran.Ran.TheVariants as ran
 
@@ -74,48 +70,19 @@ abbrev pub served_status : List Row → Bool → Status
 served_status rows kept = cond (has_memory rows) status.Memory
     (cond (has_fault rows || not kept) status.Fault (cond (has_refused rows) status.Refused status.Done))
 
--- the status where the whole text was put
+-- the status where the whole text is put
 abbrev pub status_of : Ran → Status
 status_of ran.Unread = status.Fault
 status_of (ran.Refused line r) = status.Script
 status_of (ran.Served rows kept) = served_status rows kept
 status_of ran.Memory = status.Memory
 
--- the status where the put failed: a refused script and want of memory come first
-abbrev pub status_at_fault : Ran → Status
-status_at_fault ran.Unread = status.Fault
-status_at_fault (ran.Refused line r) = status.Script
-status_at_fault (ran.Served rows kept) = cond (has_memory rows) status.Memory status.Fault
-status_at_fault ran.Memory = status.Memory
+-- whether the text is made
+abbrev pub is_made : Ran → Bool
+is_made (ran.Refused line r) = true
+is_made (ran.Served rows kept) = true
+is_made r = false
 
--- the status of a run, by what the put of its text answered
-abbrev pub status_after : Ran → Result (Unit {0}) WriteRefusal → Status
-status_after r (Ok done) = status_of r
-status_after r (Err writing.Failed) = status_at_fault r
-status_after r (Err writing.Memory) = status.Memory
-
--- ---- the put
-
--- a run whose text takes memory
-abbrev pub HasMadeText : Ran → Type 0
-HasMadeText (ran.Refused line r) = Unit {0}
-HasMadeText (ran.Served rows kept) = Unit {0}
-HasMadeText r = ⊥
-
--- the run that is told: want of memory, where memory ran out at the making of its text
-abbrev pub Settles : Ran → Ran → Type 0
-Settles found told = (told ≡ found) ⊎ (HasMadeText found × (told ≡ ran.Memory))
-
--- a text was put once, with this answer
-pub record IsPut {O : Type 0} (m : out.Ghosts O) (text : List ℕ) (answer : Result (Unit {0}) WriteRefusal) (old new : O) : Type 0 where
-  pub text_after : IsTrue m.tells_text → TextAfter text answer (m.text old) (m.text new)
-  pub cause : answer ≡ Err writing.Failed → Rose (m.faults old) (m.faults new)
-  pub later : m.faults old ≤ m.faults new
-  pub once : m.puts new ≡ one_more (m.puts old)
-  pub answered : m.answered new ≡ answers_after (m.answered old) answer
-
--- a run was told, and the status belongs to it
-abbrev pub IsTold : {O : Type 0} → out.Ghosts O → Ran → Status → O → O → Type 0
-IsTold m found ended old new =
-    (told : Ran) × (answer : Result (Unit {0}) WriteRefusal) × Settles found told × (ended ≡ status_after told answer)
-    × IsPut m (text_of told) answer old new
+-- what is told of a run
+abbrev pub telling_of : Ran → Telling
+telling_of r = record { text = text_of r; status = status_of r; is_made = is_made r }

@@ -1,16 +1,14 @@
 //! The text that a run of a script puts, and its status (docs/FORMATS.md, "Report").
 
-ghost use Rattle.std.specs.Prelude.{◌≡◌, ◌++◌, OnOk, IfOk, Result};
-ghost use Rattle.viz_base.specs.declared.refusal.WriteRefusal.{WriteRefusal as Refusal};
-ghost use Rattle.viz_once.specs.Report.{memory_line, read_fault_line};
-ghost use Rattle.viz_script_run.specs.Told.{refusal_word, refused_script, text_of, is_memory, is_fault, is_refused, has_memory, has_fault, has_refused, served_status, status_of, status_at_fault, status_after, HasMadeText, IsPut, IsTold};
+ghost use Rattle.std.specs.Prelude.{◌≡◌, IfOk};
+ghost use Rattle.viz_script_run.specs.Told.{refusal_word, refused_script, is_memory, is_fault, is_refused, has_memory, has_fault, has_refused, served_status, telling_of};
 
 use crate::ran::Ran;
 use std::alloc::{AllocError, Global};
-use viz_base::{Out, WriteRefusal};
+use viz_base::Bytes;
 use viz_lex::put_whole;
-use viz_once::Status;
 use viz_report::{Line, Row, report_text};
+use viz_told::{Status, Tells, Text, memory_line, read_fault_line};
 use viz_words::ScriptRefusal;
 
 fn refusal_word(refusal: &ScriptRefusal) -> &'static str
@@ -95,92 +93,27 @@ fn served_status(rows: &[Row], kept: bool) -> Status
     }
 }
 
-/// The status where the whole text was put.
-fn status_of(ran: &Ran) -> Status
-    ensures { result ≡ status_of ran.now }
-{
-    match ran {
-        Ran::Unread => Status::Fault,
-        Ran::Refused { .. } => Status::Script,
-        Ran::Served { rows, kept } => served_status(rows.list(), *kept),
-        Ran::Memory => Status::Memory,
-    }
-}
+impl Tells for Ran {
+    ghost telling = { telling_of };
 
-/// The status where the put failed.
-fn status_at_fault(ran: &Ran) -> Status
-    ensures { result ≡ status_at_fault ran.now }
-{
-    match ran {
-        Ran::Unread => Status::Fault,
-        Ran::Refused { .. } => Status::Script,
-        Ran::Served { rows, .. } => {
-            if has_memory(rows.list()) {
-                Status::Memory
-            } else {
-                Status::Fault
-            }
+    fn status(&self) -> Status {
+        match self {
+            Ran::Unread => Status::Fault,
+            Ran::Refused { .. } => Status::Script,
+            Ran::Served { rows, kept } => served_status(rows.list(), *kept),
+            Ran::Memory => Status::Memory,
         }
-        Ran::Memory => Status::Memory,
     }
-}
 
-fn status_after(ran: &Ran, answer: &Result<(), WriteRefusal>) -> Status
-    ensures { result ≡ status_after ran.now answer.now }
-{
-    match answer {
-        Ok(()) => status_of(ran),
-        Err(WriteRefusal::Failed) => status_at_fault(ran),
-        Err(WriteRefusal::Memory) => Status::Memory,
-    }
-}
-
-/// Puts the text of a run, once.
-fn put<O: Out>(alloc: Global, out: &mut O, told: &Ran, text: &[u8]) -> Status
-    requires { text.now ≡ text_of told.now }
-    ensures { (answer : Result (Unit {0}) Refusal) × (result ≡ status_after told.now answer)
-        × IsPut O.Out (text_of told.now) answer out.old out.new }
-{
-    let answer = out.put(alloc, text);
-    status_after(told, &answer)
-}
-
-#[tactic(auto, unfolding(crate::specs::Told::text_of, viz_once::specs::Report::read_fault_line))]
-fn read_fault() -> &'static [u8]
-    ensures { result.now ≡ read_fault_line }
-{
-    b"fault read\n"
-}
-
-#[tactic(auto, unfolding(viz_once::specs::Report::memory_line))]
-fn memory() -> &'static [u8]
-    ensures { result.now ≡ memory_line }
-{
-    b"memory\n"
-}
-
-/// Puts that memory ran out at the making of a text.
-fn put_memory<O: Out>(alloc: Global, out: &mut O, ran: &Ran) -> Status
-    requires { HasMadeText ran.now }
-    ensures { IsTold O.Out ran.now result out.old out.new }
-{
-    put(alloc, out, &Ran::Memory, memory())
-}
-
-/// Puts the text of a run, once, and gives the status.
-pub fn report<O: Out>(alloc: Global, out: &mut O, ran: &Ran) -> Status
-    ensures { IsTold O.Out ran.now result out.old out.new }
-{
-    match ran {
-        Ran::Unread => put(alloc, out, ran, read_fault()),
-        Ran::Refused { line, refusal } => match refused_line(alloc, *line, refusal) {
-            Ok(text) => put(alloc, out, ran, &text),
-            Err(_) => put_memory(alloc, out, ran),
-        },
-        Ran::Served { rows, .. } => match report_text(alloc, rows.list()) {
-            Ok(text) => put(alloc, out, ran, text.list()),
-            Err(_) => put_memory(alloc, out, ran),
-        },
-        Ran::Memory => put(alloc, out, ran, memory()),
+    fn text(&self, alloc: Global) -> Result<Text, AllocError> {
+        match self {
+            Ran::Unread => Ok(Text::Fixed(read_fault_line())),
+            Ran::Refused { line, refusal } => {
+                let text = refused_line(alloc, *line, refusal)?;
+                Ok(Text::Made(Bytes::new(text)))
+            }
+            Ran::Served { rows, .. } => Ok(Text::Made(report_text(alloc, rows.list())?)),
+            Ran::Memory => Ok(Text::Fixed(memory_line())),
+        }
     }
 }

@@ -5,15 +5,15 @@ ghost use Rattle.viz_base.specs.Faults.{Rose, one_more};
 ghost use Rattle.viz_script_run.specs.declared.ran.Ran.{Ran as Came};
 ghost use Rattle.viz_script_run.specs.Deeds.{IsRan};
 ghost use Rattle.viz_script_run.specs.Promises.{IsScriptRefused, TellsRefusals, IsReported, IsServedWithFault, IsUnread, IsCutOff, IdleStay, SomeRose};
-ghost use Rattle.viz_script_run.specs.Told.{IsTold};
+ghost use Rattle.viz_script_run.specs.Told.{telling_of};
+ghost use Rattle.viz_told.specs.Told.{IsTold};
 
-use crate::report::report;
 use crate::serving::serve;
 use std::alloc::Global;
 use std::sync::Wait;
 use std::thread::Threads;
 use viz_base::{Gate, Out, Port};
-use viz_once::Status;
+use viz_told::{Status, tell};
 
 /// Runs the script of this name: reads it from the desk, serves its commands by the ports, writes
 /// the journal of all accepted edits to the desk, and puts the report.
@@ -32,7 +32,7 @@ pub fn run_script<R: Threads + Wait + Sync, P: Port + Send + Drop, O: Out, G: Ga
 ) -> Status
     // What the run was: how far it came, and the text put of it.
     ensures account { (ran : Came) × IsRan P.Port script.now journal.now ran desk.old desk.new
-        ports.old.items ports.new.items × IsTold O.Out ran result out.old out.new }
+        ports.old.items ports.new.items × IsTold O.Out (telling_of ran) result out.old out.new }
 
     // What follows of it for each status.
     ensures script { result ≡ Status.Script → IsScriptRefused P.Port O.Out script.now journal.now
@@ -61,5 +61,5 @@ pub fn run_script<R: Threads + Wait + Sync, P: Port + Send + Drop, O: Out, G: Ga
     ensures one_put { O.puts out.new ≡ one_more (O.puts out.old) }
 {
     let ran = serve(rt, alloc, script, journal, desk, ports, gate);
-    report(alloc, out, &ran)
+    tell(alloc, out, &ran)
 }

@@ -5,9 +5,6 @@ use Rattle.viz_base.specs.declared.out.Out as out
 use Rattle.viz_once.specs.Account as once_account
 use Rattle.viz_once.specs.Command as once
 use Rattle.viz_once.specs.Promises as once_promises
-use Rattle.viz_once.specs.Report.{no_port_line}
-use Rattle.viz_once.specs.declared.outcome.Status.{Status}
-use Rattle.viz_once.specs.declared.outcome.Status.TheVariants as status
 use Rattle.viz_make.specs.declared.came.Came.{Came as MakeCame}
 use Rattle.viz_make.specs.Make as make
 use Rattle.viz_make.specs.Promises as make_promises
@@ -23,6 +20,12 @@ use Rattle.viz_script_run.specs.Deeds as deeds
 use Rattle.viz_script_run.specs.Promises as script_promises
 use Rattle.viz_script_run.specs.Told as script_told
 use Rattle.viz_script_run.specs.declared.ran.Ran.{Ran}
+use Rattle.viz_told.specs.declared.status.Status.{Status}
+use Rattle.viz_told.specs.declared.status.Status.TheVariants as status
+use Rattle.viz_told.specs.Lines.{no_port_line}
+use Rattle.viz_told.specs.Ports as ports
+use Rattle.viz_told.specs.Puts.{EndsInScript}
+use Rattle.viz_told.specs.Told.{IsTold}
 use Rattle.viz_session.specs.Command.{Command, Script, Scratch, Make}
 use Rattle.viz_session.specs.declared.command.Command.{Command as Words}
 use Rattle.viz_session.specs.declared.command.Command.TheVariants as words
@@ -38,11 +41,11 @@ module _ {P O : Type 0} (m : port.Ghosts P) (o : out.Ghosts O) (words : List (Li
   -- what a run was: the account of its command, and what was put of it. The words of one file and those of a volume use no desk
   abbrev pub IsRun : Option Command → Status → Type 0
   IsRun (Some (Script script journal)) ended =
-      (ran : Ran) × deeds.IsRan m script journal ran desk new_desk old new × script_told.IsTold o ran ended before after
+      (ran : Ran) × deeds.IsRan m script journal ran desk new_desk old new × IsTold o (script_told.telling_of ran) ended before after
   IsRun (Some (Scratch c)) ended =
-      (came : Came) × replay.IsRan m c came desk new_desk old new × replay_told.IsTold o came ended before after
+      (came : Came) × replay.IsRan m c came desk new_desk old new × IsTold o (replay_told.telling_of came) ended before after
   IsRun (Some (Make c)) ended =
-      (came : MakeCame) × make.IsRan m c came old new × make_told.IsTold o came ended before after × (new_desk ≡ desk)
+      (came : MakeCame) × make.IsRan m c came old new × IsTold o (make_told.telling_of came) ended before after × (new_desk ≡ desk)
   IsRun None ended = once_account.IsRun m o words old new before after ended × (new_desk ≡ desk)
 
   -- a run of a command of one file is accounted for by the fixed history of that command
@@ -71,7 +74,7 @@ module _ {P O : Type 0} (m : port.Ghosts P) (o : out.Ghosts O) (words : List (Li
   Refuses (Some (Make c)) ended = make_promises.TellsRefusals o old before after ended
   Refuses None ended =
       once_promises.TellsCauses m o (once.command_of words) old new before after ended
-      × (once_promises.LacksPort (once.command_of words) old → once_promises.EndsInScript o no_port_line before after ended)
+      × (once_promises.LacksPort (once.command_of words) old → EndsInScript o no_port_line before after ended)
 
   -- a run that answers Script: the script or journal is refused, or there is no port
   abbrev pub IsScript : Option Command → Type 0
@@ -98,6 +101,6 @@ module _ {P O : Type 0} (m : port.Ghosts P) (o : out.Ghosts O) (words : List (Li
   -- no desk the desk is
   abbrev pub OthersStay : Option Command → Type 0
   OthersStay (Some (Script script journal)) = script_promises.IdleStay m script journal desk new_desk old new
-  OthersStay (Some (Scratch c)) = once_promises.OthersStay old new
-  OthersStay (Some (Make c)) = once_promises.OthersStay old new × (new_desk ≡ desk)
-  OthersStay None = once_promises.OthersStay old new × (new_desk ≡ desk)
+  OthersStay (Some (Scratch c)) = ports.OthersStay old new
+  OthersStay (Some (Make c)) = ports.OthersStay old new × (new_desk ≡ desk)
+  OthersStay None = ports.OthersStay old new × (new_desk ≡ desk)

@@ -10,7 +10,7 @@ mod session;
 
 pub use session::run;
 pub use viz_actor::{Answer, AuditAnswer, audit_node, update};
-pub use viz_once::Status;
+pub use viz_told::Status;
 
 #[cfg(test)]
 mod tests;

@@ -2,11 +2,11 @@
 
 ghost use Rattle.std.specs.Prelude.{◌≡◌, ◌⊎◌, ◌↔◌};
 ghost use Rattle.viz_base.specs.Faults.{Rose, one_more};
-ghost use Rattle.viz_once.specs.Promises.{PutsLine};
-ghost use Rattle.viz_once.specs.Report.{usage_line};
 ghost use Rattle.viz_script_run.specs.Promises.{SomeRose};
 ghost use Rattle.viz_session.specs.Command.{command_of, AreNone};
 ghost use Rattle.viz_session.specs.Runs.{IsRun, IsByHistory, IsDone, IsRefused, IsScript, IsFault, IsCutOff, OthersStay, Refuses};
+ghost use Rattle.viz_told.specs.Lines.{usage_line};
+ghost use Rattle.viz_told.specs.Puts.{PutsLine};
 
 use crate::command::{Command, read_command};
 use std::alloc::Global;
@@ -14,10 +14,11 @@ use std::sync::Wait;
 use std::thread::Threads;
 use viz_base::{Bytes, Gate, Out, Port};
 use viz_make::run_make;
-use viz_once::{Status, run_once};
+use viz_once::run_once;
 use viz_once_history::runs_are_accounted;
 use viz_replay::run_scratch;
 use viz_script_run::run_script;
+use viz_told::Status;
 
 /// Runs the command of the words, and puts one text.
 ///

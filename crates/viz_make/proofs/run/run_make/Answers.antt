@@ -1,27 +1,26 @@
-use Rattle.viz_once.specs.declared.outcome.Status.TheVariants as status
-use Rattle.viz_make.proofs.RunLemmas.{others, done, script, refuses, fault, cause, never}
+use Rattle.viz_make.proofs.RunLemmas.{others, done, script, refuses, fault, cause, no_usage, no_refused}
 use Rattle.viz_make.proofs.run.run_make.Goals as goal
 
 pub returns-clause-script : goal.returns-clause-script
-returns-clause-script g c = script g.P.Port g.O.Out _ _ _ _ _ _ _ c.serve-came.ensures c.report.ensures
+returns-clause-script g c = script g.P.Port g.O.Out _ _ _ _ _ _ _ c.serve-came.ensures c.tell.ensures
 
 pub returns-clause-refuses : goal.returns-clause-refuses
-returns-clause-refuses g c = refuses g.P.Port g.O.Out _ _ _ _ _ _ _ c.serve-came.ensures c.report.ensures
+returns-clause-refuses g c = refuses g.P.Port g.O.Out _ _ _ _ _ _ _ c.serve-came.ensures c.tell.ensures
 
 pub returns-clause-done : goal.returns-clause-done
-returns-clause-done g c = done g.P.Port g.O.Out _ _ _ _ _ _ _ c.serve-came.ensures c.report.ensures
+returns-clause-done g c = done g.P.Port g.O.Out _ _ _ _ _ _ _ c.serve-came.ensures c.tell.ensures
 
 pub returns-clause-fault : goal.returns-clause-fault
-returns-clause-fault g c = fault g.P.Port g.O.Out _ _ _ _ _ _ _ c.serve-came.ensures c.report.ensures
+returns-clause-fault g c = fault g.P.Port g.O.Out _ _ _ _ _ _ _ c.serve-came.ensures c.tell.ensures
 
 pub returns-clause-cause : goal.returns-clause-cause
-returns-clause-cause g c = cause g.P.Port g.O.Out _ _ _ _ _ _ _ c.serve-came.ensures c.report.ensures
+returns-clause-cause g c = cause g.P.Port g.O.Out _ _ _ _ _ _ _ c.serve-came.ensures c.tell.ensures
 
 pub returns-clause-usage : goal.returns-clause-usage
-returns-clause-usage g c is = never g.P.Port g.O.Out _ _ _ _ _ _ _ c.serve-came.ensures c.report.ensures status.Usage is
+returns-clause-usage g c is = no_usage g.P.Port g.O.Out _ _ _ _ _ _ _ c.serve-came.ensures c.tell.ensures is
 
 pub returns-clause-refused : goal.returns-clause-refused
-returns-clause-refused g c is = never g.P.Port g.O.Out _ _ _ _ _ _ _ c.serve-came.ensures c.report.ensures status.Refused is
+returns-clause-refused g c is = no_refused g.P.Port g.O.Out _ _ _ _ _ _ _ c.serve-came.ensures c.tell.ensures is
 
 pub returns-clause-others : goal.returns-clause-others
 returns-clause-others g c = others g.P.Port _ _ _ _ c.serve-came.ensures

@@ -2,25 +2,25 @@ use Rattle.viz_replay.proofs.RunLemmas.{done, refused, script, tells_refusals, f
 use Rattle.viz_replay.proofs.run.run_scratch.Goals as goal
 
 pub returns-clause-script : goal.returns-clause-script
-returns-clause-script g c = script g.P.Port g.O.Out _ _ _ _ _ _ _ _ _ c.serve-came.ensures.ran c.report.ensures
+returns-clause-script g c = script g.P.Port g.O.Out _ _ _ _ _ _ _ _ _ c.serve-came.ensures.ran c.tell.ensures
 
 pub returns-clause-refuses : goal.returns-clause-refuses
-returns-clause-refuses g c = tells_refusals g.P.Port g.O.Out _ _ _ _ _ _ _ _ _ c.serve-came.ensures.ran c.report.ensures c.serve-came.ensures.no_port
+returns-clause-refuses g c = tells_refusals g.P.Port g.O.Out _ _ _ _ _ _ _ _ _ c.serve-came.ensures.ran c.tell.ensures c.serve-came.ensures.no_port
 
 pub returns-clause-done : goal.returns-clause-done
-returns-clause-done g c = done g.P.Port g.O.Out _ _ _ _ _ _ _ _ _ c.serve-came.ensures.ran c.report.ensures
+returns-clause-done g c = done g.P.Port g.O.Out _ _ _ _ _ _ _ _ _ c.serve-came.ensures.ran c.tell.ensures
 
 pub returns-clause-refused : goal.returns-clause-refused
-returns-clause-refused g c = refused g.P.Port g.O.Out _ _ _ _ _ _ _ _ _ c.serve-came.ensures.ran c.report.ensures
+returns-clause-refused g c = refused g.P.Port g.O.Out _ _ _ _ _ _ _ _ _ c.serve-came.ensures.ran c.tell.ensures
 
 pub returns-clause-fault : goal.returns-clause-fault
-returns-clause-fault g c = fault g.P.Port g.O.Out _ _ _ _ _ _ _ _ _ c.serve-came.ensures.ran c.report.ensures
+returns-clause-fault g c = fault g.P.Port g.O.Out _ _ _ _ _ _ _ _ _ c.serve-came.ensures.ran c.tell.ensures
 
 pub returns-clause-cause : goal.returns-clause-cause
-returns-clause-cause g c = cause g.P.Port g.O.Out _ _ _ _ _ _ _ _ _ c.serve-came.ensures.ran c.report.ensures
+returns-clause-cause g c = cause g.P.Port g.O.Out _ _ _ _ _ _ _ _ _ c.serve-came.ensures.ran c.tell.ensures
 
 pub returns-clause-others : goal.returns-clause-others
-returns-clause-others g c = others g.P.Port g.O.Out _ _ _ _ _ _ _ _ _ c.serve-came.ensures.ran c.report.ensures
+returns-clause-others g c = others g.P.Port g.O.Out _ _ _ _ _ _ _ _ _ c.serve-came.ensures.ran c.tell.ensures
 
 pub returns-clause-usage : goal.returns-clause-usage
-returns-clause-usage g c = no_usage g.P.Port g.O.Out _ _ _ _ _ _ _ _ _ c.serve-came.ensures.ran c.report.ensures
+returns-clause-usage g c = no_usage g.P.Port g.O.Out _ _ _ _ _ _ _ _ _ c.serve-came.ensures.ran c.tell.ensures

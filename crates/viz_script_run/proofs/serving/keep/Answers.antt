@@ -12,9 +12,8 @@ returns-in-Err-Failed g c =
       search rules,
       record {
         calls = search rules;
-        left = search rules;
-        others = search rules;
-        cause = λ e. w.failed refl;
+        files = λ t. (w.prefix t refl, w.kept t);
+        cause = λ f. w.failed refl;
         later = w.later;
         limit = w.same_limit;
       },

@@ -1,0 +1,5 @@
+pub mod Told
+pub mod Lines
+pub mod Puts
+pub mod Calls
+pub mod Ports
