@@ -29,7 +29,7 @@ use Rattle.viz_report.specs.Report.{rows_text}
 use Rattle.viz_account.specs.Account.{faults_told, RoseBy, AreActors}
 use Rattle.viz_script_run.specs.declared.ran.Ran.{Ran}
 use Rattle.viz_script_run.specs.declared.ran.Ran.TheVariants as ran
-use Rattle.viz_phases.specs.Groups.{actors_over}
+use Rattle.viz_actor.specs.Groups.{actors_over}
 use Rattle.viz_script_run.specs.Deeds.{Deed, Nothing, Asked, Kept, IsDoneAt, IsAccounted, IsServed, EndsIn, IsRan, calls_of, is_written}
 use Rattle.viz_script_run.specs.Told.{text_of, refused_script, is_fault, has_memory, has_fault, has_refused, served_status, status_after, Settles, IsPut, IsTold}
 use Rattle.viz_script_run.specs.Promises.{IsRefusal, IsScriptRefused, TellsRefusals, IsServedBy, IsReported, IsServedWithFault, IsUnread, IsCutOff, IdleStay, SomeRose}

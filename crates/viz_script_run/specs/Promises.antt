@@ -17,7 +17,7 @@ use Rattle.viz_words.specs.declared.refusal.ScriptRefusal.{ScriptRefusal}
 use Rattle.viz_words.specs.declared.refusal.ScriptRefusal.TheVariants as refusal
 use Rattle.viz_report.specs.declared.line.Row.{Row}
 use Rattle.viz_report.specs.Report.{rows_text}
-use Rattle.viz_phases.specs.Groups.{actors_over}
+use Rattle.viz_actor.specs.Groups.{actors_over}
 use Rattle.viz_script_run.specs.Deeds.{Deed, Nothing, Asked, Kept, bytes_of, IsDoneAt, IsAccounted, IsServed}
 use Rattle.viz_script_run.specs.Told.{refused_script, served_status, has_memory, has_fault}
 
