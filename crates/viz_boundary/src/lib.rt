@@ -13,6 +13,3 @@ mod packing;
 mod slots;
 
 pub use boundaries::boundary;
-
-#[cfg(test)]
-mod tests;

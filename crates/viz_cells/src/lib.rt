@@ -20,6 +20,3 @@ mod sectioning;
 
 pub use laws::names_are_of_their_cell;
 pub use sectioning::{section, sections};
-
-#[cfg(test)]
-mod tests;

@@ -13,6 +13,3 @@ mod polys;
 
 pub use laws::read_pieces_are_cells;
 pub use meshes::{grid_mesh, poly_mesh};
-
-#[cfg(test)]
-mod tests;

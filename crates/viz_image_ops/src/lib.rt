@@ -28,12 +28,3 @@ pub use sampling::sample;
 pub use smoothing::smooth;
 pub use thresholding::threshold;
 pub use viz_meaning::Op;
-
-#[cfg(test)]
-mod smooth_tests;
-#[cfg(test)]
-mod test_images;
-#[cfg(test)]
-mod tests;
-#[cfg(test)]
-mod window_tests;

@@ -17,8 +17,3 @@ pub use counts::counts_fit;
 pub use image::write_image;
 pub use stop::WriteStop;
 pub use style::Style;
-
-#[cfg(test)]
-mod image_tests;
-#[cfg(test)]
-mod tests;

@@ -19,6 +19,3 @@ pub use laws::{nothing_else_is_read, what_is_written_is_read};
 pub use reading::read_journal;
 pub use viz_words::{ScriptRefusal, ScriptStop};
 pub use writing::journal_text;
-
-#[cfg(test)]
-mod tests;

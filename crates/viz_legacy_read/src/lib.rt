@@ -16,8 +16,3 @@ mod stop;
 pub use laws::{files_are_definite, headers_stop_where_files_do};
 pub use reading::{header, read};
 pub use stop::ReadStop;
-
-#[cfg(test)]
-mod tests;
-#[cfg(test)]
-mod tests_meshes;

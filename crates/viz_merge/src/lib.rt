@@ -14,6 +14,3 @@ mod merging;
 mod numbers;
 
 pub use merging::merge;
-
-#[cfg(test)]
-mod tests;

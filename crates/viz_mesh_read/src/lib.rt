@@ -26,8 +26,3 @@ pub use laws::{
 pub use pieces::{PolyPieces, split};
 pub use poly::{PolyCells, PolyFile, polydata};
 pub use sections::{CellSection, section};
-
-#[cfg(test)]
-mod tests;
-#[cfg(test)]
-mod tests_faults;

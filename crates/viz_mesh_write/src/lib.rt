@@ -19,6 +19,3 @@ mod tally;
 
 pub use mesh::write_mesh;
 pub use owned::write_owned_mesh;
-
-#[cfg(test)]
-mod tests;

@@ -1,5 +1,5 @@
 -- A list of eight items, item by item.
-use Rattle.std.proofs.Common.{◌≡◌, ℕ, List, [], ◌∷◌, length, map, get_or, refl, ap, ◌∙◌, arith}
+use Rattle.std.proofs.Common.{◌≡◌, List, [], ◌∷◌, length, map, get_or, arith}
 
 -- a function of each of eight items
 pub each_of_eight : {A B : Type 0} (f : A → B) (d : A) (xs : List A) → length xs ≡ 8 → (p q r s t u v w : B)

@@ -1,5 +1,5 @@
 -- What an order of all nodes gives.
-use Rattle.std.proofs.Common.{◌≡◌, ℕ, suc, ◌+◌, ◌<◌, inl, inr, List, [], ◌∷◌, length, set, get_or, slice_get, Option, None, Some, IsSome, zero-add, refl, sym, ap, subst, max, ◌∙◌, arith}
+use Rattle.std.proofs.Common.{◌≡◌, ℕ, zero, suc, ◌+◌, ◌<◌, inl, inr, List, [], ◌∷◌, length, set, get_or, slice_get, Option, None, Some, IsSome, zero-add, refl, sym, ap, subst, max, ◌∙◌, arith}
 use Rattle.std.proofs.lemmas.Option.{slice_get_within, slice_get-get_or, get_or_from_slice_get}
 use Rattle.std.specs.List.{AllByRecursion}
 use Rattle.std.specs.Option.{option_map, option_map_or}
@@ -97,7 +97,7 @@ stamp_there net id h =
 -- there is an entry at each index
 entry_there : (net : Network) (i : ℕ) → i < length net → (e : List ℕ × Node) × (slice_get net i ≡ Some e)
 entry_there [] i l = absurd (omega (arith, l))
-entry_there (e ∷ net) 0 l = (e, refl)
+entry_there (e ∷ net) zero l = (e, refl)
 entry_there (e ∷ net) (suc i) l = entry_there net i (omega (arith, l))
 
 -- a whole table has the stamp of each node
@@ -112,3 +112,9 @@ stamped net order o table size known = record { each = each; size = size; ascend
         let x : NodeId = record { 0 = id } in
         let at = has_place order x (places_of net order o x e.0.1 found) in
         known at.0 x rank (slice_get_within order at.0 x at.1) at.1 r ∙ sym (stamp_there net id (is_some_of (node_of net id) e.0.1 found))
+
+-- a node that isn't there has no stamp
+pub stamp_nowhere : (net : Network) (id : ℕ) → node_of net id ≡ None → stamp_of net id ≡ None
+stamp_nowhere net id h =
+    let tree : Node → Tree = λ v. (v, grow (above 255 net) v.inputs) in
+    ap (λ o. option_map (λ t. newest (Some t)) (option_map tree o)) h

@@ -14,6 +14,3 @@ pub use laws::one_actor_is_reported_in_order;
 pub use line::{Line, Reason, Row};
 pub use text::report_text;
 pub use words::put_reason;
-
-#[cfg(test)]
-mod tests;

@@ -12,6 +12,3 @@ mod parsing;
 pub use order::{Order, Script, Step};
 pub use parsing::parse;
 pub use viz_words::{ScriptRefusal, ScriptStop};
-
-#[cfg(test)]
-mod tests;

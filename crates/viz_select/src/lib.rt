@@ -16,6 +16,3 @@ mod withins;
 pub use copies::{copied, copied_sheets};
 pub use joining::append;
 pub use selection::select;
-
-#[cfg(test)]
-mod tests;

@@ -10,6 +10,3 @@ mod points;
 mod tetrahedra;
 
 pub use tetrahedra::tets;
-
-#[cfg(test)]
-mod tests;

@@ -29,6 +29,3 @@ pub use scan::{line_len, next_word};
 pub use table::{command_named, command_word, kind_named, kind_word, param_named, param_word};
 pub use values::set_in;
 pub use verbs::verb_of;
-
-#[cfg(test)]
-mod tests;

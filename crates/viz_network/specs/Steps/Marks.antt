@@ -1,11 +1,12 @@
 -- What each node's cone has, in a table by rank that is filled in order. Only private contracts and proofs speak of it.
-use Rattle.std.specs.Prelude.{◌≡◌, ℕ, ◌<◌, Bool, false, not, if◌then◌else◌, List, [], ◌∷◌, slice_get, slice_index_or, Option, None, Some}
+use Rattle.std.specs.Prelude.{◌≡◌, ℕ, ◌<◌, ◌≤◌, Bool, false, not, if◌then◌else◌, List, [], ◌∷◌, length, slice_get, slice_index_or, Option, None, Some}
 use Rattle.std.specs.Option.{option_map_or}
 use Rattle.viz_base.specs.declared.node.NodeId.{NodeId}
 use Rattle.viz_network.specs.declared.node.Node.{Node}
 use Rattle.viz_network.specs.Network.{Network}
-use Rattle.viz_network.specs.Cone.{cone_of, total}
+use Rattle.viz_network.specs.Cone.{cone_of, stamp_of, total}
 use Rattle.viz_network.specs.Steps.Order.{rank_of}
+use Rattle.viz_network.specs.EqualStamps.{IsAscending}
 
 -- the table has what is joined over the cone of each of the first k nodes of the order
 abbrev pub IsTold : {X : Type 0} → (X → X → X) → X → (Node → X) → Network → List NodeId → ℕ → List X → Type 0

@@ -1,10 +1,10 @@
 -- Where in an order each node stands, in a table by rank that is filled in order. Only private contracts and proofs speak of it.
 use Rattle.std.specs.Prelude.{◌≡◌, ℕ, ◌<◌, List, length, slice_get, slice_index_or, Option, None, Some}
-use Rattle.std.specs.Option.{option_map, option_and_then}
+use Rattle.std.specs.Option.{option_map}
 use Rattle.viz_base.specs.declared.node.NodeId.{NodeId}
 use Rattle.viz_network.specs.declared.steps.Step.{Step}
 use Rattle.viz_network.specs.Network.{Network}
-use Rattle.viz_network.specs.Step.{nodes_of, IsStepOf}
+use Rattle.viz_network.specs.Step.{IsStepOf}
 use Rattle.viz_network.specs.Steps.Order.{rank_of}
 
 -- what the table has of what feeds a port

@@ -1,4 +1,4 @@
-use Rattle.std.proofs.Common.{◌≡◌, ◌+◌, ◌≤◌, length, set, refl, sym, ap, subst, ◌∙◌, arith, rules}
+use Rattle.std.proofs.Common.{◌≡◌, ◌+◌, length, set, refl, sym, subst, ◌∙◌, arith, rules}
 use Rattle.viz_network.specs.Steps.Places.{AreFirstSteps}
 use Rattle.viz_network.proofs.OrderLemmas.{stands_there}
 use Rattle.viz_network.proofs.PlaceLemmas.{no_steps, more_steps, all_steps}
