@@ -3,6 +3,5 @@ pub mod Served
 pub mod Lines
 pub mod Written
 pub mod Answers
-pub mod Counts
 pub mod Laws
 pub mod Steps

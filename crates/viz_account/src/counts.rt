@@ -2,20 +2,11 @@
 
 ghost use Rattle.std.specs.Prelude.{◌≡◌, ◌≤◌, ◌^◌, None, IfSome, length};
 ghost use Rattle.viz_mesh_write.specs.Cells.{cells_of, points_of};
-ghost use Rattle.viz_account.specs.Counts.{cube_count, cells_written, points_written};
+ghost use Rattle.viz_mesh_write.specs.Counts.{cells_written, points_written};
 
 use viz_dataset::Dataset;
-use viz_extent::Extent;
+use viz_kuhn::cubes;
 use viz_sheet::Sheet;
-
-// How many cubes there are between the points of an extent.
-fn cube_count(extent: &Extent) -> u64
-    ensures { result ≡ cube_count extent.now }
-{
-    let [x0, x1, y0, y1, z0, z1] = extent.bounds();
-    let _count = extent.count();
-    u64::from(x1 - x0) * u64::from(y1 - y0) * u64::from(z1 - z0)
-}
 
 // How many cells all sheets have; None past 64 bits.
 fn cells_in(sheets: &[Sheet]) -> Option<u64>
@@ -47,7 +38,7 @@ pub fn cell_count(dataset: &Dataset) -> Option<u64>
     ensures none { result ≡ None → 2 ^ 64 ≤ cells_written dataset.now }
 {
     match dataset {
-        Dataset::Image(image) => Some(cube_count(&image.extent())),
+        Dataset::Image(image) => Some(cubes(&image.extent())),
         Dataset::Mesh(mesh) => cells_in(mesh.sheets()),
     }
 }

@@ -18,7 +18,7 @@ pub use auditing::audit;
 pub use laws::{
     accounts_hold_later, audit_lines_are_closed, entries_are_told_once, lines_count_edits,
 };
-pub use updating::{file_name, update};
+pub use updating::{update, word_text};
 pub use viz_report::{Line, Reason};
 
 #[cfg(test)]

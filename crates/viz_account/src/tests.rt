@@ -1,6 +1,6 @@
 //! Updates and audits of networks, their answers and their lines, counted by hand.
 
-use crate::{Answer, AuditAnswer, audit, file_name, update};
+use crate::{Answer, AuditAnswer, audit, update, word_text};
 use std::alloc::Global;
 use std::marker::Model;
 use std::process::Abort;
@@ -218,6 +218,6 @@ fn answers_have_their_lines(rt: HostRuntime) -> Result<(), Fail> {
     assert!(rt; AuditAnswer::Unknown { at: 4 }.line() == unknown);
     assert!(rt; Answer::WriteFault { at: 4 }.line() == Line::WriteFault);
     assert!(rt; AuditAnswer::Memory.line() == Line::Memory);
-    assert!(rt; file_name(&word("o.vtk")?) == Some("o.vtk"));
+    assert!(rt; word_text(&word("o.vtk")?) == Some("o.vtk"));
     Ok(())
 }

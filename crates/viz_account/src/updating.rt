@@ -11,8 +11,8 @@ use std::alloc::Global;
 use viz_base::{Port, Word, WriteRefusal};
 use viz_network::Net;
 
-/// The name of a file as a port takes it; None where it is no text. It takes no memory.
-pub fn file_name(file: &Word) -> Option<&str>
+/// The text of a file's name, as a port takes it; None where it is no text. It takes no memory.
+pub fn word_text(file: &Word) -> Option<&str>
     ensures value { IfSome result (λ name. name.now ≡ file.now) }
     ensures some { IsSome result ↔ IsUtf8 file.now }
 {

@@ -1,1 +1,12 @@
-pub mod ServeLemmas
+mod ServeLemmas
+mod PhaseLemmas
+mod DoneLemmas
+mod RowLemmas
+mod WiderLemmas
+mod LaterLemmas
+mod ConsLemmas
+mod RunLemmas
+mod TaleLemmas
+mod ScriptLemmas
+mod GroupLemmas
+mod RoomLemmas

@@ -1,1 +1,5 @@
+pub mod Served
 pub mod Serving
+pub mod Groups
+pub mod Places
+pub mod Runs

@@ -11,7 +11,7 @@ use crate::updating::{audit_node, update};
 use std::alloc::{AllocError, Global};
 use std::sync::Wait;
 use std::thread::Threads;
-use viz_account::file_name;
+use viz_account::word_text;
 use viz_base::{Bytes, Gate, Port, ReadRefusal, Shape, Shared, Word};
 use viz_history::EditAnswer;
 use viz_hub::{Hub, Pass};
@@ -127,7 +127,7 @@ fn load<R: Wait, P: Port>(
         (Rattle.viz_script.specs.Orders.load node.now file.now) result
         pass.old.seen pass.new.seen port.old port.new }
 {
-    let Some(name) = file_name(file) else {
+    let Some(name) = word_text(file) else {
         return Line::Memory;
     };
     match port.read(alloc, name) {
@@ -159,7 +159,7 @@ fn write<R: Threads + Wait + Sync, P: Port, G: Gate + Sync>(
         (Rattle.viz_script.specs.Orders.update node.now file.now shape.now.pieces
         shape.now.workers) result.1 pass.seen result.0.seen port.old port.new }
 {
-    let Some(name) = file_name(file) else {
+    let Some(name) = word_text(file) else {
         return (pass, Line::Memory);
     };
     let (pass, answer) = update(rt, alloc, hub, pass, node, name, shape, port, gate);

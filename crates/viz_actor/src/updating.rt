@@ -8,38 +8,38 @@ ghost use Rattle.viz_account.specs.Laws.{IsClosedLine};
 ghost use Rattle.viz_account.specs.Lines.{TellsAudit};
 ghost use Rattle.viz_account.specs.Served.{Updates};
 
+use crate::admitted::Admitted;
 use std::alloc::Global;
 use std::sync::Wait;
 use std::thread::Threads;
 use viz_account::{Answer, AuditAnswer};
 use viz_base::{Gate, Port, Shape, Word};
-use viz_history::Pinned;
 use viz_hub::{Hub, Pass};
 
-/// The number of the one task of an update or an audit.
-const TASK: u64 = 0;
-
-// Writes the file of a node of a pinned network.
+// Writes the file of a node of an admitted network.
 fn update_pinned<P: Port>(
     alloc: Global,
-    pinned: &Pinned,
+    admitted: &Admitted<'_>,
     port: &mut P,
     sink: &Word,
     file: &str,
 ) -> Answer
-    ensures updates { Updates P.Port pinned.now.net pinned.now.at sink.now file.now
-        (line_of result) port.old port.new }
-    ensures at { IfSome (at_of result) (λ n. n ≡ pinned.now.at) }
+    ensures updates { Updates P.Port admitted.now.pinned.now.net admitted.now.pinned.now.at
+        sink.now file.now (line_of result) port.old port.new }
+    ensures at { IfSome (at_of result) (λ n. n ≡ admitted.now.pinned.now.at) }
 {
+    let pinned = admitted.pinned();
     viz_account::update(alloc, &pinned.net, pinned.at, port, sink, file)
 }
 
-// Counts the sides of the surface of a node of a pinned network.
-fn audit_pinned(alloc: Global, pinned: &Pinned, node: &Word) -> AuditAnswer
-    ensures tells { TellsAudit pinned.now.net pinned.now.at node.now (audit_line_of result) }
+// Counts the sides of the surface of a node of an admitted network.
+fn audit_pinned(alloc: Global, admitted: &Admitted<'_>, node: &Word) -> AuditAnswer
+    ensures tells { TellsAudit admitted.now.pinned.now.net admitted.now.pinned.now.at node.now
+        (audit_line_of result) }
     ensures closed { IsClosedLine (audit_line_of result) }
-    ensures at { IfSome (audit_at_of result) (λ n. n ≡ pinned.now.at) }
+    ensures at { IfSome (audit_at_of result) (λ n. n ≡ admitted.now.pinned.now.at) }
 {
+    let pinned = admitted.pinned();
     viz_account::audit(alloc, &pinned.net, pinned.at, node)
 }
 
@@ -71,8 +71,8 @@ pub fn update<R: Threads + Wait + Sync, P: Port, G: Gate + Sync>(
         Ok(pin) => pin,
         Err(pass) => return (pass, Answer::Memory),
     };
-    gate.enter(TASK);
-    let answer = update_pinned(alloc, pin.pinned(), port, sink, file);
+    let admitted = Admitted::enter(gate, pin.pinned());
+    let answer = update_pinned(alloc, &admitted, port, sink, file);
     (hub.release(pin), answer)
 }
 
@@ -100,7 +100,7 @@ pub fn audit_node<R: Threads + Wait + Sync, G: Gate + Sync>(
         Ok(pin) => pin,
         Err(pass) => return (pass, AuditAnswer::Memory),
     };
-    gate.enter(TASK);
-    let answer = audit_pinned(alloc, pin.pinned(), node);
+    let admitted = Admitted::enter(gate, pin.pinned());
+    let answer = audit_pinned(alloc, &admitted, node);
     (hub.release(pin), answer)
 }

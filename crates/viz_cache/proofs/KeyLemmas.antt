@@ -6,7 +6,7 @@ use Rattle.viz_extent.specs.Extent.{Bounds, numbers_of}
 use Rattle.viz_parts.specs.declared.request.Request.{Request}
 use Rattle.viz_parts.specs.declared.request.Request.TheVariants.{Block, Piece}
 use Rattle.viz_parts.specs.declared.stored.Key.{Key}
-use Rattle.viz_cache.specs.contracts.stored.KeyPartialEq.TheImpl as equality
+use Rattle.viz_parts.specs.contracts.stored.KeyPartialEq.TheImpl as equality
 use Rattle.viz_cache.specs.Keys.{same_request, same_key}
 
 numbers-same : (xs ys : List ℕ) → pointwise nat_eq xs ys ≡ true → xs ≡ ys

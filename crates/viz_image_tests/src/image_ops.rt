@@ -1,8 +1,8 @@
 //! Crop, sample, threshold and arithmetic, by hand.
 
-ghost use Rattle.std.specs.Prelude.{◌≡◌, ◌↔◌, IsTrue};
+ghost use Rattle.std.specs.Prelude.{◌≡◌, ◌≤◌, ◌↔◌, pos, ◌*ℤ◌, IsTrue};
 ghost use Rattle.viz_extent.specs.Parts.{IsAxisRate, IsRate, rate_of, sampled};
-ghost use Rattle.viz_dataset.specs.Images.{IsSpacing};
+ghost use Rattle.viz_dataset.specs.Images.{vector_of, IsStep, IsSpacing};
 ghost use Rattle.viz_meaning.specs.ImageFilters.{wider_steps};
 
 use crate::test_images::{image_of, is_image, is_part};
@@ -12,7 +12,6 @@ use std::test::Fail;
 use viz_column::Kind8;
 use viz_dataset::{Image, is_spacing};
 use viz_extent::Extent;
-use viz_image_ops::sampling::wider;
 use viz_image_ops::{Op, arith, crop, sample, samples_ask_within_the_whole, threshold};
 
 // Two by two by two points with the numbers 0 to 7, the lowest corner at 1, 5, 2.
@@ -275,6 +274,29 @@ fn is_rate(rate: [u32; 3]) -> bool
     ensures { IsTrue result ↔ IsRate (rate_of rate) }
 {
     is_axis_rate(rate[0]) && is_axis_rate(rate[1]) && is_axis_rate(rate[2])
+}
+
+// A step that is longer by a rate.
+fn longer(step: &i128, rate: u32) -> i128
+    requires step { IsStep step.now }
+    requires rate { rate ≤ 1024 }
+    ensures { result ≡ step.now *ℤ pos rate }
+{
+    *step * i128::from(rate)
+}
+
+// Steps between points that are longer by a rate.
+fn wider(spacing: &[i128; 3], rate: [u32; 3]) -> [i128; 3]
+    requires rate { IsRate (rate_of rate) }
+    requires steps { IsSpacing (vector_of spacing.now) }
+    ensures { vector_of result ≡ wider_steps (rate_of rate) (vector_of spacing.now) }
+{
+    let [x, y, z] = rate;
+    [
+        longer(&spacing[0], x),
+        longer(&spacing[1], y),
+        longer(&spacing[2], z),
+    ]
 }
 
 // Whether the steps of an image may be longer by a rate.

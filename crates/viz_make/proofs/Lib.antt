@@ -1,2 +1,4 @@
+mod ValueLemmas
+mod NarrowVolumes
 mod RunLemmas
 mod MadeLemmas

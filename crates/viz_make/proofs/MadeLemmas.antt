@@ -13,8 +13,8 @@ use Rattle.viz_surface_law.specs.declared.audits.Counts.{Counts}
 use Rattle.viz_surface_law.specs.Surfaces.{IsSurface, by_edges}
 use Rattle.viz_surface_law.specs.Audit.{count_sides, count_two, count_lone, count_border}
 use Rattle.viz_surface_law.specs.Contours.{triangles_of, ContoursAreSurfaces, ContourSidesAddUp, LoneSidesAreBorders}
-use Rattle.viz_volume.specs.Narrow.{middle, VolumesAreNarrow}
-use Rattle.viz_volume.specs.Volume.{volume, volume_sum}
+use Rattle.viz_make.specs.NarrowVolumes.{middle, VolumesAreNarrow}
+use Rattle.viz_make.specs.Volume.{volume, volume_sum}
 use Rattle.viz_make.specs.declared.made.Made.{Made}
 use Rattle.viz_make.specs.Make.{Make, IsMade, image_of}
 

@@ -12,8 +12,8 @@ use Rattle.viz_grid_section.specs.Edges.{Edge}
 use Rattle.viz_surface_law.specs.Audit.{count_sides, count_two, count_lone, count_border}
 use Rattle.viz_surface_law.specs.Contours.{triangles_of}
 use Rattle.viz_told.specs.Calls.{IsCalled}
-use Rattle.viz_volume.specs.Volume.{volume, volume_sum}
-use Rattle.viz_volume.specs.Narrow.{middle}
+use Rattle.viz_make.specs.Volume.{volume, volume_sum}
+use Rattle.viz_make.specs.NarrowVolumes.{middle}
 use Rattle.viz_make.specs.declared.came.Came.{Came}
 use Rattle.viz_make.specs.declared.came.Came.TheVariants as came
 use Rattle.viz_make.specs.declared.made.Made.{Made}

@@ -6,11 +6,13 @@ ghost use Rattle.viz_meaning.specs.Narrow.{IsNarrowSection};
 ghost use Rattle.viz_meaning.specs.Tetrahedra.{tetrahedra_sheet};
 ghost use Rattle.viz_surface_law.specs.Audit.{count_sides, count_two, count_lone, count_border};
 ghost use Rattle.viz_surface_law.specs.Contours.{triangles_of};
-ghost use Rattle.viz_volume.specs.Narrow.{middle};
+ghost use Rattle.viz_make.specs.NarrowVolumes.{middle};
 ghost use Rattle.viz_make.specs.Make.{IsClosed, IsMade, image_of, text_of};
 ghost use Rattle.viz_make.specs.Views.{make_of};
 
+use crate::laws::volumes_are_narrow;
 use crate::serving::Make;
+use crate::volume::{Generated, generate};
 use std::alloc::{AllocError, Global};
 use viz_base::Bytes;
 use viz_contour::contour;
@@ -18,7 +20,6 @@ use viz_dataset::Image;
 use viz_image_write::{Style, WriteStop, write_image};
 use viz_meaning::WorkStop;
 use viz_surface_law::{Counts, audit, contours_are_closed};
-use viz_volume::{Generated, generate, volumes_are_narrow};
 
 /// The level of the contour that is audited.
 const MIDDLE: i64 = 128;

@@ -2,4 +2,5 @@ pub mod MeshText
 pub mod Cells
 pub mod Rows
 pub mod Fits
+pub mod Counts
 pub mod Steps

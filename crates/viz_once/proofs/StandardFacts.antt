@@ -9,6 +9,7 @@ use Rattle.viz_fraction.specs.Cases.{cells_at}
 use Rattle.viz_fraction.specs.Decimals.{fixed_of}
 use Rattle.viz_fraction.specs.Divisors.{gcd}
 use Rattle.viz_fraction.specs.Points.{divisor_of, numbers}
+use Rattle.viz_kuhn.specs.Cubes.{cubes_of}
 use Rattle.viz_kuhn.specs.Kuhn.{rows}
 use Rattle.viz_image_write.specs.ImageText.{title_lines, form_line, dataset_line, dimensions_line, vector_line, origin_line, spacing_line, geometry_lines, point_data_line, array_line, table_line, header_lines, image_text}
 use Rattle.viz_sheet.specs.Sheet.{SheetData}
@@ -18,8 +19,8 @@ use Rattle.viz_lex.specs.declared.fault.FileKind.TheVariants as kind
 use Rattle.viz_once.specs.declared.command.Filter.TheVariants.{Threshold, Contour}
 use Rattle.viz_once.specs.declared.outcome.Cause.TheVariants.{BadFile, WrongInput, TooWide}
 use Rattle.viz_once.specs.Causes.{fault_text}
-use Rattle.viz_once.specs.Command.{Command, number_of, file_name_of, filter_of, command_of}
-use Rattle.viz_once.specs.Outputs.{cube_count, contoured, output_text, cells_made, points_made}
+use Rattle.viz_once.specs.Command.{Command, file_name_of, filter_of, command_of}
+use Rattle.viz_once.specs.Outputs.{contoured, output_text, cells_made, points_made}
 use Rattle.viz_once.specs.Report.{file_line, refused_line}
 
 -- so many units, in billionths
@@ -81,7 +82,7 @@ middle_of_a_line : output_text (Contour (pos 1)) (Mesh (line_to 3 ∷ []))
 unfolding digits cells_at fixed_of gcd divisor_of form_line scalars_head mesh_titles mesh_line points_line points_text section_line section_text parts_text mesh_text contoured
 middle_of_a_line = refl
 
-single_layer : cube_count square ≡ 0
+single_layer : cubes_of square ≡ 0
 single_layer = refl
 
 cells_and_points : file_line 0 4 ≡ codes "file cells 0 points 4\n"
@@ -111,21 +112,21 @@ abbrev no_command : Option Command
 no_command = None
 
 once_threshold : command_of (codes "once" ∷ codes "b.vtk" ∷ codes "o.vtk" ∷ codes "threshold" ∷ codes "-2" ∷ codes "3" ∷ []) ≡ command (record { input = codes "b.vtk"; output = codes "o.vtk"; filter = Threshold (negsuc 1) (pos 3) })
-unfolding number_of file_name_of filter_of command_of
+unfolding file_name_of filter_of command_of
 once_threshold = refl
 
 once_contour : command_of (codes "once" ∷ codes "b.vtk" ∷ codes "o.vtk" ∷ codes "contour" ∷ codes "-5" ∷ []) ≡ command (record { input = codes "b.vtk"; output = codes "o.vtk"; filter = Contour (negsuc 4) })
-unfolding number_of file_name_of filter_of command_of
+unfolding file_name_of filter_of command_of
 once_contour = refl
 
 contour_takes_one_number : command_of (codes "once" ∷ codes "b.vtk" ∷ codes "o.vtk" ∷ codes "contour" ∷ codes "2" ∷ codes "3" ∷ []) ≡ no_command
-unfolding number_of file_name_of filter_of command_of
+unfolding file_name_of filter_of command_of
 contour_takes_one_number = refl
 
 plus_is_no_number : command_of (codes "once" ∷ codes "b.vtk" ∷ codes "o.vtk" ∷ codes "threshold" ∷ codes "+2" ∷ codes "3" ∷ []) ≡ no_command
-unfolding number_of file_name_of filter_of command_of
+unfolding file_name_of filter_of command_of
 plus_is_no_number = refl
 
 point_begins_no_name : command_of (codes "once" ∷ codes ".b.vtk" ∷ codes "o.vtk" ∷ codes "threshold" ∷ codes "2" ∷ codes "3" ∷ []) ≡ no_command
-unfolding number_of file_name_of filter_of command_of
+unfolding file_name_of filter_of command_of
 point_begins_no_name = refl

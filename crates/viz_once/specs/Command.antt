@@ -1,8 +1,8 @@
 -- The words of a command (docs/FORMATS.md, "Words of a command").
-use Rattle.std.specs.Prelude.{ℕ, ℤ, pos, negsuc, ◌^◌, Bool, false, ◌&&◌, ◌||◌, ◌==◌, nat_le, nat_lt, List, [], ◌∷◌, length, codes, Option, Some, None, option_map, option_and_then, if◌then◌else◌}
-use Rattle.std.specs.List.{list_all}
+use Rattle.std.specs.Prelude.{ℕ, List, [], ◌∷◌, codes, Option, Some, None, option_map, option_and_then, if◌then◌else◌}
 use Rattle.std.specs.Str.{bytes_eq}
-use Rattle.viz_lex.specs.Numbers.{is_digit, whole_of}
+use Rattle.viz_words.specs.Names.{is_file_name}
+use Rattle.viz_words.specs.Numbers.{number_of}
 use Rattle.viz_once.specs.declared.command.Filter.{Filter}
 use Rattle.viz_once.specs.declared.command.Filter.TheVariants.{Threshold, Contour}
 
@@ -11,37 +11,6 @@ pub record Command : Type 0 where
   pub input : List ℕ
   pub output : List ℕ
   pub filter : Filter
-
--- a letter, a digit or _
-abbrev pub is_name_byte : ℕ → Bool
-is_name_byte b = is_digit b || (nat_le 65 b && nat_le b 90) || (nat_le 97 b && nat_le b 122) || b == 95
-
--- one of these, - or .
-abbrev pub is_file_byte : ℕ → Bool
-is_file_byte b = is_name_byte b || b == 45 || b == 46
-
--- the first byte is a letter, a digit or _
-abbrev pub begins_name : List ℕ → Bool
-begins_name [] = false
-begins_name (b ∷ bs) = is_name_byte b
-
--- 1 to 64 bytes of a file name
-abbrev pub is_file_name : List ℕ → Bool
-is_file_name word = begins_name word && nat_le (length word) 64 && list_all is_file_byte word
-
--- within 64 bits
-abbrev pub fits_i64 : ℤ → Bool
-fits_i64 (pos n) = nat_lt n (2 ^ 63)
-fits_i64 (negsuc n) = nat_lt n (2 ^ 63)
-
--- a digit or a minus sign
-abbrev pub is_number_byte : ℕ → Bool
-is_number_byte b = is_digit b || b == 45
-
--- the number of a word: digits, with a minus sign or none, within 64 bits
-unfoldable pub number_of : List ℕ → Option ℤ
-number_of word =
-    if list_all is_number_byte word then option_and_then (λ n. if fits_i64 n then Some n else None) (whole_of word) else None
 
 -- the word as a file name
 unfoldable pub file_name_of : List ℕ → Option (List ℕ)

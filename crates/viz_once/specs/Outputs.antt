@@ -1,6 +1,5 @@
 -- What a filter makes of a dataset, and what is written of it (docs/FORMATS.md, "Filters", "Written files" and "Written meshes").
-use Rattle.std.specs.Prelude.{ℕ, ℤ, ◌-◌, ◌*◌, false, List, [], ◌∷◌, ◌⊎◌, length}
-use Rattle.viz_extent.specs.Extent.{Bounds, count_of}
+use Rattle.std.specs.Prelude.{ℕ, ℤ, false, List, [], ◌∷◌, ◌⊎◌}
 use Rattle.viz_fraction.specs.Forms.{contour_form}
 use Rattle.viz_sheet.specs.Sheet.{SheetData}
 use Rattle.viz_dataset.specs.Images.{IsOrigin, corner}
@@ -10,7 +9,7 @@ use Rattle.viz_meaning.specs.Section.{sections_of}
 use Rattle.viz_meaning.specs.Narrow.{AreNarrowSections}
 use Rattle.viz_meaning.specs.Tetrahedra.{sheets_of}
 use Rattle.viz_image_write.specs.ImageText.{image_text}
-use Rattle.viz_mesh_write.specs.Cells.{points_of, cells_of}
+use Rattle.viz_mesh_write.specs.Counts.{cells_written, points_written}
 use Rattle.viz_mesh_write.specs.Fits.{FitCounts, FitNumbers}
 use Rattle.viz_mesh_write.specs.MeshText.{mesh_text}
 use Rattle.viz_once.specs.declared.command.Filter.{Filter}
@@ -18,10 +17,6 @@ use Rattle.viz_once.specs.declared.command.Filter.TheVariants.{Threshold, Contou
 use Rattle.viz_meaning.specs.Threshold.{thresholded}
 
 -- ---- what is written of a dataset
-
--- how many cubes there are between the points of an extent: none in a single layer
-abbrev pub cube_count : Bounds → ℕ
-cube_count b = (b.x1 - b.x0) * (b.y1 - b.y0) * (b.z1 - b.z0)
 
 -- at how many decimal places the coordinates of a mesh are written
 abbrev pub places : ℕ
@@ -31,16 +26,6 @@ places = 3
 abbrev pub text_of : Dataset → List ℕ
 text_of (Image i) = image_text false i
 text_of (Mesh sheets) = mesh_text false places sheets
-
--- how many cells are written: the cubes of an image, the cells of a mesh
-abbrev pub cells_written : Dataset → ℕ
-cells_written (Image i) = cube_count i.extent
-cells_written (Mesh sheets) = length (cells_of sheets)
-
--- how many points are written
-abbrev pub points_written : Dataset → ℕ
-points_written (Image i) = count_of i.extent
-points_written (Mesh sheets) = length (points_of sheets)
 
 -- the text hasn't too many points or cells: that of an image never has
 abbrev pub HasFewCounts : Dataset → Type 0

@@ -1,12 +1,12 @@
 //! Commands, read by hand from their words (docs/FORMATS.md, "Words of a command").
 
-ghost use Rattle.std.specs.Prelude.{◌≡◌, option_map, if◌then◌else◌};
-ghost use Rattle.viz_once.specs.Command.{is_name_byte, is_file_byte, begins_name, is_file_name, file_name_of, is_number_byte, fits_i64, number_of, contour_of, filter_of, command_of};
+ghost use Rattle.std.specs.Prelude.{◌≡◌, option_map};
+ghost use Rattle.viz_once.specs.Command.{file_name_of, contour_of, filter_of, command_of};
 ghost use Rattle.viz_once.specs.Commands.{command_view};
-ghost use Rattle.std.specs.List.{list_all};
+ghost use Rattle.viz_words.specs.Names.{is_file_name};
 
 use viz_base::Bytes;
-use viz_lex::Lexer;
+use viz_words::{file_name, number};
 
 /// What a command does with a dataset.
 #[derive(Clone, Copy, PartialEq, Eq, Debug)]
@@ -28,42 +28,17 @@ pub struct Once<'a> {
     pub filter: Filter,
 }
 
-fn is_name_byte(b: u8) -> bool
-    ensures { result ≡ is_name_byte b }
-{
-    matches!(b, b'0'..=b'9' | b'A'..=b'Z' | b'a'..=b'z' | b'_')
-}
-
-fn is_file_byte(b: u8) -> bool
-    ensures { result ≡ is_file_byte b }
-{
-    is_name_byte(b) || b == b'-' || b == b'.'
-}
-
-fn begins_name(word: &[u8]) -> bool
-    ensures { result ≡ begins_name word.now }
-{
-    match word.first() {
-        Some(b) => is_name_byte(*b),
-        None => false,
-    }
-}
-
-fn are_file_bytes(word: &[u8]) -> bool
-    ensures { result ≡ list_all is_file_byte word.now }
-{
-    word.iter().all(|b| is_file_byte(*b))
-}
-
+/// Whether a word is a file's name.
 fn is_file_name(word: &[u8]) -> bool
     ensures { result ≡ is_file_name word.now }
 {
-    begins_name(word) && word.len() <= 64 && are_file_bytes(word)
+    file_name(word).is_ok()
 }
 
-/// The word as a file name: 1 to 64 letters, digits, `_`, `-` or `.`, the first neither `-` nor `.`.
+/// The text of a file's name, where the word is one: 1 to 64 letters, digits, `_`, `-` or `.`, the
+/// first neither `-` nor `.`.
 #[tactic(auto, unfolding(crate::specs::Command::file_name_of))]
-pub fn file_name(word: &[u8]) -> Option<&str>
+pub fn file_name_text(word: &[u8]) -> Option<&str>
     ensures { option_map (λ name. name.now) result ≡ file_name_of word.now }
 {
     if !is_file_name(word) {
@@ -71,33 +46,6 @@ pub fn file_name(word: &[u8]) -> Option<&str>
     }
     match std::str::from_utf8(word) {
         Ok(name) => Some(name),
-        Err(_) => None,
-    }
-}
-
-fn are_number_bytes(word: &[u8]) -> bool
-    ensures { result ≡ list_all is_number_byte word.now }
-{
-    word.iter().all(|b| matches!(*b, b'0'..=b'9' | b'-'))
-}
-
-/// The number, if 64 bits hold it.
-fn narrow(n: &i128) -> Option<i64>
-    ensures { result ≡ (if fits_i64 n.now then Some n.now else None) }
-{
-    i64::try_from(*n).ok()
-}
-
-/// The number of a word.
-#[tactic(auto, unfolding(crate::specs::Command::number_of))]
-fn number(word: &[u8]) -> Option<i64>
-    ensures { result ≡ number_of word.now }
-{
-    if !are_number_bytes(word) {
-        return None;
-    }
-    match Lexer::new(word).whole() {
-        Ok(n) => narrow(&n),
         Err(_) => None,
     }
 }
@@ -143,8 +91,8 @@ pub fn command(words: &[Bytes]) -> Option<Once<'_>>
     if verb.list() != b"once".as_slice() {
         return None;
     }
-    let input = file_name(input.list())?;
-    let output = file_name(output.list())?;
+    let input = file_name_text(input.list())?;
+    let output = file_name_text(output.list())?;
     let filter = read_filter(behind)?;
     Some(Once {
         input,

@@ -15,7 +15,7 @@ mod report;
 mod stop;
 mod threshold;
 
-pub use command::file_name;
+pub use command::file_name_text;
 pub use entry::run_once;
 
 #[cfg(test)]

@@ -6,7 +6,7 @@ ghost use Rattle.viz_legacy_read.specs.Reading.{IsSound};
 ghost use Rattle.viz_once.specs.Account.{IsServed};
 ghost use Rattle.viz_once.specs.Causes.{HasWrongInput};
 ghost use Rattle.viz_once.specs.Commands.{command_view};
-ghost use Rattle.viz_once.specs.Outputs.{Takes, cube_count};
+ghost use Rattle.viz_once.specs.Outputs.{Takes};
 ghost use Rattle.viz_once.specs.Made.{IsStopOf, IsTaken, Makes, MakesOf};
 ghost use Rattle.viz_once.specs.declared.command.Filter.TheVariants.{Threshold};
 
@@ -19,8 +19,8 @@ use crate::threshold::threshold;
 use std::alloc::Global;
 use viz_base::{Bytes, Pick, Port, ReadRefusal, WriteRefusal};
 use viz_dataset::{Dataset, Image, Info};
-use viz_extent::Extent;
 use viz_image_write::write_image;
+use viz_kuhn::cubes;
 use viz_legacy_read::{header, read};
 
 /// Refuses a file of a dataset that the filter doesn't take, by its header alone, which is read
@@ -48,15 +48,6 @@ fn input_of(alloc: Global, filter: &Filter, bytes: &[u8]) -> Result<Dataset, Mak
     Ok(dataset)
 }
 
-/// How many cubes there are between the points of an extent.
-fn cube_count(extent: &Extent) -> u64
-    ensures { result ≡ cube_count extent.now }
-{
-    let [x0, x1, y0, y1, z0, z1] = extent.bounds();
-    let _count = extent.count();
-    u64::from(x1 - x0) * u64::from(y1 - y0) * u64::from(z1 - z0)
-}
-
 /// The text and the numbers of a thresholded image. Its input is given up before the text is made.
 fn thresholded(alloc: Global, image: Image, lo: &i64, hi: &i64) -> Result<Made, MakeStop>
     ensures { MakesOf (Threshold lo.now hi.now) (dataset.Image image) result }
@@ -67,7 +58,7 @@ fn thresholded(alloc: Global, image: Image, lo: &i64, hi: &i64) -> Result<Made, 
     let text = write_image(alloc, &kept, &STYLE)?;
     Ok(Made {
         text,
-        cells: cube_count(&extent),
+        cells: cubes(&extent),
         points: extent.count(),
     })
 }

@@ -1,38 +1,31 @@
 -- The numbers of a filter that words tell are of 64 bits.
-use Rattle.std.proofs.Common.{◌≡◌, ℕ, ℤ, Bool, true, false, cond, List, [], ◌∷◌, Option, None, Some, refl, subst}
+use Rattle.std.proofs.Common.{◌≡◌, ℕ, ℤ, pos, neg_ℤ, ◌==◌, Bool, true, false, cond, List, [], ◌∷◌, Option, None, Some, refl, subst}
 use Rattle.std.specs.Prelude.{codes, option_map, option_and_then}
-use Rattle.std.specs.List.{list_all}
 use Rattle.std.specs.Str.{bytes_eq}
-use Rattle.viz_lex.specs.Numbers.{whole_of}
+use Rattle.viz_lex.specs.Numbers.{natural_of}
 use Rattle.viz_once.specs.declared.command.Filter.{Filter}
 use Rattle.viz_once.specs.declared.command.Filter.TheVariants.{Threshold, Contour}
-use Rattle.viz_once.specs.Command.{Command, fits_i64, is_number_byte, number_of, file_name_of, filter_of, command_of}
-use Rattle.viz_once_history.specs.FixedHistory.{HasNumbers}
+use Rattle.viz_once.specs.Command.{Command, file_name_of, filter_of, command_of}
+use Rattle.viz_once_history.specs.FixedHistory.{fits_i64, HasNumbers}
 use Rattle.viz_once_history.specs.Laws.{WordsHaveNumbers}
+use Rattle.viz_words.specs.Numbers.{within, number_of}
 
 -- nothing is something
 none_is_some : {X Y : Type 0} (x : X) → (let o : Option X = None in o) ≡ Some x → Y
 none_is_some {X} x e = (let bad : (let o : Option X = None in o) ≡ Some x = e in absurd cc)
 
--- a number of 64 bits, or none
-abbrev kept : ℤ → Option ℤ
-kept n = cond (fits_i64 n) (Some n) None
-
 kept_fits : (n m : ℤ) (b : Bool) → fits_i64 n ≡ b → cond b (Some n) None ≡ Some m → fits_i64 m ≡ true
 kept_fits n m true f e = (let same : n ≡ m = cc in subst (λ (k : ℤ). fits_i64 k ≡ true) same f)
 kept_fits n m false f e = none_is_some m e
 
-whole_fits : (o : Option ℤ) (m : ℤ) → option_and_then kept o ≡ Some m → fits_i64 m ≡ true
-whole_fits None m e = none_is_some m e
-whole_fits (Some n) m e = kept_fits n m (fits_i64 n) refl e
-
-word_fits : (b : Bool) (o : Option ℤ) (m : ℤ) → cond b (option_and_then kept o) None ≡ Some m → fits_i64 m ≡ true
-word_fits true o m e = whole_fits o m e
-word_fits false o m e = none_is_some m e
+within_fits : (o : Option ℤ) (m : ℤ) → within o ≡ Some m → fits_i64 m ≡ true
+within_fits None m e = none_is_some m e
+within_fits (Some n) m e = kept_fits n m (fits_i64 n) refl e
 
 number_fits : (word : List ℕ) (m : ℤ) → number_of word ≡ Some m → fits_i64 m ≡ true
-unfolding number_of
-number_fits word m e = word_fits (list_all is_number_byte word) (whole_of word) m e
+number_fits [] m e = none_is_some m e
+number_fits (b ∷ bs) m e =
+    within_fits (cond (b == 45) (option_map (λ n. neg_ℤ (pos n)) (natural_of bs)) (option_map (λ n. pos n) (natural_of (b ∷ bs)))) m e
 
 -- a filter, where it is one with numbers of 64 bits
 abbrev HasOwn : Option Filter → Type 0

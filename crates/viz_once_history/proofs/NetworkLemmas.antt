@@ -1,10 +1,9 @@
 -- The network of the fixed history, and what lies upstream of its filter.
-use Rattle.std.proofs.Common.{◌≡◌, ℕ, zero, suc, ◌<◌, ◌^◌, Bool, true, false, not, ◌&&◌, int_le, ℤ, pos, negsuc, List, [], ◌∷◌, replicate, None, Some, Ok, refl, arith}
-use Rattle.std.proofs.lemmas.Bool.Decides.{nat_tests}
+use Rattle.std.proofs.Common.{◌≡◌, ℕ, zero, suc, Bool, true, false, not, pos, List, [], ◌∷◌, replicate, None, Some, Ok, refl}
 use Rattle.viz_base.specs.declared.node.Pick.TheVariants.{First}
 use Rattle.viz_kinds.specs.declared.settings.Settings.{Settings}
 use Rattle.viz_kinds.specs.declared.settings.Settings.TheVariants as settings
-use Rattle.viz_kinds.specs.Values.{is_value, first_number, last_number}
+use Rattle.viz_kinds.specs.Values.{is_value}
 use Rattle.viz_network.specs.declared.node.Node.{Node}
 use Rattle.viz_network.specs.declared.refusal.Refusal.TheVariants.{BadValue}
 use Rattle.viz_network.specs.Applies.{IsAccepted}
@@ -13,19 +12,14 @@ use Rattle.viz_network.specs.Edits.{unless}
 use Rattle.viz_network.specs.Network.{Network}
 use Rattle.viz_once.specs.declared.command.Filter.{Filter}
 use Rattle.viz_once.specs.declared.command.Filter.TheVariants.{Threshold, Contour}
-use Rattle.viz_once.specs.Command.{fits_i64}
 use Rattle.viz_once_history.specs.Laws.{HistoriesAreLegal}
 use Rattle.viz_once_history.specs.FixedHistory.{source, op, param_of, value_of, HasNumbers, network_for, op_id}
 
 -- ---- the numbers
 
-within_64 : (n : ℤ) → fits_i64 n ≡ true → (int_le first_number n && int_le n last_number) ≡ true
-within_64 (pos n) h = (let below : n < 2 ^ 63 = grind (arith, nat_tests) in grind (arith, nat_tests))
-within_64 (negsuc n) h = (let below : n < 2 ^ 63 = grind (arith, nat_tests) in grind (arith, nat_tests))
-
 pub fits : (filter : Filter) → HasNumbers filter → is_value (param_of filter) (value_of filter) ≡ true
-fits (Threshold lo hi) h = rw (within_64 lo h.0, within_64 hi h.1) refl
-fits (Contour level) h = rw (within_64 level h) refl
+fits (Threshold lo hi) h = rw (h.0, h.1) refl
+fits (Contour level) h = rw h refl
 
 -- ---- the network
 

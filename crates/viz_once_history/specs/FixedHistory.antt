@@ -1,5 +1,5 @@
 -- The fixed history of a command of one file: a source, and the filter behind it (docs/DEFINITIONS.md, "The fixed history of one file").
-use Rattle.std.specs.Prelude.{◌≡◌, ℕ, pos, true, List, [], ◌∷◌, replicate, codes, Option, None, Some, Result}
+use Rattle.std.specs.Prelude.{◌≡◌, ℕ, ℤ, pos, int_le, Bool, true, ◌&&◌, List, [], ◌∷◌, replicate, codes, Option, None, Some, Result}
 use Rattle.viz_history.specs.declared.entry.Entry.{Entry}
 use Rattle.viz_history.specs.History.{entry, network_of}
 use Rattle.viz_kinds.specs.declared.kind.Kind.{Kind}
@@ -8,6 +8,7 @@ use Rattle.viz_kinds.specs.declared.param.Param.{Param}
 use Rattle.viz_kinds.specs.declared.param.Param.TheVariants as param
 use Rattle.viz_kinds.specs.declared.param.Value.{Value}
 use Rattle.viz_kinds.specs.declared.param.Value.TheVariants.{Numbers}
+use Rattle.viz_kinds.specs.Values.{first_number, last_number}
 use Rattle.viz_network.specs.declared.edit.Edit.TheVariants.{Add, Load, Connect, Set}
 use Rattle.viz_network.specs.declared.fault.Cause as faults
 use Rattle.viz_network.specs.declared.fault.Cause.TheVariants as fault
@@ -17,7 +18,6 @@ use Rattle.viz_once.specs.declared.command.Filter.{Filter}
 use Rattle.viz_once.specs.declared.command.Filter.TheVariants.{Threshold, Contour}
 use Rattle.viz_once.specs.declared.outcome.Cause.{Cause}
 use Rattle.viz_once.specs.declared.outcome.Cause.TheVariants.{TooLong, BadFile, WrongInput, TooWide, TooMany}
-use Rattle.viz_once.specs.Command.{fits_i64}
 use Rattle.viz_scratch.specs.Written.{IsFileOf}
 
 -- ---- the history
@@ -44,6 +44,10 @@ param_of (Contour level) = param.Levels
 abbrev pub value_of : Filter → Value
 value_of (Threshold lo hi) = Numbers 2 (lo ∷ hi ∷ replicate 6 (pos 0))
 value_of (Contour level) = Numbers 1 (level ∷ replicate 7 (pos 0))
+
+-- a number of 64 bits
+abbrev pub fits_i64 : ℤ → Bool
+fits_i64 n = int_le first_number n && int_le n last_number
 
 -- the filter's numbers are of 64 bits, as those of words are
 abbrev pub HasNumbers : Filter → Type 0

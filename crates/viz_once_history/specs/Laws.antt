@@ -2,6 +2,7 @@
 use Rattle.std.specs.Prelude.{◌≡◌, ℕ, List, Some, Ok, Err}
 use Rattle.viz_history.specs.History.{IsLegal}
 use Rattle.viz_dataset.specs.declared.dataset.Dataset.{Dataset}
+use Rattle.viz_mesh_write.specs.Counts.{cells_written, points_written}
 use Rattle.viz_network.specs.declared.fault.Fault.{Fault}
 use Rattle.viz_network.specs.Network.{name_of}
 use Rattle.viz_once.specs.declared.command.Filter.{Filter}
@@ -9,7 +10,7 @@ use Rattle.viz_once.specs.declared.outcome.Cause.{Cause}
 use Rattle.viz_once.specs.Account.{IsInput}
 use Rattle.viz_once.specs.Causes.{cause_text, ReadsFile, IsCauseOf}
 use Rattle.viz_once.specs.Command.{Command, command_of}
-use Rattle.viz_once.specs.Outputs.{output_text, cells_written, points_written, cells_made, points_made, Accepts}
+use Rattle.viz_once.specs.Outputs.{output_text, cells_made, points_made, Accepts}
 use Rattle.viz_report.specs.declared.line.Reason.TheVariants.{Fault as Named}
 use Rattle.viz_report.specs.Words.{reason_text}
 use Rattle.viz_scratch.specs.Scratch.{IsScratch}

@@ -8,7 +8,7 @@ ghost use Rattle.viz_replay.specs.Served.{replay_of, IsServed};
 use crate::came::Came;
 use crate::network::network_of;
 use std::alloc::Global;
-use viz_account::{file_name, update};
+use viz_account::{update, word_text};
 use viz_base::{Port, ReadRefusal, Word};
 use viz_journal::{JournalEntry, read_journal};
 use viz_words::{ScriptRefusal, ScriptStop};
@@ -51,7 +51,7 @@ fn serve_entries<P: Port>(
     let Ok(net) = network_of(alloc, entries, command.count) else {
         return Came::Memory;
     };
-    let Some(file) = file_name(&command.output) else {
+    let Some(file) = word_text(&command.output) else {
         return Came::Memory;
     };
     let at = entries_at(command.count, entries);

@@ -10,8 +10,8 @@ use crate::evaluation::scratch;
 use std::alloc::Global;
 use viz_base::{Bytes, NodeId, Shared};
 use viz_dataset::Dataset;
-use viz_kinds::Settings;
 use viz_image_write::{Style, WriteStop, write_image};
+use viz_kinds::Settings;
 use viz_mesh_write::{write_mesh, write_owned_mesh};
 use viz_network::{Cause, Fault, Net, Stop};
 

@@ -12,7 +12,7 @@ use Rattle.viz_script.specs.Script.{Stepped, script_of, phase_limit}
 use Rattle.viz_report.specs.declared.line.Line.{Line}
 use Rattle.viz_report.specs.declared.line.Row.{Row}
 use Rattle.viz_account.specs.Account.{AreActors}
-use Rattle.viz_phases.specs.Groups.{numbers, is_of, commands_in, by_phase, actors_over, history_limit}
+use Rattle.viz_actor.specs.Groups.{numbers, is_of, commands_in, by_phase, actors_over, history_limit}
 use Rattle.viz_script_run.specs.declared.ran.Ran.{Ran}
 use Rattle.viz_script_run.specs.declared.ran.Ran.TheVariants as ran
 use Rattle.viz_script_run.specs.Deeds.{Deed, Nothing, Asked, Kept, IsEndOfScript, IsAccounted, IsServed, bytes_of}

@@ -25,7 +25,7 @@ use Rattle.viz_report.specs.Report.{rows_text}
 use Rattle.viz_account.specs.Account.{faults_told, RoseBy, AreActors}
 use Rattle.viz_script_run.specs.declared.ran.Ran.{Ran}
 use Rattle.viz_script_run.specs.declared.ran.Ran.TheVariants as ran
-use Rattle.viz_phases.specs.Groups.{actors_over}
+use Rattle.viz_actor.specs.Groups.{actors_over}
 use Rattle.viz_script_run.specs.Deeds.{Deed, Nothing, Asked, Kept, IsAccounted, IsServed, IsEndOfScript, IsRan, calls_of, is_written}
 use Rattle.viz_script_run.specs.Told.{text_of, refused_script, is_fault, has_memory, has_fault, has_refused, served_status, status_of, telling_of}
 use Rattle.viz_told.specs.declared.status.Status.{Status}

@@ -14,7 +14,7 @@ use Rattle.viz_report.specs.Report.{rows_from, phase_rows, next_counts, first_ph
 use Rattle.viz_account.specs.Account.{edited, AreActors, IsAccountOf}
 use Rattle.viz_account.specs.Laws.{CountEdits, AsksAlone, LinesCountEdits}
 use Rattle.viz_account.proofs.ScriptLemmas.{no_lines}
-use Rattle.viz_phases.specs.Groups.{numbers, by_phase, by_actor}
+use Rattle.viz_actor.specs.Groups.{numbers, by_phase, by_actor}
 use Rattle.viz_script_run.proofs.RowLemmas.{all_lines}
 use Rattle.viz_script_run.proofs.IdleLemmas.{none_by, at_number}
 

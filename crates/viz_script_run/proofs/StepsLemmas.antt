@@ -14,9 +14,9 @@ use Rattle.viz_account.specs.Account.{AreActors, IsAccountOf}
 use Rattle.viz_account.specs.Laws.{IsClosedLine, AuditLinesAreClosed, LinesCountEdits}
 use Rattle.viz_script_run.specs.declared.ran.Ran.{Ran}
 use Rattle.viz_script_run.specs.declared.ran.Ran.TheVariants as ran
-use Rattle.viz_phases.specs.Groups.{by_actor, actors_over, history_limit}
+use Rattle.viz_actor.specs.Groups.{by_actor, actors_over, history_limit}
 use Rattle.viz_script_run.specs.Journals.{journal_of}
-use Rattle.viz_phases.specs.Served.{IsServedScript}
+use Rattle.viz_actor.specs.Served.{IsServedScript}
 use Rattle.viz_script_run.specs.Numbering.{actors_of, TellsActor, AreOwn, IsJournalBy}
 use Rattle.viz_script_run.specs.Deeds.{Asked, Kept, IsEndOfScript, IsAccounted, IsServed}
 use Rattle.viz_script_run.specs.Serving.{IsServedWith, IsKept, IsRanBehind}

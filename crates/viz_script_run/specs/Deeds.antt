@@ -18,7 +18,7 @@ use Rattle.viz_account.specs.Laws.{CountEdits, IsClosedLine}
 use Rattle.viz_told.specs.Calls.{IsCalled}
 use Rattle.viz_script_run.specs.declared.ran.Ran.{Ran}
 use Rattle.viz_script_run.specs.declared.ran.Ran.TheVariants as ran
-use Rattle.viz_phases.specs.Groups.{by_actor, actors_over, history_limit}
+use Rattle.viz_actor.specs.Groups.{by_actor, actors_over, history_limit}
 use Rattle.viz_script_run.specs.Journals.{journal_of}
 
 -- ---- the desk

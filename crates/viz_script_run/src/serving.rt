@@ -1,7 +1,7 @@
 //! A script read, served and kept.
 
 ghost use Rattle.std.specs.Prelude.{◌≡◌};
-ghost use Rattle.viz_phases.specs.Groups.{actors_over};
+ghost use Rattle.viz_actor.specs.Groups.{actors_over};
 ghost use Rattle.viz_script_run.specs.Deeds.{IsRan};
 ghost use Rattle.viz_script_run.specs.Serving.{IsKept, IsRanBehind};
 
@@ -11,10 +11,10 @@ use std::alloc::Global;
 use std::sync::Wait;
 use std::thread::Threads;
 use viz_account::{audit_lines_are_closed, lines_count_edits};
+use viz_actor::{Served, serve_script};
 use viz_base::{ACTORS, Gate, Items, Port, ReadRefusal, WriteRefusal};
 use viz_history::Entry;
 use viz_journal::journal_text;
-use viz_phases::{Served, serve_script};
 use viz_report::Row;
 use viz_script::{ScriptRefusal, ScriptStop, parse};
 

@@ -6,9 +6,9 @@ ghost use Rattle.viz_session.specs.Runs.{command_view};
 
 use viz_base::Bytes;
 use viz_make::{Make, volume_extent};
-use viz_once::file_name;
+use viz_once::file_name_text;
 use viz_replay::Replay;
-use viz_words::{file_name as output_name, natural, node_name};
+use viz_words::{file_name, natural, node_name};
 
 /// A command that isn't of one file.
 #[derive(Clone, Copy, Debug)]
@@ -28,8 +28,8 @@ fn script(words: &[Bytes]) -> Option<Command<'_>>
     let [script, journal] = words else {
         return None;
     };
-    let script = file_name(script.list())?;
-    let journal = file_name(journal.list())?;
+    let script = file_name_text(script.list())?;
+    let journal = file_name_text(journal.list())?;
     Some(Command::Script { script, journal })
 }
 
@@ -40,10 +40,10 @@ fn scratch(words: &[Bytes]) -> Option<Command<'_>>
     let [journal, count, sink, output] = words else {
         return None;
     };
-    let journal = file_name(journal.list())?;
+    let journal = file_name_text(journal.list())?;
     let count = natural(count.list(), 0, 65_536).ok()?;
     let sink = node_name(sink.list()).ok()?;
-    let output = output_name(output.list()).ok()?;
+    let output = file_name(output.list()).ok()?;
     Some(Command::Scratch(Replay {
         journal,
         count,
@@ -71,7 +71,7 @@ fn make(words: &[Bytes]) -> Option<Command<'_>>
     let y = size(y.list())?;
     let z = size(z.list())?;
     let extent = volume_extent(x, y, z)?;
-    let output = file_name(output.list())?;
+    let output = file_name_text(output.list())?;
     Some(Command::Make(Make {
         number,
         extent,

@@ -10,12 +10,12 @@ use Rattle.viz_grid_section.specs.Edges.{is_before}
 use Rattle.viz_grid_section.specs.GridSection.{grid_cells}
 use Rattle.viz_surface_law.specs.Sides.{Side, turned, sides_of, same_side, shares}
 use Rattle.viz_surface_law.proofs.Cuts.{all_ends}
-use Rattle.viz_facets.specs.Facets.{x_of, y_of, z_of}
+use Rattle.viz_surface_law.specs.Facets.{x_of, y_of, z_of}
 use Rattle.viz_surface_law.specs.Closed.{on_boundary, run_through}
 use Rattle.viz_surface_law.proofs.Cuts.{at_end_of}
 use Rattle.viz_surface_law.specs.Audit.{undirected, sides_in, is_two, is_lone, is_border, count_sides, count_two, count_lone, count_border}
-use Rattle.viz_facets.proofs.ListCounts.{sum_by-same, sum_by-plus}
-use Rattle.viz_facets.proofs.FacetTable.{Each, Each_at}
+use Rattle.viz_surface_law.proofs.Sharing.ListCounts.{sum_by-same, sum_by-plus}
+use Rattle.viz_surface_law.proofs.Sharing.FacetTable.{Each, Each_at}
 use Rattle.viz_surface_law.proofs.Cuts.{swap_4, same_side-decides}
 use Rattle.viz_surface_law.proofs.Law.{outcome, occ, run_through-occ}
 

@@ -4,7 +4,7 @@ use Rattle.std.specs.List.{All}
 use Rattle.viz_extent.specs.Extent.{Bounds}
 use Rattle.viz_sheet.specs.Ranked.{AreRanks, by_names}
 use Rattle.viz_sheet.specs.Sheet.{SheetData}
-use Rattle.viz_facets.proofs.FacetTable.{Each}
+use Rattle.viz_surface_law.proofs.Sharing.FacetTable.{Each}
 use Rattle.viz_surface_law.specs.Audit.{count_sides, count_two, count_lone, count_border}
 use Rattle.viz_surface_law.specs.Surfaces.{by_edges, IsSurface}
 use Rattle.viz_surface_law.specs.Steps.Keys.{half, keys_in, passing, any_side, in_two, in_one}

@@ -4,7 +4,7 @@ use Rattle.std.specs.List.{list_all}
 use Rattle.std.proofs.lemmas.Bool.Decides.{nat_tests}
 use Rattle.viz_extent.specs.Extent.{Bounds}
 use Rattle.viz_grid_section.specs.Edges.{Edge}
-use Rattle.viz_facets.specs.Facets.{x_of, y_of, z_of, is_on_boundary}
+use Rattle.viz_surface_law.specs.Facets.{x_of, y_of, z_of, is_on_boundary}
 use Rattle.viz_surface_law.specs.Sides.{side, shares, facet_of}
 use Rattle.viz_surface_law.specs.Closed.{on_boundary}
 

@@ -1,11 +1,11 @@
 -- The cut of a facet tells which facet it is, and in which direction it is run through.
-use Rattle.viz_facets.proofs.LeafFacets.{Leaves, leaves, Ascends, same_leaves, same_leaves-decides, leaves_from, flags}
-use Rattle.viz_facets.proofs.ListCounts.{by_test}
+use Rattle.viz_surface_law.proofs.Sharing.LeafFacets.{Leaves, leaves, Ascends, same_leaves, same_leaves-decides, leaves_from, flags}
+use Rattle.viz_surface_law.proofs.Sharing.ListCounts.{by_test}
 use Rattle.std.proofs.Common.{◌≡◌, ◌≢◌, ℕ, ◌<◌, ◌≤◌, ◌==◌, min, max, Bool, true, false, not, cond, ◌&&◌, true≢false, if◌then◌else◌, inl, inr, List, [], ◌∷◌, map, length, refl, sym, ap, subst, ◌∙◌, arith}
 use Rattle.std.specs.Prelude.{◌⊎◌, count_by, slice_index_or}
 use Rattle.std.specs.Bool.{Decides}
 use Rattle.std.specs.List.{list_all}
-use Rattle.viz_facets.specs.Facets.{lies_at_end}
+use Rattle.viz_surface_law.specs.Facets.{lies_at_end}
 use Rattle.std.proofs.Math.Nat.{min-eq_left, max-eq_right}
 use Rattle.std.proofs.lemmas.Bool.Decides.{nat_tests, Decides-like, Decides-and, Decides-eqb}
 use Rattle.viz_grid_section.specs.Edges.{Edge, edge_of}

@@ -1,5 +1,5 @@
 -- The diagonal of a tetrahedron tells which tetrahedron it is.
-use Rattle.viz_facets.proofs.GridFacets.{low_corner}
+use Rattle.viz_surface_law.proofs.Sharing.GridFacets.{low_corner}
 use Rattle.std.proofs.Common.{◌≡◌, ℕ, ◌+◌, ◌-◌, ◌*◌, ◌<◌, ◌≤◌, Bool, true, false, cond, ◌&&◌, ◌||◌, inl, inr, List, [], ◌∷◌, length, get_or, refl, sym, ap, subst, ◌∙◌, arith}
 use Rattle.std.specs.Prelude.{◌⊎◌, count_by, sum_by, slice_index_or}
 use Rattle.std.specs.List.{list_all}
@@ -11,10 +11,10 @@ use Rattle.viz_kuhn.specs.Kuhn.{Row, rows}
 use Rattle.viz_kuhn.specs.Places.{Place, place_of}
 use Rattle.viz_kuhn.specs.Cubes.{all_lowest, leaves_of}
 use Rattle.viz_surface_law.specs.Sides.{Side, same_side}
-use Rattle.viz_facets.proofs.ListCounts.{sum_by-same, by_test}
-use Rattle.viz_facets.proofs.CubeSums.{same_place, has_at, cubes_at}
-use Rattle.viz_facets.proofs.FacetTable.{facet, is_chain, same_corner, Each, Each_at}
-use Rattle.viz_facets.proofs.GridFacets.{Chain, chain_tells, Bits, In, SamePlace, leaf_at, leaf_lt, leaf_tells, leaf_from, corner_has, corner-decides, place-decides, mul_le, false_then, lowest_in}
+use Rattle.viz_surface_law.proofs.Sharing.ListCounts.{sum_by-same, by_test}
+use Rattle.viz_surface_law.proofs.Sharing.CubeSums.{same_place, has_at, cubes_at}
+use Rattle.viz_surface_law.proofs.Sharing.FacetTable.{facet, is_chain, same_corner, Each, Each_at}
+use Rattle.viz_surface_law.proofs.Sharing.GridFacets.{Chain, chain_tells, Bits, In, SamePlace, leaf_at, leaf_lt, leaf_tells, leaf_from, corner_has, corner-decides, place-decides, mul_le, false_then, lowest_in}
 use Rattle.viz_surface_law.proofs.Total.{diag_of, diags_in}
 use Rattle.viz_surface_law.proofs.Diagonals.{IsDiag, Four, Diags, IsIn, of_diag, diags, diag_once, diag_none}
 

@@ -5,7 +5,7 @@ use Rattle.std.proofs.lemmas.Bool.Decides.{nat_tests}
 use Rattle.viz_grid_section.specs.Edges.{Edge, edge_of}
 use Rattle.viz_surface_law.specs.Sides.{Side, side, turned, same_side, shares}
 use Rattle.viz_surface_law.proofs.Local.{both_ways, diagonal}
-use Rattle.viz_facets.proofs.ListCounts.{by_test}
+use Rattle.viz_surface_law.proofs.Sharing.ListCounts.{by_test}
 use Rattle.viz_surface_law.proofs.Cuts.{in_order, is_at, same_side-decides}
 use Rattle.viz_surface_law.proofs.Total.{diag_of}
 

@@ -18,7 +18,7 @@ use Rattle.viz_grid_section.proofs.CutLemmas.{All-each_once}
 use Rattle.viz_grid_section.proofs.MembersLemmas.{length-map_of, All-in_section}
 use Rattle.viz_grid_section.proofs.NamedSets.{names-edges}
 use Rattle.viz_grid_section.proofs.TetrahedraLemmas.{are_tetrahedra}
-use Rattle.viz_facets.proofs.FacetTable.{Each}
+use Rattle.viz_surface_law.proofs.Sharing.FacetTable.{Each}
 use Rattle.viz_surface_law.specs.Closed.{IsClosedUpToBoundary}
 use Rattle.viz_surface_law.specs.Audit.{count_sides, count_two, count_lone, count_border}
 use Rattle.viz_surface_law.specs.Surfaces.{edge_named, by_edges, IsEdgeName}

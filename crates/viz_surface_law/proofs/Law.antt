@@ -1,6 +1,6 @@
 -- The surface law.
-use Rattle.viz_facets.proofs.GridFacets.{place_again, three, itself, chain_flipped}
-use Rattle.viz_facets.proofs.ListCounts.{positive}
+use Rattle.viz_surface_law.proofs.Sharing.GridFacets.{place_again, three, itself, chain_flipped}
+use Rattle.viz_surface_law.proofs.Sharing.ListCounts.{positive}
 use Rattle.std.proofs.Common.{◌≡◌, ◌≢◌, ℕ, zero, suc, ◌+◌, ◌<◌, ◌≤◌, ◌==◌, Bool, true, false, not, cond, ◌&&◌, ◌||◌, true≢false, inl, inr, List, [], ◌∷◌, map, length, get_or, refl, sym, ap, ◌∙◌, arith}
 use Rattle.std.specs.Prelude.{◌⊎◌, ◌↔◌, count_by, sum_by, IsTrue}
 use Rattle.std.specs.List.{All, flat_map, list_any}
@@ -13,16 +13,16 @@ use Rattle.viz_kuhn.specs.Cubes.{all_lowest, leaves_of}
 use Rattle.viz_grid_section.specs.GridSection.{grid_cells}
 use Rattle.viz_surface_law.specs.Sides.{Side, turned, sides_of, same_side, shares}
 use Rattle.viz_surface_law.proofs.Cuts.{all_ends}
-use Rattle.viz_facets.specs.Facets.{x_of, y_of, z_of}
+use Rattle.viz_surface_law.specs.Facets.{x_of, y_of, z_of}
 use Rattle.viz_surface_law.specs.Closed.{on_boundary, run_through, LiesInTwo, LiesInOne, IsClosedUpToBoundary}
 use Rattle.viz_surface_law.proofs.Cuts.{at_end_of}
 use Rattle.viz_surface_law.proofs.Local.{both_ways}
-use Rattle.viz_facets.proofs.ListCounts.{sum_by-same, count_by-flat_map, by_test}
-use Rattle.viz_facets.proofs.CubeSums.{has_at}
-use Rattle.viz_facets.proofs.FacetTable.{Facet, facet, flipped, all_facets, other, facets_once, at_end, is_axis, axis_law, is_apart, all_apart}
-use Rattle.viz_facets.proofs.LeafFacets.{Leaves}
+use Rattle.viz_surface_law.proofs.Sharing.ListCounts.{sum_by-same, count_by-flat_map, by_test}
+use Rattle.viz_surface_law.proofs.Sharing.CubeSums.{has_at}
+use Rattle.viz_surface_law.proofs.Sharing.FacetTable.{Facet, facet, flipped, all_facets, other, facets_once, at_end, is_axis, axis_law, is_apart, all_apart}
+use Rattle.viz_surface_law.proofs.Sharing.LeafFacets.{Leaves}
 use Rattle.viz_surface_law.proofs.Cuts.{cut_of, cut_of_flip, cuts, Cuts, of_cut, IsOf, same_side-decides}
-use Rattle.viz_facets.proofs.GridFacets.{chains, In, leaf_at, facet_at, ascends, false_then, lowest_in, StandsAt, low_corner}
+use Rattle.viz_surface_law.proofs.Sharing.GridFacets.{chains, In, leaf_at, facet_at, ascends, false_then, lowest_in, StandsAt, low_corner}
 use Rattle.viz_surface_law.proofs.Total.{total, cuts_in, diags_in, diag_of, cuts_of_facet}
 use Rattle.viz_surface_law.proofs.Diagonals.{Diags, IsIn, of_diag, diag_none}
 use Rattle.viz_surface_law.proofs.DiagonalRows.{of_table, row_diags, diags_of_side}

@@ -1,3 +1,4 @@
+pub mod Sharing
 pub mod Local
 pub mod Cuts
 pub mod Total

@@ -6,8 +6,8 @@ use Rattle.std.specs.List.Sorted.{IsNonDecreasing}
 use Rattle.std.proofs.lemmas.Bool.Decides.{nat_tests}
 use Rattle.std.proofs.lemmas.List.Sums.{sum_by-cons}
 use Rattle.viz_surface_law.specs.Steps.Keys.{half, forth, back, passing, tallied, Ascend}
-use Rattle.viz_facets.proofs.ListCounts.{sum_by-same, by_test}
-use Rattle.viz_facets.proofs.FacetTable.{Each, Each_at}
+use Rattle.viz_surface_law.proofs.Sharing.ListCounts.{sum_by-same, by_test}
+use Rattle.viz_surface_law.proofs.Sharing.FacetTable.{Each, Each_at}
 
 -- a sum over sides without one of them
 abbrev pub without : ℕ → (ℕ → ℕ) → ℕ → ℕ

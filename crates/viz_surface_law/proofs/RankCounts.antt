@@ -10,10 +10,10 @@ use Rattle.viz_surface_law.specs.Steps.Keys.{half, key_of, keys_in, forth, back,
 use Rattle.viz_extent.specs.Extent.{Bounds}
 use Rattle.viz_surface_law.specs.Closed.{on_boundary, run_through}
 use Rattle.viz_surface_law.specs.Steps.Ranked.{edge_at, edges_by, IsTriangle, in_border, HasRanks}
-use Rattle.viz_facets.proofs.ListCounts.{sum_by-same, sum_by-map, by_test}
+use Rattle.viz_surface_law.proofs.Sharing.ListCounts.{sum_by-same, sum_by-map, by_test}
 use Rattle.viz_surface_law.proofs.AuditLaw.{ones}
 use Rattle.viz_surface_law.proofs.PassLaw.{uniq, passes}
-use Rattle.viz_facets.proofs.FacetTable.{Each, Each_at}
+use Rattle.viz_surface_law.proofs.Sharing.FacetTable.{Each, Each_at}
 use Rattle.viz_surface_law.proofs.Ranks.{Sorted, Pair, pair, Valid, side_at, key_at, first, first_valid, undirected_at, half_at, same_by_code, all_pairs, keys_are, sides_are, valid_pairs, sum_alike, runs_by_code}
 
 -- ---- keys

@@ -17,10 +17,10 @@ use Rattle.viz_surface_law.specs.Audit.{undirected}
 use Rattle.viz_surface_law.specs.Steps.Keys.{half, key_of, keys_in}
 use Rattle.viz_surface_law.specs.Closed.{run_through}
 use Rattle.viz_surface_law.specs.Steps.Ranked.{edge_at, edges_by, IsTriangle}
-use Rattle.viz_facets.proofs.ListCounts.{sum_by-same, sum_by-map, count_by-flat_map}
+use Rattle.viz_surface_law.proofs.Sharing.ListCounts.{sum_by-same, sum_by-map, count_by-flat_map}
 use Rattle.viz_surface_law.proofs.Law.{any_once}
 use Rattle.viz_surface_law.proofs.PassLaw.{uniq}
-use Rattle.viz_facets.proofs.FacetTable.{Each, Each_at}
+use Rattle.viz_surface_law.proofs.Sharing.FacetTable.{Each, Each_at}
 use Rattle.viz_surface_law.proofs.Cuts.{same_side-decides}
 
 -- ---- names by rank

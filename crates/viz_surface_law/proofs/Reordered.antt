@@ -7,8 +7,8 @@ use Rattle.std.specs.Set.{is_member}
 use Rattle.std.proofs.lemmas.List.Sums.{sum_by-cons}
 use Rattle.std.proofs.lemmas.List.Sorted.{sum_by-IsPermutation}
 use Rattle.viz_surface_law.specs.Steps.Keys.{half, forth, back, passing}
-use Rattle.viz_facets.proofs.ListCounts.{sum_by-same, sum_by-map, by_test}
-use Rattle.viz_facets.proofs.FacetTable.{Each, Each_at}
+use Rattle.viz_surface_law.proofs.Sharing.ListCounts.{sum_by-same, sum_by-map, by_test}
+use Rattle.viz_surface_law.proofs.Sharing.FacetTable.{Each, Each_at}
 use Rattle.viz_surface_law.proofs.PassLaw.{without, uniq, split_at, cons_at, Each-uniq, without_hit, without_miss, eqb_apart, passes}
 
 -- the others are without w, where w is the first

@@ -9,7 +9,7 @@ use Rattle.viz_grid_section.proofs.EdgeOrder.{edge_cmp}
 use Rattle.viz_grid_section.proofs.MembersLemmas.{length-map_of}
 use Rattle.viz_grid_section.proofs.NamedCells.{map-after, then_equal}
 use Rattle.viz_sheet.specs.Ranked.{IsCell, by_names, names_at}
-use Rattle.viz_facets.proofs.FacetTable.{Each}
+use Rattle.viz_surface_law.proofs.Sharing.FacetTable.{Each}
 use Rattle.viz_surface_law.specs.Surfaces.{edge_named, by_edges}
 use Rattle.viz_surface_law.specs.Steps.Ranked.{edges_by, IsTriangle}
 use Rattle.viz_surface_law.proofs.Ranks.{Sorted}

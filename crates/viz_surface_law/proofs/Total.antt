@@ -1,5 +1,5 @@
 -- How often triangles of a section run through a side: over all cubes, their facets' cuts and their diagonals.
-use Rattle.viz_facets.proofs.GridFacets.{lowest_in, StandsAt}
+use Rattle.viz_surface_law.proofs.Sharing.GridFacets.{lowest_in, StandsAt}
 use Rattle.std.proofs.Common.{◌≡◌, ℕ, ◌+◌, min, max, Bool, true, false, cond, ◌&&◌, List, [], ◌∷◌, get_or, refl, sym, ap, ◌∙◌, arith}
 use Rattle.std.specs.Prelude.{count_by, sum_by}
 use Rattle.std.specs.List.{flat_map}
@@ -12,11 +12,11 @@ use Rattle.viz_grid_section.specs.Edges.{Edge, edge_of}
 use Rattle.viz_grid_section.specs.GridSection.{cells_in, grid_cells}
 use Rattle.viz_surface_law.specs.Sides.{Side, side, sides_of, same_side}
 use Rattle.viz_surface_law.proofs.Local.{cut, cut_back, diagonal, local_law}
-use Rattle.viz_facets.proofs.ListCounts.{count_by-flat_map, sum_by-flat_map, sum_by-map, sum_by-same, sum_by-plus}
-use Rattle.viz_facets.proofs.CubeSums.{same_place, has_at, cubes_at}
-use Rattle.viz_facets.proofs.FacetTable.{Facet, facets_of, all_facets, same_shape, Each, Each_at}
+use Rattle.viz_surface_law.proofs.Sharing.ListCounts.{count_by-flat_map, sum_by-flat_map, sum_by-map, sum_by-same, sum_by-plus}
+use Rattle.viz_surface_law.proofs.Sharing.CubeSums.{same_place, has_at, cubes_at}
+use Rattle.viz_surface_law.proofs.Sharing.FacetTable.{Facet, facets_of, all_facets, same_shape, Each, Each_at}
 use Rattle.viz_surface_law.proofs.Cuts.{cut_of, cut_count, is_at}
-use Rattle.viz_facets.proofs.GridFacets.{Chain, chains, In, facet_at, leaf_at, ascends, same_facets}
+use Rattle.viz_surface_law.proofs.Sharing.GridFacets.{Chain, chains, In, facet_at, leaf_at, ascends, same_facets}
 
 -- ---- the cubes of the list
 

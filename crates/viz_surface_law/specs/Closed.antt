@@ -2,7 +2,7 @@
 use Rattle.std.specs.Prelude.{◌≡◌, ◌⊎◌, ◌↔◌, ℕ, ◌<◌, ◌&&◌, Bool, IsTrue, List, count_by}
 use Rattle.std.specs.List.{list_any}
 use Rattle.viz_extent.specs.Extent.{Bounds}
-use Rattle.viz_facets.specs.Facets.{is_on_boundary}
+use Rattle.viz_surface_law.specs.Facets.{is_on_boundary}
 use Rattle.viz_grid_section.specs.Edges.{Edge}
 use Rattle.viz_grid_section.specs.GridSection.{grid_cells}
 use Rattle.viz_surface_law.specs.Sides.{Side, turned, sides_of, same_side, shares, facet_of}

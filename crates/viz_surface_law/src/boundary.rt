@@ -7,8 +7,8 @@ ghost use Rattle.viz_surface_law.specs.Sides.{side};
 ghost use Rattle.viz_surface_law.specs.Steps.Ranked.{HasRanks, is_at_border};
 ghost use Rattle.viz_surface_law.specs.Surfaces.{IsEdgeName, edge_named};
 
+use crate::facets::facet_on_boundary;
 use viz_extent::Extent;
-use viz_facets::facet_on_boundary;
 use viz_sheet::Sheet;
 
 /// Whether a side by its number, which is that of its two ranks, lies on the boundary.

@@ -7,8 +7,8 @@ use viz_base::{Bytes, Pick};
 use viz_column::{Column, Number};
 use viz_dataset::{Dataset, Image, is_origin, is_spacing};
 use viz_extent::Extent;
-use viz_legacy_read::read;
 use viz_image_write::{Style, write_image};
+use viz_legacy_read::read;
 
 /// So many billionths make 1.
 const ONE: i128 = 1_000_000_000;

@@ -7,8 +7,8 @@ use std::test::Fail;
 use viz_base::{Bytes, Pick};
 use viz_dataset::Dataset;
 use viz_fraction::{Point5, point};
-use viz_legacy_read::read;
 use viz_image_write::Style;
+use viz_legacy_read::read;
 use viz_mesh_write::write_mesh;
 use viz_sheet::{Leaves, Mesh, Mixed, Places, Ranks, Sheet, are_cells, sheet_of};
 

@@ -1,5 +1,5 @@
 use Rattle.std.proofs.Common.{[], ◌∷◌, sym, ◌∙◌}
-use Rattle.viz_facets.specs.Facets.{is_on_boundary}
+use Rattle.viz_surface_law.specs.Facets.{is_on_boundary}
 use Rattle.viz_surface_law.specs.Surfaces.{edge_named}
 use Rattle.viz_surface_law.proofs.BorderLemmas.{by_high, by_low}
 use Rattle.viz_surface_law.proofs.boundary.lies_on_boundary.Goals as goal

@@ -2,7 +2,7 @@ use Rattle.std.proofs.Common.{◌∙◌, sym, ap}
 use Rattle.viz_cache.specs.Keys.{same_key}
 use Rattle.viz_cache.specs.Cache.{with_item}
 use Rattle.viz_cache.specs.Steps.Pairs.{items_of}
-use Rattle.viz_cache.specs.contracts.stored.KeyPartialEq.TheImpl as equality
+use Rattle.viz_parts.specs.contracts.stored.KeyPartialEq.TheImpl as equality
 use Rattle.viz_cache.proofs.KeyLemmas.{key_eq}
 use Rattle.viz_cache.proofs.PairLemmas.{with_item-items, put_entries-same}
 use Rattle.viz_cache.proofs.cache.Cache.put.Goals as goal

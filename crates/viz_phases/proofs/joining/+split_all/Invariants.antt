@@ -1,5 +1,0 @@
-use Rattle.std.proofs.Common.{length}
-use Rattle.viz_phases.proofs.joining.+split_all.Given as goal
-
-abbrev pub decreases-split_all : goal.decreases-split_all
-decreases-split_all g l = length l.places.now

@@ -1,4 +1,0 @@
-use Rattle.viz_phases.proofs.running.+run_phases.Given as goal
-
-abbrev pub decreases-run_phases : goal.decreases-run_phases
-decreases-run_phases g l = l.left

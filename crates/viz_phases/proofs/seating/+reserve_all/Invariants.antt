@@ -1,5 +1,0 @@
-use Rattle.std.proofs.Common.{length}
-use Rattle.viz_phases.proofs.seating.+reserve_all.Given as goal
-
-abbrev pub decreases-reserve_all : goal.decreases-reserve_all
-decreases-reserve_all g l = length l.places.now

@@ -1,4 +1,0 @@
-pub mod Groups
-pub mod Served
-pub mod Places
-pub mod Runs
