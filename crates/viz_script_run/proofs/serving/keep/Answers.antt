@@ -18,3 +18,20 @@ returns-in-Err-Failed g c =
         limit = w.same_limit;
       },
     )
+
+pub returns-in-Ok-write : goal.returns-in-Ok-write
+returns-in-Ok-write g c =
+    let w = c.in-Ok-write.ensures in
+    inr (
+      c.list.result.now,
+      write.Written,
+      search rules,
+      search rules,
+      record {
+        calls = search rules;
+        files = λ t. (w.written t, w.kept t);
+        cause = λ f. absurd f;
+        later = w.later;
+        limit = w.same_limit;
+      },
+    )
