@@ -1,12 +1,13 @@
 //! Parts of all that nodes give, published by a pass of a hub: tests across crates.
 //!
 //! Contract: `publish_both` pins, makes a part of all that each of two nodes gives, and publishes
-//! both. The tests look at what a later pin hands out.
+//! both; `publish_one` does so for one node, and says which parts were used. The tests look at what a
+//! later pin hands out.
 #![tactic(auto)]
 
 mod publishing;
 
-pub use publishing::publish_both;
+pub use publishing::{publish_both, publish_one};
 
 #[cfg(test)]
 mod tests;

@@ -1,17 +1,19 @@
-//! What a hub that keeps one part hands out.
+//! What hubs that keep one part, or two, hand out.
 
 ghost use Rattle.std.specs.Prelude.{◌≡◌, IfOk, IfSome};
 
-use crate::publish_both;
+use crate::{publish_both, publish_one};
 use std::alloc::{AllocError, Global};
 use std::process::Abort;
 use std::sync::Wait;
 use std::test::Fail;
 use viz_base::{Bytes, NodeId, Shape, Shared, Word};
+use viz_extent::Extent;
 use viz_history::EditAnswer;
 use viz_hub::{Hub, Pass};
 use viz_kinds::Kind;
 use viz_network::Edit;
+use viz_parts::{Key, Request};
 
 // An image of one point.
 const POINT: &str = "# vtk DataFile Version 3.0
@@ -92,5 +94,73 @@ fn a_hub_of_one_part_keeps_the_last(rt: HostRuntime) -> Result<(), Fail> {
     assert_eq!(rt; (kept.kept, kept.stale, kept.unkept), (2, 0, 0));
     let last = only_node(&rt, rt.alloc(), &hub, root);
     assert_eq!(rt; last, Some(NodeId(2)));
+    Ok(())
+}
+
+// A hub of nine entries that keeps two parts.
+fn begin_two(alloc: Global) -> Result<(Hub, Pass), AllocError>
+    ensures pass { IfOk result (λ r. r.1.turn ≡ r.0) }
+{
+    Hub::start(alloc, 9, 2)
+}
+
+// The nodes of the only two parts that a pin hands out.
+fn two_nodes<R: Wait>(rt: &R, alloc: Global, hub: &Hub, pass: Pass) -> Option<(NodeId, NodeId)>
+    requires belongs { pass.turn ≡ hub.now }
+{
+    let Ok(pin) = hub.pin(rt, alloc, pass) else {
+        return None;
+    };
+    match pin.pinned().entries.list() {
+        [first, second] => Some((first.key.node, second.key.node)),
+        _ => None,
+    }
+}
+
+// Publishes a node's part where none was used before, then another's, and then a third one's by
+// which a part was used.
+fn publish_three<R: Wait>(
+    rt: &R,
+    alloc: Global,
+    hub: &Hub,
+    pass: Pass,
+    shape: &Shape,
+    used: Key,
+) -> Option<Pass>
+    requires belongs { pass.turn ≡ hub.now }
+    ensures pass { IfSome result (λ p. p.turn ≡ hub.now) }
+{
+    let (pass, _) = publish_one(rt, alloc, hub, pass, NodeId(1), shape, &[])?;
+    let (pass, _) = publish_one(rt, alloc, hub, pass, NodeId(2), shape, &[])?;
+    let (pass, _) = publish_one(rt, alloc, hub, pass, NodeId(3), shape, &[used])?;
+    Some(pass)
+}
+
+#[test]
+fn a_used_part_outlasts_one_that_was_kept_later(rt: HostRuntime) -> Result<(), Fail> {
+    let s = Word::new(b"s").ok_or("no name")?;
+    let t = Word::new(b"t").ok_or("no name")?;
+    let u = Word::new(b"u").ok_or("no name")?;
+    let shape = Shape {
+        pieces: 1,
+        workers: 1,
+    };
+    let (hub, root) = begin_two(rt.alloc())?;
+    let root = done(&rt, &hub, root, source(s));
+    let root = done(&rt, &hub, root, source(t));
+    let root = done(&rt, &hub, root, source(u));
+    let root = done(&rt, &hub, root, load(rt.alloc(), s)?);
+    let root = done(&rt, &hub, root, load(rt.alloc(), t)?);
+    let root = done(&rt, &hub, root, load(rt.alloc(), u)?);
+    let used = Key {
+        node: NodeId(1),
+        stamp: 4,
+        request: Request::Block(Extent::new([0; 6]).ok_or("no extent")?),
+    };
+    let Some(root) = publish_three(&rt, rt.alloc(), &hub, root, &shape, used) else {
+        return Err("no parts")?;
+    };
+    let left = two_nodes(&rt, rt.alloc(), &hub, root);
+    assert_eq!(rt; left, Some((NodeId(3), NodeId(1))));
     Ok(())
 }
