@@ -10,8 +10,8 @@ use Rattle.viz_kinds.specs.declared.param.Value.TheVariants.{Numbers, Text}
 use Rattle.viz_kinds.specs.declared.range.Range.{Range}
 
 -- so many numbers, each from low to high
-abbrev pub row : ℕ → ℕ → ℤ → ℤ → Option Range
-row least most low high = Some (record { least = least; most = most; low = low; high = high })
+abbrev pub takes : ℕ → ℕ → ℤ → ℤ → Option Range
+takes least most low high = Some (record { least = least; most = most; low = low; high = high })
 
 -- the least and the greatest number of 64 bits
 abbrev pub first_number : ℤ
@@ -23,18 +23,18 @@ last_number = pos 9223372036854775807
 -- the numbers that the parameter takes
 abbrev pub numbers_of : Param → Option Range
 numbers_of param.Array = None
-numbers_of param.Unit = row 1 1 (pos 0) (pos 9)
-numbers_of param.Bounds = row 6 6 (pos 0) (pos 2147483647)
-numbers_of param.Rate = row 3 3 (pos 1) (pos 1024)
-numbers_of param.Range = row 2 2 first_number last_number
-numbers_of param.Radius = row 1 1 (pos 0) (pos 8)
+numbers_of param.Unit = takes 1 1 (pos 0) (pos 9)
+numbers_of param.Bounds = takes 6 6 (pos 0) (pos 2147483647)
+numbers_of param.Rate = takes 3 3 (pos 1) (pos 1024)
+numbers_of param.Range = takes 2 2 first_number last_number
+numbers_of param.Radius = takes 1 1 (pos 0) (pos 8)
 numbers_of param.Op = None
 numbers_of param.Mode = None
-numbers_of param.Levels = row 1 8 first_number last_number
-numbers_of param.Plane = row 4 4 (negsuc 2147483646) (pos 2147483647)
+numbers_of param.Levels = takes 1 8 first_number last_number
+numbers_of param.Plane = takes 4 4 (negsuc 2147483646) (pos 2147483647)
 numbers_of param.Style = None
-numbers_of param.Digits = row 1 1 (pos 0) (pos 9)
-numbers_of param.Release = row 1 1 (pos 0) (pos 1)
+numbers_of param.Digits = takes 1 1 (pos 0) (pos 9)
+numbers_of param.Release = takes 1 1 (pos 0) (pos 1)
 
 -- whether each number lies from low to high
 abbrev pub fits_range : ℤ → ℤ → List ℤ → Bool

@@ -20,17 +20,17 @@ pub struct Range {
 pub fn range_of(param: Param) -> Option<Range>
     ensures { result ≡ numbers_of param }
 {
-    let row = |least, most, low, high| Some(Range { least, most, low, high });
+    let takes = |least, most, low, high| Some(Range { least, most, low, high });
     match param {
-        Param::Unit => row(1, 1, 0, 9),
-        Param::Bounds => row(6, 6, 0, 2_147_483_647),
-        Param::Rate => row(3, 3, 1, 1024),
-        Param::Range => row(2, 2, i64::MIN, i64::MAX),
-        Param::Radius => row(1, 1, 0, 8),
-        Param::Levels => row(1, 8, i64::MIN, i64::MAX),
-        Param::Plane => row(4, 4, -2_147_483_647, 2_147_483_647),
-        Param::Digits => row(1, 1, 0, 9),
-        Param::Release => row(1, 1, 0, 1),
+        Param::Unit => takes(1, 1, 0, 9),
+        Param::Bounds => takes(6, 6, 0, 2_147_483_647),
+        Param::Rate => takes(3, 3, 1, 1024),
+        Param::Range => takes(2, 2, i64::MIN, i64::MAX),
+        Param::Radius => takes(1, 1, 0, 8),
+        Param::Levels => takes(1, 8, i64::MIN, i64::MAX),
+        Param::Plane => takes(4, 4, -2_147_483_647, 2_147_483_647),
+        Param::Digits => takes(1, 1, 0, 9),
+        Param::Release => takes(1, 1, 0, 1),
         Param::Array | Param::Op | Param::Mode | Param::Style => None,
     }
 }

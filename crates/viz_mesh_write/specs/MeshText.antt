@@ -71,7 +71,8 @@ some_section binary keyword (cell ∷ cells) = section_text binary keyword (cell
 -- the cells of polydata: vertices, lines and triangles, each where there is one
 unfoldable pub parts_text : Bool → List (List ℕ) → List ℕ
 parts_text binary cells =
-    some_section binary (codes "VERTICES") (of_size 1 cells) ++ some_section binary (codes "LINES") (of_size 2 cells) ++ some_section binary (codes "POLYGONS") (of_size 3 cells)
+    some_section binary (codes "VERTICES") (of_size 1 cells) ++ some_section binary (codes "LINES") (of_size 2 cells)
+    ++ some_section binary (codes "POLYGONS") (of_size 3 cells)
 
 -- the same, and without any cell a section of no polygons
 abbrev pub poly_text : Bool → List (List ℕ) → List ℕ

@@ -28,6 +28,3 @@ pub use refusal::{ApplyStop, Refusal};
 pub use stamps::Stamps;
 pub use steps::Step;
 pub use viz_kinds::{Kind, Op, Param, Settings, Value};
-
-#[cfg(test)]
-mod tests;

@@ -31,16 +31,16 @@ pub fn rank_of(nodes: &Nodes, id: NodeId) -> Option<usize>
     nodes.binary_search_by_key(&id.0, |_, node| node.id.0).ok()
 }
 
-/// For each rest of a position by 65536, a rank at which its node may stand.
-pub type Guesses = [u8; 65536];
+/// For each rest of a position by 4096, a rank at which its node may stand.
+pub type Guesses = [u8; 4096];
 
 /// Puts a guess for each node into the table. A wrong guess costs a search, so nothing is promised of
-/// it; in a history of at most 65536 entries no two positions share a rest, and no guess is wrong.
+/// it; in a history of at most 4096 entries no two positions share a rest, and no guess is wrong.
 pub fn guess_all(nodes: &Nodes, guesses: &mut Guesses)
     requires { length nodes.now.entries ≤ 256 }
 {
     for rank in 0..nodes.len() {
-        guesses[nodes[rank].id.0 as usize % 65536] = rank as u8;
+        guesses[nodes[rank].id.0 as usize % 4096] = rank as u8;
     }
 }
 
@@ -50,7 +50,7 @@ pub fn guessed_rank(nodes: &Nodes, guesses: &Guesses, id: NodeId) -> Option<usiz
     ensures value { result ≡ ranked nodes.now.entries id.0 }
     ensures within { IfSome result (λ rank. rank < length nodes.now.entries) }
 {
-    let rank = guesses[id.0 as usize % 65536] as usize;
+    let rank = guesses[id.0 as usize % 4096] as usize;
     if rank < nodes.len() && nodes[rank].id == id {
         return Some(rank);
     }

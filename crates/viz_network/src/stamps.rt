@@ -33,7 +33,7 @@ pub fn stamps_in<'a>(nodes: &'a Nodes, order: &[NodeId]) -> Stamps<'a>
     requires { IsOrder nodes.now.entries order.now }
     ensures { result ≡ nodes.now.entries }
 {
-    let mut guesses = [0; 65536];
+    let mut guesses = [0; 4096];
     guess_all(nodes, &mut guesses);
     let stamps = stamps_of(nodes, &guesses, order);
     Stamps { nodes, stamps }

@@ -66,7 +66,7 @@ pub fn steps_in(alloc: Global, nodes: &Nodes, order: &[NodeId]) -> Result<Vec<St
     requires { IsOrder nodes.now.entries order.now }
     ensures { IfOk result (λ steps. AreSteps nodes.now.entries steps.items) }
 {
-    let mut guesses = [0; 65536];
+    let mut guesses = [0; 4096];
     guess_all(nodes, &mut guesses);
     let mut places = [0; 256];
     let mut steps = Vec::with_capacity(alloc, order.len())?;

@@ -147,7 +147,7 @@ pub fn stamp_in(nodes: &Nodes, order: &[NodeId], id: NodeId) -> u32
     requires there { IsSome (node_of nodes.now.entries id.0) }
     ensures { result ≡ newest (cone_of nodes.now.entries id.0) }
 {
-    let mut guesses = [0; 65536];
+    let mut guesses = [0; 4096];
     guess_all(nodes, &mut guesses);
     stamps_of(nodes, &guesses, order)[rank_in(nodes, &guesses, id)]
 }

@@ -38,7 +38,7 @@ pub fn make_way(nodes: &Nodes, order: &mut Vec<NodeId>, source: NodeId, target: 
     if stands_before(order, source, target) {
         return true;
     }
-    let mut guesses = [0; 65536];
+    let mut guesses = [0; 4096];
     guess_all(nodes, &mut guesses);
     let marks = marks_below(nodes, &guesses, order, target);
     if mark_of(nodes, &guesses, &marks, source) {

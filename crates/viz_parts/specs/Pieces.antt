@@ -27,7 +27,8 @@ pub record IsBlockOf (whole : ImageData) (block : Bounds) (part : ImageData) : T
 
 -- ---- pieces of sheets
 
--- a part of a sheet, with so many ghost levels, whose own positions are given: the cells that it sees, their levels, and the points of their names
+-- a part of a sheet, with so many ghost levels, whose own positions are given: the cells that it
+-- sees, their levels, and the points of their names
 pub record IsPartOf (whole : SheetData) (own : List Bool) (ghosts : ℕ) (part : PartSheetData) : Type 0 where
   pub seen : List Seen
   pub covered : whole_seen seen ≡ whole.cells
@@ -97,7 +98,8 @@ IsAnswer (WholeMesh sheets) division (Piece p n ghosts) part =
     (p < n) × IsMeshPiece sheets (division p n) ghosts part
 IsAnswer whole division request part = ⊥
 
--- a kept request covers a wanted one: a block each block in it, the only piece of a mesh every piece, and a piece itself with as many ghost levels or fewer
+-- a kept request covers a wanted one: a block each block in it, the only piece of a mesh every piece,
+-- and a piece itself with as many ghost levels or fewer
 abbrev pub Covers : Request → Request → Type 0
 Covers (Block kept) (Block wanted) = IsPart kept wanted
 Covers (Piece p n ghosts) (Piece q m fewer) =

@@ -17,11 +17,13 @@ abbrev pub IsUpTo : ℕ → Option ℕ → Type 0
 IsUpTo most (Some l) = l ≤ most
 IsUpTo most None = ⊥
 
--- the rule of a piece with so many ghost levels: just its own cells have level 0, no level is greater, and what meets a cell of a level before the last is there, at most one level further
+-- the rule of a piece with so many ghost levels: just its own cells have level 0, no level is greater,
+-- and what meets a cell of a level before the last is there, at most one level further
 pub record AreSeen (ghosts : ℕ) (seen : List Seen) : Type 0 where
   pub own : (s : Seen) → Contains seen s → (s.level ≡ Some 0) ↔ (s.own ≡ true)
   pub most : (s : Seen) (l : ℕ) → Contains seen s → s.level ≡ Some l → l ≤ ghosts
-  pub near : (s t : Seen) (l : ℕ) → Contains seen s → Contains seen t → s.level ≡ Some l → l < ghosts → Meet s.cell t.cell → IsUpTo (l + 1) t.level
+  pub near : (s t : Seen) (l : ℕ) → Contains seen s → Contains seen t → s.level ≡ Some l → l < ghosts
+      → Meet s.cell t.cell → IsUpTo (l + 1) t.level
 
 -- a cell that meets one, and is there one level before
 pub record SeenBefore (seen : List Seen) (s : Seen) (l : ℕ) : Type 0 where

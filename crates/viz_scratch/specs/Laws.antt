@@ -19,5 +19,6 @@ FilesAreOne = (net : Network) (id : ℕ) (a b : Result (List ℕ) Fault) → IsF
 
 -- a node with equal stamps in the networks of a history and of a longer one gives the same in both
 abbrev pub EqualStampsGiveOne : Type 0
-EqualStampsGiveOne = (edits more : List Edit) (id stamp : ℕ) → stamp_of (net_of edits) id ≡ Some stamp → stamp_of (net_of (edits ++ more)) id ≡ Some stamp
+EqualStampsGiveOne = (edits more : List Edit) (id stamp : ℕ) → stamp_of (net_of edits) id ≡ Some stamp
+    → stamp_of (net_of (edits ++ more)) id ≡ Some stamp
     → (r : Result Dataset Fault) → IsScratch (net_of edits) id r ↔ IsScratch (net_of (edits ++ more)) id r

@@ -74,9 +74,11 @@ abbrev pub IsEndOfScript : {P : Type 0} → port.Ghosts P → Deed → Ran → L
 IsEndOfScript m Nothing ran.Memory old new = new ≡ old
 IsEndOfScript m (Asked read.Failed) ran.Unread old new = new ≡ old
 IsEndOfScript m (Asked (read.TooLong taken)) (ran.Refused line r) old new = (line ≡ 0) × (r ≡ refusal.TooLong) × (new ≡ old)
-IsEndOfScript m (Asked (read.Given bytes)) (ran.Refused line r) old new = (script_of (actors_over old) bytes ≡ Err (line, r)) × (new ≡ old)
+IsEndOfScript m (Asked (read.Given bytes)) (ran.Refused line r) old new =
+    (script_of (actors_over old) bytes ≡ Err (line, r)) × (new ≡ old)
 IsEndOfScript m (Asked (read.Given bytes)) ran.Memory old new = (new ≡ old) ⊎ IsServed m bytes old new
-IsEndOfScript m (Kept bytes text answer) (ran.Served rows kept) old new = IsAccounted m bytes rows text old new × (kept ≡ is_written answer)
+IsEndOfScript m (Kept bytes text answer) (ran.Served rows kept) old new =
+    IsAccounted m bytes rows text old new × (kept ≡ is_written answer)
 IsEndOfScript m deed came old new = ⊥
 
 -- a run of a script over a desk and ports

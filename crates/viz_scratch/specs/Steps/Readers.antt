@@ -20,7 +20,8 @@ AreReadAt last k (Some place ∷ places) = (k ≤ slice_index_or last place 0) �
 
 -- what feeds a step from place from on that is asked for is read there or later
 abbrev pub AreReadersFrom : ℕ → List Step → List ℕ → Type 0
-AreReadersFrom from steps last = (k : ℕ) (s : Step) → from ≤ k → slice_get steps k ≡ Some s → 0 < slice_index_or last k 0 → AreReadAt last k s.inputs
+AreReadersFrom from steps last = (k : ℕ) (s : Step) → from ≤ k → slice_get steps k ≡ Some s
+    → 0 < slice_index_or last k 0 → AreReadAt last k s.inputs
 
 -- where each step is read last, and 0 where it isn't asked for
 abbrev pub AreReaders : List Step → List ℕ → Type 0

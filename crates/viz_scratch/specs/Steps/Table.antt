@@ -40,12 +40,15 @@ told table places = faulted (first_fault table places) (map (value_at table) pla
 abbrev pub HasInputs : {X : Type 0} → Table X → List (Option ℕ) → Type 0
 HasInputs table [] = Unit {0}
 HasInputs table (None ∷ places) = HasInputs table places
-HasInputs {X} table (Some place ∷ places) = ((value : Result X Fault) × (slice_get table place ≡ Some (Some value))) × HasInputs table places
+HasInputs {X} table (Some place ∷ places) =
+    ((value : Result X Fault) × (slice_get table place ≡ Some (Some value))) × HasInputs table places
 
 -- the table of the first k steps: what it has is given by the rule and sound, and it has what is needed from step k on
-pub record IsTable {X : Type 0} (rule : NodeRule X) (P : X → Type 0) (needs : ℕ → ℕ → Type 0) (net : Network) (steps : List Step) (k : ℕ) (table : Table X) : Type 0 where
+pub record IsTable {X : Type 0} (rule : NodeRule X) (P : X → Type 0) (needs : ℕ → ℕ → Type 0)
+    (net : Network) (steps : List Step) (k : ℕ) (table : Table X) : Type 0 where
   pub count : length table ≡ k
-  pub given : (j : ℕ) (id : NodeId) (value : Result X Fault) → slice_get table j ≡ Some (Some value) → slice_get (nodes_of steps) j ≡ Some id → IsGiven rule (cone_of net id.0) value
+  pub given : (j : ℕ) (id : NodeId) (value : Result X Fault) → slice_get table j ≡ Some (Some value)
+      → slice_get (nodes_of steps) j ≡ Some id → IsGiven rule (cone_of net id.0) value
   pub sound : AreSoundIn P table
   pub kept : (j : ℕ) → j < k → needs j k → (value : Result X Fault) × (slice_get table j ≡ Some (Some value))
 

@@ -1,11 +1,11 @@
 //! Networks built by hand, edit by edit.
 
-use crate::{ApplyStop, Edit, Kind, Net, Param, Refusal, Value};
 use std::alloc::Global;
 use std::marker::Model;
 use std::process::Abort;
 use std::test::Fail;
 use viz_base::{Bytes, NodeId, Shared, Word};
+use viz_network::{ApplyStop, Edit, Kind, Net, Param, Refusal, Value, networks_are_sound};
 
 // A network and the position of its last edit.
 #[derive(Drop)]
@@ -37,6 +37,7 @@ impl Story {
         if self.at == u32::MAX {
             return Err(ApplyStop::Memory);
         }
+        networks_are_sound();
         let at = self.at + 1;
         let answer = self.net.apply(at, edit);
         self.at = at;
