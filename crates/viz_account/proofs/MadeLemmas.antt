@@ -6,7 +6,7 @@ use Rattle.viz_network.specs.declared.fault.Stop.{Stop}
 use Rattle.viz_network.specs.declared.fault.Stop.TheVariants as stop
 use Rattle.viz_network.specs.declared.node.Node.{Node}
 use Rattle.viz_network.specs.Network.{Network, name_of, named}
-use Rattle.viz_scratch.specs.Scratch.{IsScratch, Answers}
+use Rattle.viz_node_meaning.specs.Scratch.{IsScratch, Answers}
 use Rattle.viz_scratch.specs.Written.{IsFileOf}
 use Rattle.viz_account.specs.declared.answer.Missing.{Missing}
 use Rattle.viz_account.specs.declared.answer.Missing.TheVariants as missing

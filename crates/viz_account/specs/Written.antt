@@ -10,7 +10,7 @@ use Rattle.viz_mesh_write.specs.Counts.{cells_written, points_written}
 use Rattle.viz_network.specs.declared.node.Node.{Node}
 use Rattle.viz_network.specs.Network.{Network, node_of}
 use Rattle.viz_network.specs.Cone.{cone_of, has_node}
-use Rattle.viz_scratch.specs.Scratch.{IsScratch}
+use Rattle.viz_node_meaning.specs.Scratch.{IsScratch}
 use Rattle.viz_scratch.specs.Written.{IsFileOf}
 
 -- a node gives a dataset of so many cells and points

@@ -1,7 +1,7 @@
 //! An audit: the sides of a node's surface are counted.
 
 ghost use Rattle.std.specs.Prelude.{◌≡◌, IfSome};
-ghost use Rattle.viz_scratch.specs.Scratch.{Answers};
+ghost use Rattle.viz_node_meaning.specs.Scratch.{Answers};
 ghost use Rattle.viz_audit.specs.Audited.{IsAuditOf};
 ghost use Rattle.viz_account.specs.Answers.{audit_line_of, audit_at_of};
 ghost use Rattle.viz_account.specs.Laws.{IsClosedLine};

@@ -2,7 +2,7 @@
 
 ghost use Rattle.std.specs.Prelude.{IsSome, Ok};
 ghost use Rattle.viz_network.specs.Network.{node_of};
-ghost use Rattle.viz_scratch.specs.Scratch.{IsScratch};
+ghost use Rattle.viz_node_meaning.specs.Scratch.{IsScratch};
 ghost use Rattle.viz_scratch.specs.Written.{IsFileOf};
 ghost use Rattle.viz_account.specs.Steps.Made.{IsStop, Makes, MakesNamed};
 

@@ -15,8 +15,8 @@ use Rattle.viz_surface_law.specs.declared.audits.Counts.{Counts}
 use Rattle.viz_surface_law.specs.Audit.{count_sides, count_two, count_lone, count_border}
 use Rattle.viz_surface_law.specs.Surfaces.{IsSurface}
 use Rattle.viz_surface_law.specs.Contours.{ContoursAreSurfaces, ContoursAreClosed, ContourSidesAddUp, LoneSidesAreBorders}
-use Rattle.viz_scratch.specs.Scratch.{IsScratch}
-use Rattle.viz_scratch.specs.Laws.{ConesGiveOne}
+use Rattle.viz_node_meaning.specs.Scratch.{IsScratch}
+use Rattle.viz_node_meaning.specs.Laws.{ConesGiveOne}
 use Rattle.viz_audit.specs.Audited.{StandsOn, summed, AreSums, IsAudited, HasNoSurface, IsAuditOf}
 use Rattle.viz_audit.specs.Laws.{AuditsAreClosed, AuditsAreOne, SurfacesAreClosed}
 use Rattle.viz_audit.specs.Steps.Ground.{IsGround}

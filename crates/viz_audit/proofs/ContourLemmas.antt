@@ -16,10 +16,10 @@ use Rattle.viz_surface_law.specs.Audit.{count_sides, count_two, count_lone, coun
 use Rattle.viz_surface_law.specs.Closed.{IsClosedUpToBoundary}
 use Rattle.viz_surface_law.specs.Surfaces.{IsSurface, by_edges}
 use Rattle.viz_surface_law.specs.Contours.{contour_of, triangles_of, ContoursAreSurfaces, ContoursAreClosed, ContourSidesAddUp, LoneSidesAreBorders}
-use Rattle.viz_node_rules.specs.Rules.{Inputs}
-use Rattle.viz_node_rules.specs.Data.{IsEvaluated}
-use Rattle.viz_scratch.specs.Scratch.{IsScratchOf}
-use Rattle.viz_scratch.specs.Laws.{ConesGiveOne}
+use Rattle.viz_node_meaning.specs.Rules.{Inputs}
+use Rattle.viz_node_meaning.specs.Data.{IsEvaluated}
+use Rattle.viz_node_meaning.specs.Scratch.{IsScratchOf}
+use Rattle.viz_node_meaning.specs.Laws.{ConesGiveOne}
 use Rattle.viz_audit.specs.Audited.{is_contour, IsFedFirst, StandsOn, summed}
 use Rattle.viz_audit.proofs.GivenLemmas.{scratch_fed}
 

@@ -13,10 +13,10 @@ use Rattle.viz_kinds.specs.declared.settings.Settings.{Settings}
 use Rattle.viz_kinds.specs.declared.settings.Settings.TheVariants as settings
 use Rattle.viz_network.specs.Cone.{Cone, Tree, none, empty, fed, cone_of}
 use Rattle.viz_surface_law.specs.FormSections.{form_section, FormSectionsAreClosed}
-use Rattle.viz_node_rules.specs.Rules.{Inputs}
-use Rattle.viz_node_rules.specs.Data.{IsEvaluated}
-use Rattle.viz_scratch.specs.Scratch.{IsScratchOf}
-use Rattle.viz_scratch.specs.Laws.{ConesGiveOne}
+use Rattle.viz_node_meaning.specs.Rules.{Inputs}
+use Rattle.viz_node_meaning.specs.Data.{IsEvaluated}
+use Rattle.viz_node_meaning.specs.Scratch.{IsScratchOf}
+use Rattle.viz_node_meaning.specs.Laws.{ConesGiveOne}
 use Rattle.viz_audit.specs.Audited.{IsFedFirst}
 use Rattle.viz_audit.specs.Laws.{is_cut, CutsImage, CutSurfacesAreClosed}
 use Rattle.viz_audit.proofs.GivenLemmas.{scratch_fed}

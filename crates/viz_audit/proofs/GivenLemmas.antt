@@ -5,12 +5,12 @@ use Rattle.viz_network.specs.declared.node.Node.{Node}
 use Rattle.viz_network.specs.declared.fault.Cause.{Cause}
 use Rattle.viz_network.specs.declared.fault.Fault.{Fault}
 use Rattle.viz_network.specs.Cone.{Cone, fed}
-use Rattle.viz_node_rules.specs.declared.information.Information.{Information}
-use Rattle.viz_node_rules.specs.Information.{InformationRule}
-use Rattle.viz_node_rules.specs.Data.{DataRule}
-use Rattle.viz_node_rules.specs.Rules.{Inputs, NodeRule}
-use Rattle.viz_scratch.specs.Fold.{at_node, filled, joined, IsMade, IsGiven}
-use Rattle.viz_scratch.specs.Scratch.{IsBehind, IsScratchOf}
+use Rattle.viz_node_meaning.specs.declared.information.Information.{Information}
+use Rattle.viz_node_meaning.specs.Information.{InformationRule}
+use Rattle.viz_node_meaning.specs.Data.{DataRule}
+use Rattle.viz_node_meaning.specs.Rules.{Inputs, NodeRule}
+use Rattle.viz_node_meaning.specs.Fold.{at_node, filled, joined, IsMade, IsGiven}
+use Rattle.viz_node_meaning.specs.Scratch.{IsBehind, IsScratchOf}
 
 -- a node gives what its rule makes of what its first port is fed with
 pub record IsFed {X : Type 0} (rule : NodeRule X) (node n : Node) (own : Cone) (x : X) : Type 0 where

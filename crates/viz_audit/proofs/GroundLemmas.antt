@@ -11,8 +11,8 @@ use Rattle.viz_network.specs.declared.steps.Step.{Step}
 use Rattle.viz_network.specs.Network.{Network, node_of, input_of}
 use Rattle.viz_network.specs.Cone.{Cone, Tree, port, grow, cone_of}
 use Rattle.viz_network.specs.Step.{nodes_of, IsStepOf, AreSteps}
-use Rattle.viz_scratch.specs.Scratch.{IsScratchOf, IsScratch}
-use Rattle.viz_scratch.specs.Laws.{ConesGiveOne}
+use Rattle.viz_node_meaning.specs.Scratch.{IsScratchOf, IsScratch}
+use Rattle.viz_node_meaning.specs.Laws.{ConesGiveOne}
 use Rattle.viz_audit.specs.Audited.{is_contour, IsFedFirst, StandsOn}
 use Rattle.viz_audit.specs.Steps.Ground.{GivesImage, IsGround}
 use Rattle.viz_audit.proofs.StepLemmas.{step_there}

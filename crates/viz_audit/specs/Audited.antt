@@ -15,7 +15,7 @@ use Rattle.viz_network.specs.declared.fault.Cause.TheVariants.{WrongInput}
 use Rattle.viz_network.specs.declared.fault.Fault.{Fault}
 use Rattle.viz_network.specs.Network.{Network}
 use Rattle.viz_network.specs.Cone.{Cone, Tree, fed, cone_of}
-use Rattle.viz_scratch.specs.Scratch.{IsScratchOf, IsScratch}
+use Rattle.viz_node_meaning.specs.Scratch.{IsScratchOf, IsScratch}
 
 -- ---- where a surface stands
 

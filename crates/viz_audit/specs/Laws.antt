@@ -11,7 +11,7 @@ use Rattle.viz_kinds.specs.declared.settings.Settings.TheVariants.{Cut}
 use Rattle.viz_network.specs.declared.fault.Fault.{Fault}
 use Rattle.viz_network.specs.Network.{Network}
 use Rattle.viz_network.specs.Cone.{Tree, cone_of}
-use Rattle.viz_scratch.specs.Scratch.{IsScratch}
+use Rattle.viz_node_meaning.specs.Scratch.{IsScratch}
 use Rattle.viz_audit.specs.Audited.{IsFedFirst, StandsOn, IsAuditOf}
 
 -- each side lies in two triangles or in one, and in one only on the boundary of the image's grid

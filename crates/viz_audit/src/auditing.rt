@@ -2,7 +2,7 @@
 
 ghost use Rattle.std.specs.Prelude.{◌≡◌, IsSome, IfOk};
 ghost use Rattle.viz_network.specs.Network.{node_of};
-ghost use Rattle.viz_scratch.specs.Scratch.{Answers};
+ghost use Rattle.viz_node_meaning.specs.Scratch.{Answers};
 ghost use Rattle.viz_audit.specs.Audited.{IsAuditOf};
 ghost use Rattle.viz_audit.specs.Laws.{IsClosed};
 ghost use Rattle.viz_audit.specs.Steps.Ground.{no_surface};
@@ -14,7 +14,8 @@ use std::alloc::Global;
 use viz_base::NodeId;
 use viz_dataset::Dataset;
 use viz_network::{Cause, Fault, Net, Stop};
-use viz_scratch::{scratch, scratch_is_one};
+use viz_node_meaning::scratch_is_one;
+use viz_scratch::scratch;
 use viz_surface_law::{Counts, contours_are_closed};
 
 // The fault of a node that is no contour on an image.

@@ -11,7 +11,8 @@ use viz_dataset::Dataset;
 use viz_extent::Extent;
 use viz_kinds::Settings;
 use viz_network::{Net, Node, Stop};
-use viz_scratch::{scratch, scratch_is_one};
+use viz_node_meaning::scratch_is_one;
+use viz_scratch::scratch;
 
 fn is_contour(settings: &Settings) -> bool
     ensures { result ≡ is_contour settings.now }

@@ -3,7 +3,7 @@
 
 ghost use Rattle.viz_audit.specs.Laws.{AuditsAreClosed, AuditsAreOne, CutSurfacesAreClosed, SurfacesAreClosed};
 
-use viz_scratch::scratch_is_one;
+use viz_node_meaning::scratch_is_one;
 use viz_surface_law::{contours_are_closed, form_sections_are_closed};
 
 /// Whatever an audit counts is closed up to the boundary of the image's grid, and so is each sheet

@@ -18,8 +18,3 @@ mod turns;
 pub use hub::{Hub, Journal, Pass, Pin};
 pub use laws::{journal_is_of_joined_passes, own_gains_this_entry};
 pub use sent::Sent;
-
-#[cfg(test)]
-mod publish_tests;
-#[cfg(test)]
-mod tests;

@@ -1,4 +1,4 @@
-//! Parts of all that nodes give, published by a pass of a hub: tests across crates.
+//! Passes of a hub, and parts of all that nodes give that they publish: tests across crates.
 //!
 //! Contract: `publish_both` pins, makes a part of all that each of two nodes gives, and publishes
 //! both; `publish_one` does so for one node, and says which parts were used. The tests look at what a
@@ -9,5 +9,9 @@ mod publishing;
 
 pub use publishing::{publish_both, publish_one};
 
+#[cfg(test)]
+mod passes;
+#[cfg(test)]
+mod sending;
 #[cfg(test)]
 mod tests;

@@ -9,12 +9,12 @@ use std::sync::Wait;
 use viz_base::{NodeId, Shape};
 use viz_history::Kept;
 use viz_hub::{Hub, Pass, Pin};
-use viz_kept::stored_whole;
 use viz_parts::{Key, Stored};
+use viz_scratch::stored_whole;
 
 /// All that a node gives in the network of a pin, as one part. `None` where there is no such node,
 /// where it gives a fault, and where memory ran out.
-fn made_in(alloc: Global, pin: &Pin, node: NodeId) -> Option<Stored>
+pub(crate) fn made_in(alloc: Global, pin: &Pin, node: NodeId) -> Option<Stored>
     ensures { IfSome result (λ item. IsMadeIn (network_of pin.now.pass.seen) item) }
 {
     let pinned = pin.pinned();

@@ -7,8 +7,8 @@ use Rattle.viz_network.specs.Cone.{cone_of}
 use Rattle.viz_network.specs.EqualStamps.{EqualStamps}
 use Rattle.viz_network.specs.History.{net_of}
 use Rattle.viz_network.specs.Network.{Network}
-use Rattle.viz_scratch.specs.Laws.{ConesGiveOne}
-use Rattle.viz_scratch.specs.Scratch.{IsScratch}
+use Rattle.viz_node_meaning.specs.Laws.{ConesGiveOne}
+use Rattle.viz_node_meaning.specs.Scratch.{IsScratch}
 use Rattle.viz_kept.specs.True.{HasStamp, IsPartIn, IsDatasetPart, IsNodePart, IsMadeIn, IsTrueIn, IsTrueOf, AreMadeIn, AreTrueIn, AreTrueOf}
 
 pub true_longer : (edits more : List Edit) (item : Stored) → IsTrueOf edits item → IsTrueOf (edits ++ more) item

@@ -6,7 +6,7 @@ use Rattle.viz_network.specs.declared.edit.Edit.{Edit}
 use Rattle.viz_network.specs.Cone.{cone_of}
 use Rattle.viz_network.specs.History.{net_of}
 use Rattle.viz_network.specs.Network.{Network}
-use Rattle.viz_scratch.specs.Scratch.{IsScratch}
+use Rattle.viz_node_meaning.specs.Scratch.{IsScratch}
 use Rattle.viz_kept.specs.True.{HasStamp, IsDatasetPart, IsTrueIn, AreMadeIn, AreTrueIn, AreTrueOf}
 
 -- what is true of a history is true of every longer one

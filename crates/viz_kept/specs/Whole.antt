@@ -6,7 +6,7 @@ use Rattle.viz_network.specs.Cone.{Tree}
 use Rattle.viz_parts.specs.declared.request.Part.{Part}
 use Rattle.viz_parts.specs.declared.request.Request.{Request}
 use Rattle.viz_parts.specs.declared.request.Request.TheVariants.{Block, Piece}
-use Rattle.viz_scratch.specs.Scratch.{IsScratchOf}
+use Rattle.viz_node_meaning.specs.Scratch.{IsScratchOf}
 use Rattle.viz_kept.specs.True.{IsNodePart}
 
 -- the request for all of a dataset: an image's extent, or a mesh's only piece without ghost cells

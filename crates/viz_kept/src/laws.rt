@@ -10,7 +10,7 @@ ghost use Rattle.viz_kept.specs.Laws.{
 };
 
 use viz_network::equal_stamps_are_equal_cones;
-use viz_scratch::scratch_is_one;
+use viz_node_meaning::scratch_is_one;
 
 /// What is made in the network of a prefix is true of the history.
 pub fn made_is_true()

@@ -9,4 +9,4 @@ mod laws;
 mod whole;
 
 pub use laws::{made_is_true, true_of_longer, true_parts_answer};
-pub use whole::{stored_whole, whole_part};
+pub use whole::whole_part;

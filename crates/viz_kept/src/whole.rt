@@ -1,17 +1,12 @@
 //! A whole dataset as one part.
 
-ghost use Rattle.std.specs.Prelude.{◌≡◌, map, IfOk, IsSome};
-ghost use Rattle.viz_network.specs.Network.{node_of};
+ghost use Rattle.std.specs.Prelude.{◌≡◌, map, IfOk};
 ghost use Rattle.viz_kept.specs.Steps.{own_part, AreSheets};
-ghost use Rattle.viz_kept.specs.True.{IsMadeIn};
 ghost use Rattle.viz_kept.specs.Whole.{IsWholePart, whole_request};
 
 use std::alloc::{AllocError, Global};
-use viz_base::{NodeId, Shared};
 use viz_dataset::Dataset;
-use viz_network::{Net, Stop};
-use viz_parts::{Key, Part, PartSheet, Request, Stored};
-use viz_scratch::scratch;
+use viz_parts::{Part, PartSheet, Request};
 use viz_sheet::Sheet;
 
 // Says the rule of each sheet; it does nothing.
@@ -59,31 +54,4 @@ pub fn whole_part(alloc: Global, dataset: Dataset) -> Result<(Request, Part), Al
         Dataset::Image(image) => Ok((Request::Block(image.extent()), Part::Image(image))),
         Dataset::Mesh(mesh) => whole_mesh(alloc, mesh.into_sheets()),
     }
-}
-
-/// What a node of the network gives, evaluated from scratch and stored whole, under its stamp.
-///
-/// # Errors
-///
-/// Those of an evaluation from scratch.
-pub fn stored_whole(alloc: Global, net: &Net, node: NodeId) -> Result<Stored, Stop>
-    requires there { IsSome (node_of net.now node.0) }
-    ensures made { IfOk result (λ item. IsMadeIn net.now item) }
-{
-    let Some(stamp) = net.stamp(node) else {
-        return Err(Stop::Memory);
-    };
-    let Ok(dataset) = scratch(alloc, net, node)?.try_unwrap() else {
-        return Err(Stop::Memory);
-    };
-    let (request, part) = whole_part(alloc, dataset)?;
-    let part = Shared::new(alloc, part)?;
-    Ok(Stored {
-        key: Key {
-            node,
-            stamp,
-            request,
-        },
-        part,
-    })
 }

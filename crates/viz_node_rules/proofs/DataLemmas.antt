@@ -7,12 +7,12 @@ use Rattle.viz_dataset.specs.declared.dataset.Dataset.TheVariants.{Image, Mesh}
 use Rattle.viz_meaning.specs.WholeImages.{WholeImage, whole_of}
 use Rattle.viz_sheet.specs.Sheet.{SheetData}
 use Rattle.viz_network.specs.declared.fault.Cause.{Cause}
-use Rattle.viz_node_rules.specs.declared.information.Grid.{Grid}
-use Rattle.viz_node_rules.specs.declared.information.Information.{Information}
-use Rattle.viz_node_rules.specs.declared.information.Information.TheVariants.{OfImage, OfMesh}
-use Rattle.viz_node_rules.specs.Rules.{Inputs}
-use Rattle.viz_node_rules.specs.Information.{and_then, fed_at, grid_in, grid_at, either_in, either_at, mesh_in, mesh_at, as_image, information_of, grid_of, shared_grid}
-use Rattle.viz_node_rules.specs.Data.{all_information, IsMadeWith, IsOfOne, IsOfTwo, IsOfMesh, AreTetrahedra, IsSection, IsSectionOf}
+use Rattle.viz_node_meaning.specs.declared.information.Grid.{Grid}
+use Rattle.viz_node_meaning.specs.declared.information.Information.{Information}
+use Rattle.viz_node_meaning.specs.declared.information.Information.TheVariants.{OfImage, OfMesh}
+use Rattle.viz_node_meaning.specs.Rules.{Inputs}
+use Rattle.viz_node_meaning.specs.Information.{and_then, fed_at, grid_in, grid_at, either_in, either_at, mesh_in, mesh_at, as_image, information_of, grid_of, shared_grid}
+use Rattle.viz_node_meaning.specs.Data.{all_information, IsMadeWith, IsOfOne, IsOfTwo, IsOfMesh, AreTetrahedra, IsSection, IsSectionOf}
 use Rattle.viz_node_rules.specs.Steps.Made.{IsOnGrid, IsFromOne, IsFromTwo, IsPassed, IsContouredBy, IsFromMesh, AreFromImage}
 
 -- what feeds a port, seen through a function

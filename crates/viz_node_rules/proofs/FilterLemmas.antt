@@ -14,9 +14,9 @@ use Rattle.viz_network.specs.declared.fault.Cause.{Cause}
 use Rattle.viz_network.specs.declared.fault.Cause.TheVariants.{EmptyExtent, TooWide, GridsDiffer}
 use Rattle.viz_extent.proofs.PartLemmas.{multiple_from, multiple_to}
 use Rattle.viz_image_ops.proofs.PartLemmas.{on_itself}
-use Rattle.viz_node_rules.specs.declared.information.Grid.{Grid}
-use Rattle.viz_node_rules.specs.Information.{grid_of, has_points, with_points, with_steps, and_then, cropped, thinned, same_grid, same_extent, same_lengths, shared_grid, is_short, longer, longer_step, lengths_of}
-use Rattle.viz_node_rules.specs.Data.{IsWhole}
+use Rattle.viz_node_meaning.specs.declared.information.Grid.{Grid}
+use Rattle.viz_node_meaning.specs.Information.{grid_of, has_points, with_points, with_steps, and_then, cropped, thinned, same_grid, same_extent, same_lengths, shared_grid, is_short, longer, longer_step, lengths_of}
+use Rattle.viz_node_meaning.specs.Data.{IsWhole}
 use Rattle.viz_node_rules.specs.Steps.Made.{IsOnGrid, IsFromOne, IsFromTwo, IsNoImage}
 
 -- the grid of an image

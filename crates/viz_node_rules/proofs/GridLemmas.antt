@@ -6,8 +6,8 @@ use Rattle.viz_extent.specs.Parts.{Rate, IsRate, common, CommonPoint, sampled, K
 use Rattle.viz_extent.proofs.PartLemmas.{sampled_points}
 use Rattle.viz_network.specs.declared.fault.Cause.{Cause}
 use Rattle.viz_network.specs.declared.fault.Cause.TheVariants.{EmptyExtent}
-use Rattle.viz_node_rules.specs.declared.information.Grid.{Grid}
-use Rattle.viz_node_rules.specs.Information.{and_then, has_points, with_steps, cropped, thinned, longer}
+use Rattle.viz_node_meaning.specs.declared.information.Grid.{Grid}
+use Rattle.viz_node_meaning.specs.Information.{and_then, has_points, with_steps, cropped, thinned, longer}
 
 -- all three axes ascend
 pub record Ascend (b : Bounds) : Type 0 where

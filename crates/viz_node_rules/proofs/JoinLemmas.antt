@@ -7,9 +7,9 @@ use Rattle.viz_dataset.specs.declared.dataset.Dataset.{Dataset}
 use Rattle.viz_dataset.specs.declared.dataset.Dataset.TheVariants.{Image, Mesh}
 use Rattle.viz_legacy_read.specs.Reading.{IsSound}
 use Rattle.viz_mesh_meaning.specs.Append.{appended}
-use Rattle.viz_node_rules.specs.Data.{meshes_in}
+use Rattle.viz_node_meaning.specs.Data.{meshes_in}
 use Rattle.viz_node_rules.specs.Places.{Table, value_at, AreSoundIn}
-use Rattle.viz_node_rules.specs.Rules.{Inputs}
+use Rattle.viz_node_meaning.specs.Rules.{Inputs}
 use Rattle.viz_node_rules.proofs.PlaceLemmas.{sound_at}
 use Rattle.viz_sheet.specs.Sheet.{SheetData, IsFit}
 

@@ -1,9 +1,7 @@
 pub mod PlaceLemmas
 pub mod JoinLemmas
-pub mod RuleLemmas
 pub mod GridLemmas
 pub mod DataLemmas
 pub mod FilterLemmas
 pub mod MakesLemmas
-pub mod DataOneLemmas
 pub mod SectionLemmas

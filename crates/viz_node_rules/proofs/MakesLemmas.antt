@@ -16,8 +16,8 @@ use Rattle.viz_sheet.specs.Sheet.{SheetData}
 use Rattle.viz_network.specs.declared.fault.Cause.{Cause}
 use Rattle.viz_node_rules.specs.declared.stop.OwnStop.{OwnStop}
 use Rattle.viz_node_rules.specs.declared.stop.OwnStop.TheVariants as own
-use Rattle.viz_node_rules.specs.Data.{IsReadingOf, IsSection}
-use Rattle.viz_node_rules.specs.Rules.{Makes}
+use Rattle.viz_node_meaning.specs.Data.{IsReadingOf, IsSection}
+use Rattle.viz_node_rules.specs.Makes.{Makes}
 use Rattle.viz_node_rules.specs.Steps.Made.{IsContouredBy, IsShared, of_read, sectioned_of}
 
 -- a file that is read

@@ -1,5 +1,3 @@
-pub mod Data
-pub mod Information
-pub mod Rules
+pub mod Makes
 pub mod Places
 pub mod Steps

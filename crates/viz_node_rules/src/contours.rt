@@ -3,7 +3,7 @@
 ghost use Rattle.std.specs.Prelude.{◌≡◌, ◌∷◌, [], All, IfOk, IfSome, Some, min, take};
 ghost use Rattle.std.specs.Option.{option_copied};
 ghost use Rattle.viz_legacy_read.specs.Reading.{IsSound};
-ghost use Rattle.viz_node_rules.specs.Rules.{Makes};
+ghost use Rattle.viz_node_rules.specs.Makes.{Makes};
 ghost use Rattle.viz_node_rules.specs.Steps.Made.{IsContoured, IsContouredBy, sectioned_of};
 ghost use Rattle.viz_sheet.specs.Sheet.{IsFit};
 

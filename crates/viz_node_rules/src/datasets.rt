@@ -3,9 +3,9 @@
 ghost use Rattle.std.specs.Prelude.{◌≡◌, IfOk, IfSome, map};
 ghost use Rattle.std.specs.Option.{option_copied};
 ghost use Rattle.viz_legacy_read.specs.Reading.{IsSound};
-ghost use Rattle.viz_node_rules.specs.Data.{DataRule};
+ghost use Rattle.viz_node_meaning.specs.Data.{DataRule};
 ghost use Rattle.viz_node_rules.specs.Places.{AreSoundIn, value_at};
-ghost use Rattle.viz_node_rules.specs.Rules.{Makes};
+ghost use Rattle.viz_node_rules.specs.Makes.{Makes};
 ghost use Rattle.viz_node_rules.specs.Steps.Made.{IsPassed, IsShared};
 
 use crate::contours::{contours, cut_input, first_levels};

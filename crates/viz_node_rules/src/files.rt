@@ -2,18 +2,19 @@
 
 ghost use Rattle.std.specs.Prelude.{◌≡◌, ◌≤◌, IfOk};
 ghost use Rattle.viz_legacy_read.specs.Reading.{IsSound};
-ghost use Rattle.viz_node_rules.specs.Data.{IsReadingOf, unit_with};
-ghost use Rattle.viz_node_rules.specs.Information.{IsHeaderOf};
-ghost use Rattle.viz_node_rules.specs.Rules.{Makes};
+ghost use Rattle.viz_node_meaning.specs.Data.{IsReadingOf, unit_with};
+ghost use Rattle.viz_node_meaning.specs.Information.{IsHeaderOf};
+ghost use Rattle.viz_node_rules.specs.Makes.{Makes};
 ghost use Rattle.viz_node_rules.specs.Steps.Made.{of_read};
 
-use crate::information::{Information, of_header};
+use crate::information::of_header;
 use crate::stop::OwnStop;
 use std::alloc::Global;
 use viz_base::{Bytes, Pick, Shared};
 use viz_dataset::Dataset;
 use viz_legacy_read::{ReadStop, header, read};
 use viz_network::{Cause, Node};
+use viz_node_meaning::Information;
 
 /// What the header of a loaded file says.
 pub fn file_information(node: &Node) -> Result<Information, Cause>

@@ -7,9 +7,9 @@ ghost use Rattle.viz_legacy_read.specs.Reading.{IsSound};
 ghost use Rattle.viz_extent.specs.Extent.{bounds_of};
 ghost use Rattle.viz_extent.specs.Parts.{rate_of, IsRate};
 ghost use Rattle.viz_meaning.specs.ImageFilters.{crop_of, sample_of, threshold_of, smooth_of, arith_of};
-ghost use Rattle.viz_node_rules.specs.Data.{op_with, radius_with};
-ghost use Rattle.viz_node_rules.specs.Information.{cropped, thinned};
-ghost use Rattle.viz_node_rules.specs.Rules.{Makes};
+ghost use Rattle.viz_node_meaning.specs.Data.{op_with, radius_with};
+ghost use Rattle.viz_node_meaning.specs.Information.{cropped, thinned};
+ghost use Rattle.viz_node_rules.specs.Makes.{Makes};
 ghost use Rattle.viz_node_rules.specs.Steps.Made.{IsFromOne, IsFromTwo, IsNoImage};
 
 use crate::information::{cropped, grid_of_image, shared_grid, thinned, within};

@@ -4,37 +4,15 @@ ghost use Rattle.std.specs.Prelude.{◌≡◌};
 ghost use Rattle.viz_dataset.specs.Images.{vector_of, IsImage};
 ghost use Rattle.viz_extent.specs.Extent.{bounds_of};
 ghost use Rattle.viz_extent.specs.Parts.{rate_of, IsRate};
-ghost use Rattle.viz_node_rules.specs.Information.{information_of, information_in, grid_of, lengths_of, within, rate_with, is_short, cropped, thinned, longer, longer_step, shared_grid, same_lengths, same_extent};
+ghost use Rattle.viz_node_meaning.specs.Information.{information_of, information_in, grid_of, lengths_of, within, rate_with, is_short, cropped, thinned, longer, longer_step, shared_grid, same_lengths, same_extent};
 
 use viz_dataset::{Dataset, Image, Info};
 use viz_extent::Extent;
 use viz_network::Cause;
+use viz_node_meaning::{Grid, Information, Lengths};
 
 /// A step between points is at most 10^9 units, in billionths.
 const LONGEST: i128 = 1_000_000_000_000_000_000;
-
-/// Three lengths in billionths, along x, y and z.
-#[derive(Clone, Copy, PartialEq, Eq, Debug)]
-pub struct Lengths {
-    pub x: i128,
-    pub y: i128,
-    pub z: i128,
-}
-
-/// The points of an image: their extent, the position of index 0 and the steps between them.
-#[derive(Clone, Copy, Debug)]
-pub struct Grid {
-    pub extent: Extent,
-    pub origin: Lengths,
-    pub spacing: Lengths,
-}
-
-/// What is known of a dataset: an image with these points, or a mesh.
-#[derive(Clone, Copy, Debug)]
-pub enum Information {
-    OfImage(Grid),
-    OfMesh,
-}
 
 fn of_vector(vector: &[i128; 3]) -> Lengths
     ensures { result ≡ lengths_of (vector_of vector.now) }

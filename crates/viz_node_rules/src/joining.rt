@@ -3,20 +3,21 @@
 ghost use Rattle.std.specs.Prelude.{◌≡◌, ◌++◌, ◌∷◌, [], All, IfOk, OnOk, map};
 ghost use Rattle.std.specs.Option.{option_copied, option_map};
 ghost use Rattle.viz_legacy_read.specs.Reading.{IsSound};
-ghost use Rattle.viz_node_rules.specs.Data.{all_information, meshes_in};
-ghost use Rattle.viz_node_rules.specs.Information.{information_of};
+ghost use Rattle.viz_node_meaning.specs.Data.{all_information, meshes_in};
+ghost use Rattle.viz_node_meaning.specs.Information.{information_of};
 ghost use Rattle.viz_node_rules.specs.Places.{AreSoundIn, value_at};
-ghost use Rattle.viz_node_rules.specs.Rules.{Makes};
+ghost use Rattle.viz_node_rules.specs.Makes.{Makes};
 ghost use Rattle.viz_node_rules.specs.Steps.Made.{IsJoined};
 
 use crate::datasets::{Held, dataset_at};
-use crate::information::{Information, of_dataset};
+use crate::information::of_dataset;
 use crate::meshes::whole_mesh;
 use crate::ports::meshes_at;
 use crate::stop::OwnStop;
 use std::alloc::{AllocError, Global};
 use viz_base::Shared;
 use viz_dataset::Dataset;
+use viz_node_meaning::Information;
 use viz_select::{append, copied_sheets};
 use viz_sheet::Mesh;
 

@@ -6,8 +6,8 @@ ghost use Rattle.viz_dataset.specs.declared.dataset.Dataset.TheVariants.{Mesh as
 ghost use Rattle.viz_legacy_read.specs.Reading.{IsSound};
 ghost use Rattle.viz_mesh_meaning.specs.Facets.{boundaries};
 ghost use Rattle.viz_mesh_meaning.specs.Select.{selections};
-ghost use Rattle.viz_node_rules.specs.Data.{merge_of};
-ghost use Rattle.viz_node_rules.specs.Rules.{Makes};
+ghost use Rattle.viz_node_meaning.specs.Data.{merge_of};
+ghost use Rattle.viz_node_rules.specs.Makes.{Makes};
 ghost use Rattle.viz_node_rules.specs.Steps.Made.{AreFromImage, IsFromMesh, IsNoMesh};
 ghost use Rattle.viz_sheet.specs.Sheet.{IsFit};
 

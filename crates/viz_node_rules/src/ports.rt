@@ -2,10 +2,10 @@
 
 ghost use Rattle.std.specs.Prelude.{◌≡◌};
 ghost use Rattle.std.specs.List.{list_any};
-ghost use Rattle.viz_node_rules.specs.Information.{either_in, grid_in, is_fed, is_image, mesh_in, meshes_at, meshes_from};
+ghost use Rattle.viz_node_meaning.specs.Information.{either_in, grid_in, is_fed, is_image, mesh_in, meshes_at, meshes_from};
 
-use crate::information::{Grid, Information};
 use viz_network::Cause;
+use viz_node_meaning::{Grid, Information};
 
 /// The points of the image at a port.
 pub fn grid_in(port: u8, input: &Option<Information>) -> Result<Grid, Cause>

@@ -1,13 +1,14 @@
 //! The information rule of a node.
 
 ghost use Rattle.std.specs.Prelude.{◌≡◌};
-ghost use Rattle.viz_node_rules.specs.Information.{filter_information, InformationRule};
+ghost use Rattle.viz_node_meaning.specs.Information.{filter_information, InformationRule};
 
 use crate::files::file_information;
-use crate::information::{Information, cropped, rate_with, shared_grid, thinned};
+use crate::information::{cropped, rate_with, shared_grid, thinned};
 use crate::ports::{either_in, grid_in, mesh_in, meshes_at};
 use viz_kinds::Settings;
 use viz_network::{Cause, Node};
+use viz_node_meaning::Information;
 
 /// What is known of a filter's dataset, from what is known of those at its ports; or why the filter
 /// gives none.

@@ -23,12 +23,12 @@ use Rattle.viz_once.specs.declared.outcome.Cause.{Cause}
 use Rattle.viz_once.specs.declared.outcome.Cause.TheVariants.{BadFile, WrongInput, TooWide, TooMany}
 use Rattle.viz_once.specs.Causes.{ReadsFile, HasWrongInput, IsCauseOf}
 use Rattle.viz_once.specs.Outputs.{output_text, contoured, IsNarrowContour, IsTooMany, HasWideText, Accepts}
-use Rattle.viz_node_rules.specs.declared.information.Information.{Information}
-use Rattle.viz_node_rules.specs.declared.information.Information.TheVariants as information
-use Rattle.viz_scratch.specs.Fold.{at_node, IsGiven}
-use Rattle.viz_node_rules.specs.Information.{InformationRule, IsHeaderOf}
-use Rattle.viz_node_rules.specs.Data.{contour_forms, IsSection, DataRule}
-use Rattle.viz_scratch.specs.Scratch.{IsScratch, IsBehind}
+use Rattle.viz_node_meaning.specs.declared.information.Information.{Information}
+use Rattle.viz_node_meaning.specs.declared.information.Information.TheVariants as information
+use Rattle.viz_node_meaning.specs.Fold.{at_node, IsGiven}
+use Rattle.viz_node_meaning.specs.Information.{InformationRule, IsHeaderOf}
+use Rattle.viz_node_meaning.specs.Data.{contour_forms, IsSection, DataRule}
+use Rattle.viz_node_meaning.specs.Scratch.{IsScratch, IsBehind}
 use Rattle.viz_scratch.specs.Written.{Style, style_of, text_with, HasFewCounts, HasFitNumbers, IsUnwritten, IsTextBehind, IsFileOf}
 use Rattle.viz_once_history.specs.FixedHistory.{op_id, at_source, at_op, fault_of}
 use Rattle.viz_once_history.specs.Laws.{FilesAreOfInputs, FaultsAreCauses}

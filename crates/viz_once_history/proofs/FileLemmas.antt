@@ -25,11 +25,11 @@ use Rattle.viz_once.specs.declared.outcome.Cause.{Cause}
 use Rattle.viz_once.specs.declared.outcome.Cause.TheVariants.{TooLong, BadFile, WrongInput, TooWide, TooMany}
 use Rattle.viz_once.specs.Causes.{HasWrongInput, IsBadFile, IsCauseOf}
 use Rattle.viz_once.specs.Outputs.{output_text, contoured, IsNarrowContour, Takes, IsNarrowResult, result_of, HasFewCounts, HasFitNumbers, IsTooMany, IsTooWide}
-use Rattle.viz_node_rules.specs.declared.information.Information.{Information}
-use Rattle.viz_node_rules.specs.declared.information.Information.TheVariants as information
-use Rattle.viz_node_rules.specs.Information.{InformationRule}
-use Rattle.viz_node_rules.specs.Data.{DataRule}
-use Rattle.viz_scratch.specs.Scratch.{IsScratch}
+use Rattle.viz_node_meaning.specs.declared.information.Information.{Information}
+use Rattle.viz_node_meaning.specs.declared.information.Information.TheVariants as information
+use Rattle.viz_node_meaning.specs.Information.{InformationRule}
+use Rattle.viz_node_meaning.specs.Data.{DataRule}
+use Rattle.viz_node_meaning.specs.Scratch.{IsScratch}
 use Rattle.viz_scratch.specs.Written.{IsFileOf}
 use Rattle.viz_once_history.specs.FixedHistory.{op_id, at_source, at_op, fault_of}
 use Rattle.viz_once_history.specs.Laws.{InputsAreMade, CausesAreFaults}

@@ -3,8 +3,8 @@ use Rattle.std.proofs.Common.{◌≡◌, ◌⊎◌, ℕ, zero, suc, ◌∷◌, r
 use Rattle.viz_network.specs.declared.node.Node.{Node}
 use Rattle.viz_network.specs.declared.fault.Cause.{Cause}
 use Rattle.viz_network.specs.declared.fault.Fault.{Fault}
-use Rattle.viz_node_rules.specs.Rules.{Inputs, NodeRule}
-use Rattle.viz_scratch.specs.Fold.{at_node, filled, joined, IsMade, AreGiven, IsGiven}
+use Rattle.viz_node_meaning.specs.Rules.{Inputs, NodeRule}
+use Rattle.viz_node_meaning.specs.Fold.{at_node, filled, joined, IsMade, AreGiven, IsGiven}
 use Rattle.viz_once_history.proofs.NetworkLemmas.{empties, tree_of}
 
 -- so many empty ports

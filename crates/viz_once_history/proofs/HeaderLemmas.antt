@@ -22,9 +22,9 @@ use Rattle.viz_lex.specs.Repeats.{AreKnown}
 use Rattle.viz_lex.specs.Rules.{Rule, choose, gives, ◌>>=◌}
 use Rattle.viz_lex.specs.Steps.{same_word, has}
 use Rattle.viz_sheet.specs.Sheet.{SheetData}
-use Rattle.viz_node_rules.specs.declared.information.Information.{Information}
-use Rattle.viz_node_rules.specs.declared.information.Information.TheVariants as information
-use Rattle.viz_node_rules.specs.Information.{grid_of, IsHeaderOf}
+use Rattle.viz_node_meaning.specs.declared.information.Information.{Information}
+use Rattle.viz_node_meaning.specs.declared.information.Information.TheVariants as information
+use Rattle.viz_node_meaning.specs.Information.{grid_of, IsHeaderOf}
 
 -- ---- what a header says of the dataset
 

@@ -13,7 +13,7 @@ use Rattle.viz_once.specs.Command.{Command, command_of}
 use Rattle.viz_once.specs.Outputs.{output_text, cells_made, points_made, Accepts}
 use Rattle.viz_report.specs.declared.line.Reason.TheVariants.{Fault as Named}
 use Rattle.viz_report.specs.Words.{reason_text}
-use Rattle.viz_scratch.specs.Scratch.{IsScratch}
+use Rattle.viz_node_meaning.specs.Scratch.{IsScratch}
 use Rattle.viz_once_history.specs.FixedHistory.{HasNumbers, history_of, network_for, op_id, IsFileFor, fault_of}
 
 -- the filter's node gives a dataset of so many cells and points, and this text is its file

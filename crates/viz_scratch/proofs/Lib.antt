@@ -1,4 +1,3 @@
 pub mod TableLemmas
 pub mod ReaderLemmas
-pub mod OneLemmas
 pub mod ScratchLemmas

@@ -1,35 +1,16 @@
--- What a node gives from scratch is one, and so is its file.
-use Rattle.std.proofs.Common.{◌≡◌, ◌↔◌, ℕ, List, ◌++◌, Option, None, Some, Result, Ok, Err, refl, sym, ap, subst, ◌∙◌}
+-- The file of a node is one, since what the node gives is.
+use Rattle.std.proofs.Common.{◌≡◌, ℕ, List, Result, Ok, Err, refl, sym, ap, subst, ◌∙◌}
 use Rattle.viz_dataset.specs.declared.dataset.Dataset.{Dataset}
-use Rattle.viz_network.specs.declared.edit.Edit.{Edit}
 use Rattle.viz_base.specs.declared.node.NodeId.{NodeId}
 use Rattle.viz_network.specs.declared.fault.Cause.{Cause}
 use Rattle.viz_network.specs.declared.fault.Cause.TheVariants as cause
 use Rattle.viz_network.specs.declared.fault.Fault.{Fault}
-use Rattle.viz_network.specs.Cone.{Tree, cone_of, stamp_of}
-use Rattle.viz_network.specs.EqualStamps.{EqualStamps}
-use Rattle.viz_network.specs.History.{net_of}
-use Rattle.viz_network.specs.Network.{Network}
-use Rattle.viz_node_rules.specs.declared.information.Information.{Information}
-use Rattle.viz_scratch.specs.Fold.{IsGiven}
-use Rattle.viz_node_rules.specs.Information.{InformationRule}
-use Rattle.viz_node_rules.specs.Data.{DataRule}
-use Rattle.viz_scratch.specs.Scratch.{IsBehind, IsScratchOf, IsScratch}
+use Rattle.viz_network.specs.Cone.{cone_of}
+use Rattle.viz_node_meaning.specs.Laws.{ConesGiveOne}
 use Rattle.viz_scratch.specs.Written.{Style, IsUnwritten, IsTextOf, IsTextBehind, style_of, IsFileOf}
-use Rattle.viz_scratch.specs.Laws.{ConesGiveOne, EqualStampsGiveOne, FilesAreOne}
-use Rattle.viz_node_rules.specs.Rules.{IsOne}
-use Rattle.viz_scratch.proofs.OneLemmas.{value_one}
+use Rattle.viz_scratch.specs.Laws.{FilesAreOne}
 
-module _ (informed : IsOne InformationRule) (evaluated : IsOne DataRule) where
-  behind_one : (i : Result Information Fault) (t : Option Tree) (a b : Result Dataset Fault) → IsBehind i t a → IsBehind i t b → a ≡ b
-  behind_one (Err fault) t a b p q = p ∙ sym q
-  behind_one (Ok i) t a b p q = value_one DataRule evaluated t a b p q
-
-  pub cones_give_one : ConesGiveOne
-  cones_give_one t a b p q =
-      let same = value_one InformationRule informed t p.0 q.0 p.1 q.1 in
-      behind_one q.0 t a b (subst (λ i. IsBehind i t a) same p.2) q.2
-
+module _ (cones : ConesGiveOne) where
   -- two causes of one dataset are one
   cause_one : (style : Style) (d : Dataset) (x y : Cause) → IsUnwritten style d x → IsUnwritten style d y → x ≡ y
   cause_one style d cause.TooMany cause.TooMany p q = refl
@@ -81,11 +62,5 @@ module _ (informed : IsOne InformationRule) (evaluated : IsOne DataRule) where
 
   pub files_are_one : FilesAreOne
   files_are_one net id a b p q =
-      let same = cones_give_one (cone_of net id) p.0 q.0 p.1 q.1 in
+      let same = cones (cone_of net id) p.0 q.0 p.1 q.1 in
       text_behind_one (style_of (cone_of net id)) id q.0 a b (subst (λ s. IsTextBehind (style_of (cone_of net id)) id s a) same p.2) q.2
-
--- equal cones give the same
-pub equal_stamps : EqualStamps → EqualStampsGiveOne
-equal_stamps same edits more id stamp here later r =
-    let cone = same edits more id stamp here later in
-    (subst (λ t. IsScratchOf t r) cone, subst (λ t. IsScratchOf t r) (sym cone))

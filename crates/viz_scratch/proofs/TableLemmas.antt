@@ -12,8 +12,8 @@ use Rattle.viz_network.specs.declared.fault.Fault.{Fault}
 use Rattle.viz_network.specs.Network.{Network, node_of}
 use Rattle.viz_network.specs.Cone.{Tree, grow, port, cone_of}
 use Rattle.viz_network.specs.Step.{nodes_of, AreFed, IsStepOf, AreSteps}
-use Rattle.viz_node_rules.specs.Rules.{Inputs, NodeRule}
-use Rattle.viz_scratch.specs.Fold.{filled, joined, IsMade, AreGiven, IsGiven}
+use Rattle.viz_node_meaning.specs.Rules.{Inputs, NodeRule}
+use Rattle.viz_node_meaning.specs.Fold.{filled, joined, IsMade, AreGiven, IsGiven}
 use Rattle.viz_node_rules.specs.Places.{Table, value_of, entry_at, value_at, AreSoundIn}
 use Rattle.viz_scratch.specs.Steps.Table.{fault_of, first_of, first_fault, faulted, told, HasInputs, IsTable, always, is_read, IsReleased}
 use Rattle.viz_scratch.specs.Steps.Readers.{AreReadAt, AreBefore, AreBehind}

@@ -1,24 +1,9 @@
--- What a node gives from scratch is one, and depends on its cone alone (VTK User's Guide, "The visualization pipeline").
-use Rattle.std.specs.Prelude.{◌≡◌, ◌↔◌, ℕ, List, ◌++◌, Option, Some, Result}
-use Rattle.viz_dataset.specs.declared.dataset.Dataset.{Dataset}
-use Rattle.viz_network.specs.declared.edit.Edit.{Edit}
+-- The file of a node is one (docs/FORMATS.md, "Written files").
+use Rattle.std.specs.Prelude.{◌≡◌, ℕ, List, Result}
 use Rattle.viz_network.specs.declared.fault.Fault.{Fault}
-use Rattle.viz_network.specs.Cone.{Tree, stamp_of}
-use Rattle.viz_network.specs.History.{net_of}
 use Rattle.viz_network.specs.Network.{Network}
-use Rattle.viz_scratch.specs.Scratch.{IsScratchOf, IsScratch}
 use Rattle.viz_scratch.specs.Written.{IsFileOf}
-
--- equal cones give one dataset, or one fault
-abbrev pub ConesGiveOne : Type 0
-ConesGiveOne = (t : Option Tree) (a b : Result Dataset Fault) → IsScratchOf t a → IsScratchOf t b → a ≡ b
 
 -- a node of a network has one file, or one fault
 abbrev pub FilesAreOne : Type 0
 FilesAreOne = (net : Network) (id : ℕ) (a b : Result (List ℕ) Fault) → IsFileOf net id a → IsFileOf net id b → a ≡ b
-
--- a node with equal stamps in the networks of a history and of a longer one gives the same in both
-abbrev pub EqualStampsGiveOne : Type 0
-EqualStampsGiveOne = (edits more : List Edit) (id stamp : ℕ) → stamp_of (net_of edits) id ≡ Some stamp
-    → stamp_of (net_of (edits ++ more)) id ≡ Some stamp
-    → (r : Result Dataset Fault) → IsScratch (net_of edits) id r ↔ IsScratch (net_of (edits ++ more)) id r

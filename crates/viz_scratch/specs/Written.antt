@@ -20,8 +20,8 @@ use Rattle.viz_network.specs.declared.fault.Stop.{Stop}
 use Rattle.viz_network.specs.declared.fault.Stop.TheVariants as stop
 use Rattle.viz_network.specs.Cone.{Tree, cone_of}
 use Rattle.viz_network.specs.Network.{Network}
-use Rattle.viz_node_rules.specs.Information.{within}
-use Rattle.viz_scratch.specs.Scratch.{IsScratch}
+use Rattle.viz_node_meaning.specs.Information.{within}
+use Rattle.viz_node_meaning.specs.Scratch.{IsScratch}
 
 -- whether numbers are written in binary, and at how many decimal places coordinates of meshes are
 pub record Style : Type 0 where

@@ -3,8 +3,8 @@
 ghost use Rattle.std.specs.Prelude.{◌≡◌, IfOk, length};
 ghost use Rattle.viz_legacy_read.specs.Reading.{IsSound};
 ghost use Rattle.viz_network.specs.Step.{AreSteps};
-ghost use Rattle.viz_node_rules.specs.Data.{DataRule};
-ghost use Rattle.viz_scratch.specs.Fold.{IsMade};
+ghost use Rattle.viz_node_meaning.specs.Data.{DataRule};
+ghost use Rattle.viz_node_meaning.specs.Fold.{IsMade};
 ghost use Rattle.viz_scratch.specs.Steps.Readers.{AreReaders};
 ghost use Rattle.viz_node_rules.specs.Places.{AreSoundIn};
 ghost use Rattle.viz_scratch.specs.Steps.Table.{told, IsTable, is_read, IsReleased};

@@ -5,10 +5,10 @@ ghost use Rattle.viz_legacy_read.specs.Reading.{IsSound};
 ghost use Rattle.viz_network.specs.Cone.{cone_of};
 ghost use Rattle.viz_network.specs.Network.{node_of};
 ghost use Rattle.viz_network.specs.Step.{AreSteps, nodes_of};
-ghost use Rattle.viz_node_rules.specs.Data.{DataRule};
-ghost use Rattle.viz_scratch.specs.Fold.{IsGiven};
-ghost use Rattle.viz_node_rules.specs.Information.{InformationRule};
-ghost use Rattle.viz_scratch.specs.Scratch.{IsScratch, Answers};
+ghost use Rattle.viz_node_meaning.specs.Data.{DataRule};
+ghost use Rattle.viz_node_meaning.specs.Fold.{IsGiven};
+ghost use Rattle.viz_node_meaning.specs.Information.{InformationRule};
+ghost use Rattle.viz_node_meaning.specs.Scratch.{IsScratch, Answers};
 ghost use Rattle.viz_scratch.specs.Steps.Informed.{IsInformedAs};
 
 use crate::datasets::data_pass;

@@ -2,15 +2,16 @@
 
 ghost use Rattle.std.specs.Prelude.{◌≡◌, IfOk, length, map};
 ghost use Rattle.viz_network.specs.Step.{AreSteps};
-ghost use Rattle.viz_scratch.specs.Fold.{IsMade};
-ghost use Rattle.viz_node_rules.specs.Information.{InformationRule};
+ghost use Rattle.viz_node_meaning.specs.Fold.{IsMade};
+ghost use Rattle.viz_node_meaning.specs.Information.{InformationRule};
 ghost use Rattle.viz_node_rules.specs.Places.{value_at};
 ghost use Rattle.viz_scratch.specs.Steps.Table.{told, anything, always, IsTable};
 
 use crate::gathered::fault_in;
 use std::alloc::{AllocError, Global};
 use viz_network::{Fault, Net, Node, Step};
-use viz_node_rules::{Information, own_information};
+use viz_node_meaning::Information;
+use viz_node_rules::own_information;
 
 type Known = Option<Result<Information, Fault>>;
 

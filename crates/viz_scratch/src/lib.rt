@@ -2,8 +2,8 @@
 //! definitions over all that lies upstream of it.
 //!
 //! Contract: `scratch` gives the dataset of the definitions or its first fault, and `file_text` the
-//! text of the dataset or why there is none; equal cones give the same. Definitions:
-//! `specs/Scratch.antt`, `specs/Written.antt`, by the rules of `viz_node_rules`.
+//! text of the dataset or why there is none; a node has one file. Definitions: those of
+//! `viz_node_meaning`, and `specs/Written.antt`.
 #![tactic(auto)]
 
 mod datasets;
@@ -12,10 +12,12 @@ mod gathered;
 mod headers;
 mod laws;
 mod readers;
+mod stored;
 mod written;
 
 pub use evaluation::scratch;
-pub use laws::{equal_stamps_give_one, scratch_is_one};
+pub use laws::files_are_one;
+pub use stored::stored_whole;
 pub use written::{file_text, style_with, text_of, text_with};
 
 #[cfg(test)]

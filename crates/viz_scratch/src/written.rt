@@ -2,8 +2,8 @@
 
 ghost use Rattle.std.specs.Prelude.{◌≡◌, IsSome};
 ghost use Rattle.viz_network.specs.Network.{node_of};
-ghost use Rattle.viz_node_rules.specs.Information.{within};
-ghost use Rattle.viz_scratch.specs.Scratch.{Answers};
+ghost use Rattle.viz_node_meaning.specs.Information.{within};
+ghost use Rattle.viz_node_meaning.specs.Scratch.{Answers};
 ghost use Rattle.viz_scratch.specs.Written.{IsFileOf, IsTextOf, style_with, style_seen, of_write};
 
 use crate::evaluation::scratch;

@@ -10,7 +10,7 @@ use Rattle.viz_network.specs.declared.fault.Stop.{Stop}
 use Rattle.viz_network.specs.declared.fault.Stop.TheVariants.{Fault}
 use Rattle.viz_network.specs.Network.{Network}
 use Rattle.viz_network.specs.Cone.{cone_of}
-use Rattle.viz_scratch.specs.Scratch.{IsScratch}
+use Rattle.viz_node_meaning.specs.Scratch.{IsScratch}
 use Rattle.viz_audit.specs.Audited.{StandsOn}
 
 -- the node gives an image of this extent, or no image

@@ -13,12 +13,12 @@ use Rattle.viz_mesh_meaning.specs.Append.{appended}
 use Rattle.viz_meaning.specs.WholeImages.{WholeImage, whole_of}
 use Rattle.viz_network.specs.declared.fault.Cause.{Cause}
 use Rattle.viz_network.specs.declared.fault.Cause.TheVariants.{Unconnected, WrongInput, BadFile, TooWide}
-use Rattle.viz_node_rules.specs.declared.information.Grid.{Grid}
+use Rattle.viz_node_meaning.specs.declared.information.Grid.{Grid}
 use Rattle.viz_node_rules.specs.declared.stop.OwnStop.{OwnStop}
 use Rattle.viz_node_rules.specs.declared.stop.OwnStop.TheVariants.{Cause as Caused, Memory}
-use Rattle.viz_node_rules.specs.Information.{grid_of, meshes_at, shared_grid}
-use Rattle.viz_node_rules.specs.Data.{IsWhole, IsSection, IsMadeWith, all_information, meshes_in}
-use Rattle.viz_node_rules.specs.Rules.{Inputs}
+use Rattle.viz_node_meaning.specs.Information.{grid_of, meshes_at, shared_grid}
+use Rattle.viz_node_meaning.specs.Data.{IsWhole, IsSection, IsMadeWith, all_information, meshes_in}
+use Rattle.viz_node_meaning.specs.Rules.{Inputs}
 use Rattle.viz_fraction.specs.declared.forms.Form.{Form}
 use Rattle.viz_fraction.specs.Forms.{contour_form}
 

@@ -7,8 +7,8 @@ use Rattle.viz_network.specs.Cone.{cone_of}
 use Rattle.viz_network.specs.Network.{Network}
 use Rattle.viz_network.specs.Step.{nodes_of}
 use Rattle.viz_node_rules.specs.Places.{Table, entry_at, value_at, AreSoundIn}
-use Rattle.viz_node_rules.specs.Rules.{Inputs, NodeRule}
-use Rattle.viz_scratch.specs.Fold.{IsGiven}
+use Rattle.viz_node_meaning.specs.Rules.{Inputs, NodeRule}
+use Rattle.viz_node_meaning.specs.Fold.{IsGiven}
 
 -- the fault that a place has
 abbrev pub fault_of : {X : Type 0} → Option (Result X Fault) → Option Fault

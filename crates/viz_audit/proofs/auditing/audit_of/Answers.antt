@@ -1,6 +1,6 @@
 use Rattle.std.proofs.Common.{Ok, sym, subst, ap, ◌∙◌}
 use Rattle.viz_dataset.specs.declared.dataset.Dataset.TheVariants.{Mesh}
-use Rattle.viz_scratch.specs.Scratch.{IsScratch}
+use Rattle.viz_node_meaning.specs.Scratch.{IsScratch}
 use Rattle.viz_audit.specs.Steps.Ground.{IsGround}
 use Rattle.viz_audit.proofs.AuditLemmas.{may_audit, is_audited}
 use Rattle.viz_audit.proofs.auditing.audit_of.Goals as goal

@@ -1,5 +1,5 @@
 use Rattle.std.proofs.Common.{Ok, Err, sym, subst, ◌∙◌}
-use Rattle.viz_scratch.specs.Scratch.{IsScratch, Answers}
+use Rattle.viz_node_meaning.specs.Scratch.{IsScratch, Answers}
 use Rattle.viz_audit.proofs.GroundLemmas.{gives_mesh, gives_fault}
 use Rattle.viz_audit.proofs.ground.given_extent.Goals as goal
 

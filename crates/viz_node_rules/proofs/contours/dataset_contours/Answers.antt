@@ -5,7 +5,7 @@ use Rattle.viz_fraction.specs.Forms.{contour_form}
 use Rattle.viz_legacy_read.specs.Reading.{IsSound}
 use Rattle.viz_meaning.specs.Tetrahedra.{tetrahedra_sheet}
 use Rattle.viz_sheet.specs.Sheet.{IsFit}
-use Rattle.viz_node_rules.specs.Rules.{Makes}
+use Rattle.viz_node_rules.specs.Makes.{Makes}
 use Rattle.viz_node_rules.specs.Steps.Made.{IsContoured}
 use Rattle.viz_node_rules.proofs.MakesLemmas.{contour_makes, IsSectioned}
 use Rattle.viz_node_rules.proofs.contours.dataset_contours.Goals as goal

@@ -6,9 +6,10 @@ use Rattle.viz_kinds.specs.declared.settings.Settings.{Settings}
 use Rattle.viz_kinds.specs.declared.settings.Settings.TheVariants as settings
 use Rattle.viz_legacy_read.specs.Reading.{IsSound}
 use Rattle.viz_meaning.specs.ImageFilters.{sample_of, arith_of}
-use Rattle.viz_node_rules.specs.Rules.{Inputs, Makes}
-use Rattle.viz_node_rules.specs.Information.{thinned, rate_with, fed_at}
-use Rattle.viz_node_rules.specs.Data.{IsEvaluated, op_with}
+use Rattle.viz_node_meaning.specs.Rules.{Inputs}
+use Rattle.viz_node_rules.specs.Makes.{Makes}
+use Rattle.viz_node_meaning.specs.Information.{thinned, rate_with, fed_at}
+use Rattle.viz_node_meaning.specs.Data.{IsEvaluated, op_with}
 use Rattle.viz_node_rules.specs.Steps.Made.{IsFromOne, IsFromTwo}
 use Rattle.viz_node_rules.specs.Places.{value_at}
 use Rattle.viz_node_rules.proofs.PlaceLemmas.{sound_at}

@@ -1,6 +1,6 @@
 use Rattle.std.proofs.Common.{Some, Err, sym, ap, subst, ◌∙◌}
-use Rattle.viz_node_rules.specs.Data.{unit_with, IsReadingOf}
-use Rattle.viz_node_rules.specs.Rules.{Makes}
+use Rattle.viz_node_meaning.specs.Data.{unit_with, IsReadingOf}
+use Rattle.viz_node_rules.specs.Makes.{Makes}
 use Rattle.viz_node_rules.proofs.MakesLemmas.{file_read, file_stopped}
 use Rattle.viz_node_rules.proofs.files.file_dataset.Goals as goal
 

@@ -1,8 +1,8 @@
 use Rattle.std.proofs.Common.{Some, Ok, Err, refl, sym, ap, subst, ◌∙◌}
 use Rattle.viz_legacy_read.specs.Reading.{IsInfo, StopsInHeader}
 use Rattle.viz_network.specs.declared.fault.Cause.TheVariants.{BadFile}
-use Rattle.viz_node_rules.specs.Information.{IsHeaderOf, information_in}
-use Rattle.viz_node_rules.proofs.RuleLemmas.{header_given}
+use Rattle.viz_node_meaning.specs.Information.{IsHeaderOf, information_in}
+use Rattle.viz_node_meaning.proofs.RuleLemmas.{header_given}
 use Rattle.viz_node_rules.proofs.files.file_information.Goals as goal
 
 pub returns-in-Ok : goal.returns-in-Ok

@@ -3,8 +3,8 @@ use Rattle.std.specs.Option.{option_copied}
 use Rattle.viz_dataset.specs.declared.dataset.Dataset.TheVariants.{Image}
 use Rattle.viz_meaning.specs.ImageFilters.{arith_of}
 use Rattle.viz_meaning.specs.WholeImages.{GivesOnBoth}
-use Rattle.viz_node_rules.specs.Data.{op_with}
-use Rattle.viz_node_rules.specs.Information.{shared_grid}
+use Rattle.viz_node_meaning.specs.Data.{op_with}
+use Rattle.viz_node_meaning.specs.Information.{shared_grid}
 use Rattle.viz_node_rules.specs.Steps.Made.{IsFromTwo}
 use Rattle.viz_node_rules.proofs.FilterLemmas.{image_grid, two_made, two_parts}
 use Rattle.viz_node_rules.proofs.filters.arith_inputs.Goals as goal

@@ -3,7 +3,7 @@ use Rattle.std.specs.Option.{option_copied}
 use Rattle.viz_dataset.specs.declared.dataset.Dataset.TheVariants.{Image}
 use Rattle.viz_extent.specs.Extent.{bounds_of}
 use Rattle.viz_meaning.specs.ImageFilters.{crop_of}
-use Rattle.viz_node_rules.specs.Information.{cropped}
+use Rattle.viz_node_meaning.specs.Information.{cropped}
 use Rattle.viz_node_rules.specs.Steps.Made.{IsFromOne}
 use Rattle.viz_node_rules.proofs.FilterLemmas.{image_grid, one_made, crop_extent}
 use Rattle.viz_node_rules.proofs.filters.crop_input.Goals as goal

@@ -2,7 +2,7 @@ use Rattle.std.proofs.Common.{◌≡◌, Some, Ok, sym, ap, subst, ◌∙◌}
 use Rattle.viz_dataset.specs.declared.dataset.Dataset.TheVariants.{Image}
 use Rattle.viz_extent.specs.Parts.{rate_of}
 use Rattle.viz_meaning.specs.ImageFilters.{sample_of}
-use Rattle.viz_node_rules.specs.Information.{thinned}
+use Rattle.viz_node_meaning.specs.Information.{thinned}
 use Rattle.viz_node_rules.specs.Steps.Made.{IsFromOne}
 use Rattle.viz_node_rules.proofs.FilterLemmas.{image_grid, one_made, thinned_is, sampled_is}
 use Rattle.viz_node_rules.proofs.filters.sample_input.Goals as goal

@@ -4,7 +4,7 @@ use Rattle.viz_extent.specs.Parts.{IsPart, grown}
 use Rattle.viz_meaning.specs.ImageFilters.{smooth_of, smooth_within}
 use Rattle.viz_meaning.specs.WholeImages.{whole_of, IsOn}
 use Rattle.viz_image_ops.proofs.PartLemmas.{on_itself}
-use Rattle.viz_node_rules.specs.Data.{radius_with}
+use Rattle.viz_node_meaning.specs.Data.{radius_with}
 use Rattle.viz_node_rules.specs.Steps.Made.{IsFromOne}
 use Rattle.viz_node_rules.proofs.FilterLemmas.{one_on, own_part, grown_part}
 use Rattle.viz_node_rules.proofs.filters.smooth_input.Goals as goal

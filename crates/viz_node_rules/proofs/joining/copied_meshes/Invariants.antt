@@ -1,5 +1,5 @@
 use Rattle.std.proofs.Common.{◌≡◌, map, take}
-use Rattle.viz_node_rules.specs.Data.{meshes_in}
+use Rattle.viz_node_meaning.specs.Data.{meshes_in}
 use Rattle.viz_node_rules.specs.Places.{value_at}
 use Rattle.viz_node_rules.proofs.joining.copied_meshes.Given as goal
 

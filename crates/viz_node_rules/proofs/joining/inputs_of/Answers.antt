@@ -2,7 +2,7 @@ use Rattle.std.proofs.Common.{◌≡◌, List, Option, map, ◌∙◌}
 use Rattle.std.specs.Option.{option_map}
 use Rattle.viz_dataset.specs.declared.dataset.Dataset.{Dataset}
 use Rattle.viz_network.proofs.EightLemmas.{each_of_eight}
-use Rattle.viz_node_rules.specs.Information.{information_of}
+use Rattle.viz_node_meaning.specs.Information.{information_of}
 use Rattle.viz_node_rules.specs.Places.{value_at}
 use Rattle.viz_node_rules.proofs.JoinLemmas.{map-twice}
 use Rattle.viz_node_rules.proofs.joining.inputs_of.Goals as goal

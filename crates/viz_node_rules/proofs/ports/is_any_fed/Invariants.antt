@@ -1,6 +1,6 @@
 use Rattle.std.proofs.Common.{◌≡◌, drop}
 use Rattle.std.specs.List.{list_any}
-use Rattle.viz_node_rules.specs.Information.{is_fed}
+use Rattle.viz_node_meaning.specs.Information.{is_fed}
 use Rattle.viz_node_rules.proofs.ports.is_any_fed.Given as goal
 
 -- the ports that are left have the answer

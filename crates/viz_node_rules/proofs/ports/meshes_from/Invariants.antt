@@ -1,5 +1,5 @@
 use Rattle.std.proofs.Common.{◌≡◌, ◌+◌, drop}
-use Rattle.viz_node_rules.specs.Information.{meshes_from}
+use Rattle.viz_node_meaning.specs.Information.{meshes_from}
 use Rattle.viz_node_rules.proofs.ports.meshes_from.Given as goal
 
 -- the ports that are left have the answer

@@ -6,8 +6,8 @@ use Rattle.viz_legacy_read.specs.Reading.{IsSound}
 use Rattle.viz_network.specs.declared.fault.Fault.{Fault}
 use Rattle.viz_network.specs.declared.steps.Step.{Step}
 use Rattle.viz_network.specs.Step.{nodes_of}
-use Rattle.viz_scratch.specs.Fold.{IsMade}
-use Rattle.viz_node_rules.specs.Data.{DataRule}
+use Rattle.viz_node_meaning.specs.Fold.{IsMade}
+use Rattle.viz_node_meaning.specs.Data.{DataRule}
 use Rattle.viz_scratch.specs.Steps.Table.{IsTable, is_read, told}
 use Rattle.viz_scratch.proofs.TableLemmas.{lent_there, has_read, more_table, skip_table, released_table, sound_value}
 use Rattle.viz_scratch.proofs.datasets.data_pass.Goals as goal

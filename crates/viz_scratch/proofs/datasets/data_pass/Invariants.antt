@@ -1,5 +1,5 @@
 use Rattle.viz_legacy_read.specs.Reading.{IsSound}
-use Rattle.viz_node_rules.specs.Data.{DataRule}
+use Rattle.viz_node_meaning.specs.Data.{DataRule}
 use Rattle.viz_scratch.specs.Steps.Table.{IsTable, is_read}
 use Rattle.viz_scratch.proofs.datasets.data_pass.Given as goal
 

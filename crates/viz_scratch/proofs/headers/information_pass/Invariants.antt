@@ -1,4 +1,4 @@
-use Rattle.viz_node_rules.specs.Information.{InformationRule}
+use Rattle.viz_node_meaning.specs.Information.{InformationRule}
 use Rattle.viz_scratch.specs.Steps.Table.{IsTable, anything, always}
 use Rattle.viz_scratch.proofs.headers.information_pass.Given as goal
 

@@ -1,5 +1,0 @@
-use Rattle.std.proofs.Common.{length}
-use Rattle.viz_hub.proofs.tests.+gather.Given as goal
-
-abbrev pub decreases-gather : goal.decreases-gather
-decreases-gather l = length l.writers.now

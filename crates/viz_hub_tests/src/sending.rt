@@ -1,0 +1,173 @@
+//! What a pass tells of its publications, and what becomes of a part.
+
+ghost use Rattle.std.specs.Prelude.{◌≡◌, IfSome};
+ghost use Rattle.viz_kept.specs.True.{IsMadeIn};
+ghost use Rattle.viz_history.specs.History.{network_of};
+
+use crate::passes::{begin, join, pin, split, wants, word};
+use crate::publishing::made_in;
+use std::alloc::Global;
+use std::sync::Wait;
+use std::test::Fail;
+use viz_base::{Bytes, NodeId, Shape, Shared, Word};
+use viz_history::{EditAnswer, Kept};
+use viz_hub::{Hub, Pass, Pin, Sent};
+use viz_kinds::Kind;
+use viz_network::Edit;
+use viz_parts::Stored;
+
+// An image of one point.
+const POINT: &str = "# vtk DataFile Version 3.0
+p
+ASCII
+DATASET STRUCTURED_POINTS
+DIMENSIONS 1 1 1
+ORIGIN 0 0 0
+SPACING 1 1 1
+POINT_DATA 1
+SCALARS s short
+LOOKUP_TABLE default
+4
+";
+
+fn source(node: Word) -> Edit {
+    Edit::Add {
+        kind: Kind::File,
+        node,
+    }
+}
+
+fn load(alloc: Global, node: Word) -> Result<Edit, Fail> {
+    let bytes = Bytes::new(POINT.as_bytes().to_vec(alloc)?);
+    Ok(Edit::Load {
+        node,
+        file: Shared::new(alloc, bytes)?,
+    })
+}
+
+fn told(pass: &Pass) -> (u64, Option<Sent>) {
+    (pass.sent(), pass.last())
+}
+
+fn publish_one<R: Wait>(rt: &R, hub: &Hub, pin: Pin, shape: &Shape, item: Stored) -> (Pass, Kept)
+    requires belongs { pin.pass.turn ≡ hub.now }
+    requires made { IsMadeIn (network_of pin.pass.seen) item }
+    ensures pass { result.0.turn ≡ hub.now }
+{
+    hub.publish(rt, pin, item.key.node, shape, &[], &[item])
+}
+
+fn publish_none<R: Wait>(rt: &R, hub: &Hub, pin: Pin, node: NodeId, shape: &Shape) -> (Pass, Kept)
+    requires belongs { pin.pass.turn ≡ hub.now }
+    ensures pass { result.0.turn ≡ hub.now }
+{
+    hub.publish(rt, pin, node, shape, &[], &[])
+}
+
+// Pins, and publishes what the node gives.
+fn publish_whole<R: Wait>(
+    rt: &R,
+    alloc: Global,
+    hub: &Hub,
+    pass: Pass,
+    node: NodeId,
+    shape: &Shape,
+) -> Option<(Pass, Kept)>
+    requires belongs { pass.turn ≡ hub.now }
+    ensures pass { IfSome result (λ r. r.0.turn ≡ hub.now) }
+{
+    let pin = pin(rt, alloc, hub, pass)?;
+    let item = made_in(alloc, &pin, node)?;
+    Some(publish_one(rt, hub, pin, shape, item))
+}
+
+#[test]
+fn a_pass_tells_how_often_it_published_and_what_last(rt: HostRuntime) -> Result<(), Fail> {
+    let s = word("s")?;
+    let shape = Shape {
+        pieces: 2,
+        workers: 3,
+    };
+    let whole = Shape {
+        pieces: 1,
+        workers: 1,
+    };
+    let (hub, root) = begin(rt.alloc(), 9)?;
+    assert_eq!(rt; told(&root), (0, None));
+    let root = wants(&rt, &hub, root, source(s), EditAnswer::Done { at: 1 });
+    let root = wants(
+        &rt,
+        &hub,
+        root,
+        load(rt.alloc(), s)?,
+        EditAnswer::Done { at: 2 },
+    );
+    // one true part
+    let Some((root, kept)) = publish_whole(&rt, rt.alloc(), &hub, root, NodeId(1), &shape) else {
+        return Err("no part")?;
+    };
+    assert_eq!(rt; (kept.kept, kept.stale, kept.unkept), (1, 0, 0));
+    let first = Sent {
+        at: 2,
+        sink: NodeId(1),
+        shape,
+    };
+    assert_eq!(rt; told(&root), (1, Some(first)));
+    // the new pass of a split published nothing
+    let (root, other) = split(&rt, &hub, root);
+    assert_eq!(rt; told(&root), (1, Some(first)));
+    assert_eq!(rt; told(&other), (0, None));
+    // no part, by another pass
+    let Some(pinned) = pin(&rt, rt.alloc(), &hub, other) else {
+        return Err("out of memory")?;
+    };
+    assert_eq!(rt; pinned.pinned().entries.list().len(), 1);
+    let (other, kept) = publish_none(&rt, &hub, pinned, NodeId(7), &whole);
+    assert_eq!(rt; (kept.kept, kept.stale, kept.unkept), (0, 0, 0));
+    let second = Sent {
+        at: 2,
+        sink: NodeId(7),
+        shape: whole,
+    };
+    assert_eq!(rt; told(&other), (1, Some(second)));
+    // a join keeps what the first published
+    let root = join(&hub, root, other);
+    assert_eq!(rt; told(&root), (1, Some(first)));
+    Ok(())
+}
+
+#[test]
+fn a_part_is_stale_once_its_node_was_loaded_anew(rt: HostRuntime) -> Result<(), Fail> {
+    let s = word("s")?;
+    let shape = Shape {
+        pieces: 1,
+        workers: 1,
+    };
+    let (hub, root) = begin(rt.alloc(), 9)?;
+    let root = wants(&rt, &hub, root, source(s), EditAnswer::Done { at: 1 });
+    let root = wants(
+        &rt,
+        &hub,
+        root,
+        load(rt.alloc(), s)?,
+        EditAnswer::Done { at: 2 },
+    );
+    let (mine, its) = split(&rt, &hub, root);
+    let Some(pinned) = pin(&rt, rt.alloc(), &hub, mine) else {
+        return Err("out of memory")?;
+    };
+    let Some(item) = made_in(rt.alloc(), &pinned, NodeId(1)) else {
+        return Err("no part")?;
+    };
+    let its = wants(
+        &rt,
+        &hub,
+        its,
+        load(rt.alloc(), s)?,
+        EditAnswer::Done { at: 3 },
+    );
+    let (mine, kept) = publish_one(&rt, &hub, pinned, &shape, item);
+    assert_eq!(rt; (kept.kept, kept.stale, kept.unkept), (0, 1, 0));
+    assert_eq!(rt; (mine.sent(), its.sent()), (1, 0));
+    Ok(())
+}

@@ -1,0 +1,4 @@
+pub mod RuleLemmas
+pub mod DataOneLemmas
+pub mod OneLemmas
+pub mod ScratchLemmas

@@ -1,5 +1,0 @@
-use Rattle.viz_scratch.proofs.ScratchLemmas.{equal_stamps}
-use Rattle.viz_scratch.proofs.laws.equal_stamps_give_one.Goals as goal
-
-pub returns : goal.returns
-returns c = equal_stamps c.equal_stamps_are_equal_cones.ensures
