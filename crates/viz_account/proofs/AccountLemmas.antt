@@ -206,3 +206,10 @@ served_append m limit pass os more ls behind old mid new p q r s t =
       faults = subst (λ k. RoseBy k (m.faults p) (m.faults r)) (sym (faults_append ls behind)) (rose_more (faults_told ls) (faults_told behind) (m.faults p) (m.faults q) (m.faults r) s.faults t.faults);
       idle = both_idle os more p q r s.idle t.idle;
     }
+
+-- a count that rose by so many rose
+pub rose_by : (n old new : ℕ) → RoseBy (n + 1) old new → Rose old new
+rose_by n old new r = elim r.risen [
+  | inl more ↦ inl (omega (arith, more))
+  | inr most ↦ inr most
+]

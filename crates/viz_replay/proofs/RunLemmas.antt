@@ -15,7 +15,7 @@ use Rattle.viz_words.specs.declared.refusal.ScriptRefusal.{ScriptRefusal}
 use Rattle.viz_report.specs.declared.line.Line.{Line}
 use Rattle.viz_report.specs.declared.line.Line.TheVariants as line
 use Rattle.viz_report.specs.declared.line.Reason.{Reason}
-use Rattle.viz_script_run.proofs.RunLemmas.{rose_by}
+use Rattle.viz_account.proofs.AccountLemmas.{rose_by}
 use Rattle.viz_told.specs.declared.status.Status.{Status}
 use Rattle.viz_told.specs.declared.status.Status.TheVariants as status
 use Rattle.viz_told.specs.Calls.{IsCalled}

@@ -11,11 +11,10 @@ use Rattle.viz_report.specs.declared.line.Line.{Line}
 use Rattle.viz_report.specs.declared.line.Line.TheVariants as line
 use Rattle.viz_report.specs.declared.line.Reason.{Reason}
 use Rattle.viz_words.specs.declared.refusal.ScriptRefusal.{ScriptRefusal}
-use Rattle.viz_script_run.specs.Promises.{DeskAnswered}
-use Rattle.viz_script_run.specs.Told.{refused_script}
+use Rattle.viz_words.specs.Refusals.{refused_script}
 use Rattle.viz_told.specs.declared.status.Status.{Status}
 use Rattle.viz_told.specs.declared.status.Status.TheVariants as status
-use Rattle.viz_told.specs.Calls.{IsCalled}
+use Rattle.viz_told.specs.Calls.{IsCalled, HasAnswered}
 use Rattle.viz_told.specs.Lines.{no_port_line, read_fault_line}
 use Rattle.viz_told.specs.Puts.{GainsLine, PutsOrBreaks, EndsInScript}
 use Rattle.viz_replay.specs.Replay.{Replay, asked, IsRefusal, IsUpdated}
@@ -52,7 +51,7 @@ pub record TellsRefusals {P O : Type 0} (m : port.Ghosts P) (o : out.Ghosts O) (
     (before after : O) (ended : Status) : Type 0 where
   pub no_port : old ≡ [] → EndsInScript o no_port_line before after ended
   pub journal : (answer : ReadAnswer) (line : ℕ) (r : ScriptRefusal) → IsRefusal answer line r → IsTrue m.tells_calls
-      → DeskAnswered m c.journal answer desk new_desk → (new ≡ old) × EndsInScript o (refused_script line r) before after ended
+      → HasAnswered m c.journal answer desk new_desk → (new ≡ old) × EndsInScript o (refused_script line r) before after ended
 
 -- a run that answers Fault: the read of the journal failed, and that was told; or the sink was updated, and the write of its file
 -- failed, or the put of its line

@@ -5,7 +5,7 @@ use Rattle.viz_report.specs.declared.line.Line.{Line}
 use Rattle.viz_report.specs.declared.line.Line.TheVariants as line
 use Rattle.viz_report.specs.declared.line.Reason.{Reason}
 use Rattle.viz_report.specs.Words.{reason_text}
-use Rattle.viz_script_run.specs.Told.{refused_script}
+use Rattle.viz_words.specs.Refusals.{refused_script}
 use Rattle.viz_told.specs.declared.status.Status.{Status}
 use Rattle.viz_told.specs.declared.status.Status.TheVariants as status
 use Rattle.viz_told.specs.Lines.{no_port_line, read_fault_line, write_fault_line, memory_line}

@@ -9,8 +9,8 @@ use std::alloc::{AllocError, Global};
 use viz_base::Bytes;
 use viz_lex::put_whole;
 use viz_report::{Line, Reason, put_reason};
-use viz_script_run::refused_line as refused_journal;
 use viz_told::{Status, Tells, Text, memory_line, no_port_line, read_fault_line, write_fault_line};
+use viz_words::refused_line as refused_journal;
 
 /// The line of a written file.
 #[tactic(auto, unfolding(crate::specs::Told::file_line))]

@@ -18,16 +18,18 @@ use Rattle.viz_history.specs.declared.entry.Entry.{Entry}
 use Rattle.viz_script.specs.Orders.{Asked as Command}
 use Rattle.viz_script.specs.Script.{script_of, phase_limit}
 use Rattle.viz_words.specs.declared.refusal.ScriptRefusal.{ScriptRefusal}
+use Rattle.viz_words.specs.Refusals.{refused_script}
 use Rattle.viz_report.specs.declared.line.Line.{Line}
 use Rattle.viz_report.specs.declared.line.Line.TheVariants as line
 use Rattle.viz_report.specs.declared.line.Row.{Row}
 use Rattle.viz_report.specs.Report.{rows_text}
 use Rattle.viz_account.specs.Account.{faults_told, RoseBy, AreActors}
+use Rattle.viz_account.proofs.AccountLemmas.{rose_by}
 use Rattle.viz_script_run.specs.declared.ran.Ran.{Ran}
 use Rattle.viz_script_run.specs.declared.ran.Ran.TheVariants as ran
 use Rattle.viz_actor.specs.Groups.{actors_over}
 use Rattle.viz_script_run.specs.Deeds.{Deed, Nothing, Asked, Kept, IsAccounted, IsServed, IsEndOfScript, IsRan, calls_of, is_written}
-use Rattle.viz_script_run.specs.Told.{text_of, refused_script, is_fault, has_memory, has_fault, has_refused, served_status, status_of, telling_of}
+use Rattle.viz_script_run.specs.Told.{text_of, is_fault, has_memory, has_fault, has_refused, served_status, status_of, telling_of}
 use Rattle.viz_told.specs.declared.status.Status.{Status}
 use Rattle.viz_told.specs.declared.status.Status.TheVariants as status
 use Rattle.viz_told.specs.Calls.{IsCalled}
@@ -194,12 +196,6 @@ one_fault (line.File at cells points ran ∷ ls) e = one_fault ls e
 one_fault (line.Audit at sides two lone border ∷ ls) e = one_fault ls e
 one_fault (line.Refused reason at ∷ ls) e = one_fault ls e
 one_fault (line.Memory ∷ ls) e = one_fault ls e
-
-pub rose_by : (n old new : ℕ) → RoseBy (n + 1) old new → Rose old new
-rose_by n old new r = elim r.risen [
-  | inl more ↦ inl (omega (arith, more))
-  | inr most ↦ inr most
-]
 
 any_flat : (xs ys : List Line) → list_any is_fault (xs ++ ys) ≡ true → (list_any is_fault xs ≡ true) ⊎ (list_any is_fault ys ≡ true)
 any_flat xs ys e = or_cases (list_any is_fault xs) (list_any is_fault ys) (sym (list_any-append is_fault xs ys) ∙ e)

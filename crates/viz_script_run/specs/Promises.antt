@@ -1,9 +1,8 @@
 -- What a run of a script promises of its status, its text, its calls and the files (docs/FORMATS.md, "Report").
-use Rattle.std.specs.Prelude.{◌≡◌, ◌≢◌, ℕ, ◌+◌, true, false, List, [], ◌∷◌, ◌++◌, ◌⊎◌, All, slice_get, Some, Ok, Err, IsTrue}
+use Rattle.std.specs.Prelude.{◌≡◌, ◌≢◌, ℕ, ◌+◌, true, false, List, [], ◌∷◌, ◌⊎◌, All, slice_get, Some, Ok, Err, IsTrue}
 use Rattle.viz_base.specs.Faults.{Rose}
 use Rattle.viz_base.specs.declared.port.Port as port
 use Rattle.viz_base.specs.declared.out.Out as out
-use Rattle.viz_base.specs.declared.call.Call.TheVariants.{Read}
 use Rattle.viz_base.specs.declared.call.ReadAnswer.{ReadAnswer}
 use Rattle.viz_base.specs.declared.call.ReadAnswer.TheVariants as read
 use Rattle.viz_base.specs.declared.call.WriteAnswer.{WriteAnswer}
@@ -16,11 +15,11 @@ use Rattle.viz_report.specs.Report.{rows_text}
 use Rattle.viz_actor.specs.Groups.{actors_over}
 use Rattle.viz_told.specs.declared.status.Status.{Status}
 use Rattle.viz_told.specs.declared.status.Status.TheVariants as status
-use Rattle.viz_told.specs.Calls.{IsCalled}
+use Rattle.viz_told.specs.Calls.{IsCalled, HasAnswered}
 use Rattle.viz_told.specs.Lines.{read_fault_line}
 use Rattle.viz_told.specs.Puts.{GainsLine, PutsOrBreaks, EndsInScript}
 use Rattle.viz_script_run.specs.Deeds.{Deed, Nothing, Asked, Kept, calls_of, bytes_of, IsAccounted, IsServed}
-use Rattle.viz_script_run.specs.Told.{refused_script, served_status, has_memory, has_fault}
+use Rattle.viz_script_run.specs.Told.{served_status, has_memory, has_fault}
 
 -- ---- scripts that are refused
 
@@ -37,16 +36,12 @@ IsScriptRefused m o script journal desk new_desk old new before after =
     (answer : ReadAnswer) × (line : ℕ) × (r : ScriptRefusal) × IsRefusal (actors_over old) answer line r
     × IsCalled m (calls_of script journal (Asked answer)) desk new_desk × (new ≡ old) × PutsOrBreaks o (refused_script line r) before after
 
--- the desk was asked for this file alone, and answered so
-abbrev pub DeskAnswered : {P : Type 0} → port.Ghosts P → List ℕ → ReadAnswer → P → P → Type 0
-DeskAnswered m name answer desk new_desk = m.calls new_desk ≡ m.calls desk ++ Read name answer ∷ []
-
 -- where the script's read was answered so, and the desk was asked for nothing else, a refusal of it is told; no port was called
 abbrev pub TellsRefusals : {P O : Type 0} → port.Ghosts P → out.Ghosts O
     → List ℕ → P → P → List P → List P → O → O → Status → Type 0
 TellsRefusals m o script desk new_desk old new before after ended =
     (answer : ReadAnswer) (line : ℕ) (r : ScriptRefusal) → IsRefusal (actors_over old) answer line r → IsTrue m.tells_calls
-    → DeskAnswered m script answer desk new_desk → (new ≡ old) × EndsInScript o (refused_script line r) before after ended
+    → HasAnswered m script answer desk new_desk → (new ≡ old) × EndsInScript o (refused_script line r) before after ended
 
 -- ---- scripts that are served
 

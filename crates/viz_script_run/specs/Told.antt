@@ -1,9 +1,7 @@
 -- The text that a run of a script puts, and its status (docs/FORMATS.md, "Report").
-use Rattle.std.specs.Prelude.{ℕ, Bool, true, false, not, cond, ◌||◌, List, ◌++◌, codes}
+use Rattle.std.specs.Prelude.{ℕ, Bool, true, false, not, cond, ◌||◌, List}
 use Rattle.std.specs.List.{list_any}
-use Rattle.std.specs.Fmt.{decimal}
-use Rattle.viz_words.specs.declared.refusal.ScriptRefusal.{ScriptRefusal}
-use Rattle.viz_words.specs.declared.refusal.ScriptRefusal.TheVariants as refusal
+use Rattle.viz_words.specs.Refusals.{refused_script}
 use Rattle.viz_report.specs.declared.line.Line.{Line}
 use Rattle.viz_report.specs.declared.line.Line.TheVariants as line
 use Rattle.viz_report.specs.declared.line.Row.{Row}
@@ -16,21 +14,6 @@ use Rattle.viz_script_run.specs.declared.ran.Ran.{Ran}
 use Rattle.viz_script_run.specs.declared.ran.Ran.TheVariants as ran
 
 -- ---- the text
-
--- the word of a refusal
-abbrev pub refusal_word : ScriptRefusal → List ℕ
-refusal_word refusal.Word = codes "Word"
-refusal_word refusal.Arity = codes "Arity"
-refusal_word refusal.Number = codes "Number"
-refusal_word refusal.Name = codes "Name"
-refusal_word refusal.ActorRange = codes "ActorRange"
-refusal_word refusal.Phase = codes "Phase"
-refusal_word refusal.TooLong = codes "TooLong"
-refusal_word refusal.Edit = codes "Edit"
-
--- the line of a script or journal that is refused
-unfoldable pub refused_script : ℕ → ScriptRefusal → List ℕ
-refused_script line r = codes "script line " ++ decimal line ++ codes " " ++ refusal_word r ++ codes "\n"
 
 -- the text of a run
 abbrev pub text_of : Ran → List ℕ

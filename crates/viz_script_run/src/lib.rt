@@ -11,5 +11,4 @@ mod report;
 mod run;
 mod serving;
 
-pub use report::refused_line;
 pub use run::run_script;

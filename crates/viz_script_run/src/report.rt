@@ -1,47 +1,14 @@
 //! The text that a run of a script puts, and its status (docs/FORMATS.md, "Report").
 
 ghost use Rattle.std.specs.Prelude.{◌≡◌, IfOk};
-ghost use Rattle.viz_script_run.specs.Told.{refusal_word, refused_script, is_memory, is_fault, is_refused, has_memory, has_fault, has_refused, served_status, telling_of};
+ghost use Rattle.viz_script_run.specs.Told.{is_memory, is_fault, is_refused, has_memory, has_fault, has_refused, served_status, telling_of};
 
 use crate::ran::Ran;
 use std::alloc::{AllocError, Global};
 use viz_base::Bytes;
-use viz_lex::put_whole;
 use viz_report::{Line, Row, report_text};
 use viz_told::{Status, Tells, Text, memory_line, read_fault_line};
-use viz_words::ScriptRefusal;
-
-fn refusal_word(refusal: &ScriptRefusal) -> &'static str
-    ensures { result.now ≡ refusal_word refusal.now }
-{
-    match refusal {
-        ScriptRefusal::Word => "Word",
-        ScriptRefusal::Arity => "Arity",
-        ScriptRefusal::Number => "Number",
-        ScriptRefusal::Name => "Name",
-        ScriptRefusal::ActorRange => "ActorRange",
-        ScriptRefusal::Phase => "Phase",
-        ScriptRefusal::TooLong => "TooLong",
-        ScriptRefusal::Edit => "Edit",
-    }
-}
-
-/// The line of a script or journal that is refused.
-#[tactic(auto, unfolding(crate::specs::Told::refused_script))]
-pub fn refused_line(
-    alloc: Global,
-    line: u32,
-    refusal: &ScriptRefusal,
-) -> Result<Vec<u8>, AllocError>
-    ensures { IfOk result (λ text. text.items ≡ refused_script line refusal.now) }
-{
-    let mut text = Vec::from_slice(alloc, b"script line ")?;
-    put_whole(&mut text, i128::from(line))?;
-    text.push(b' ')?;
-    text.extend_from_slice(refusal_word(refusal).as_bytes())?;
-    text.push(b'\n')?;
-    Ok(text)
-}
+use viz_words::refused_line;
 
 fn is_memory(line: &Line) -> bool
     ensures { result ≡ is_memory line.now }

@@ -47,3 +47,7 @@ pub record IsCalled {P : Type 0} (m : port.Ghosts P) (made : List Call) (old new
   pub cause : HasFailed made → Rose (m.faults old) (m.faults new)
   pub later : m.faults old ≤ m.faults new
   pub limit : m.limit new ≡ m.limit old
+
+-- a port was asked for this file alone, and answered so
+abbrev pub HasAnswered : {P : Type 0} → port.Ghosts P → List ℕ → ReadAnswer → P → P → Type 0
+HasAnswered m name answer old new = m.calls new ≡ m.calls old ++ Read name answer ∷ []

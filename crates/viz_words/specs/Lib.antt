@@ -6,4 +6,5 @@ pub mod Tables
 pub mod Gives
 pub mod Commands
 pub mod Edits
+pub mod Refusals
 pub mod Steps

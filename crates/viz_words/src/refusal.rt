@@ -1,9 +1,11 @@
 //! Why a script or a journal isn't read.
 
-ghost use Rattle.std.specs.Prelude.{◌≡◌};
+ghost use Rattle.std.specs.Prelude.{◌≡◌, IfOk};
+ghost use Rattle.viz_words.specs.Refusals.{refusal_word, refused_script};
 
-use std::alloc::{AllocError, AllocFailed};
+use std::alloc::{AllocError, AllocFailed, Global};
 use thiserror::Error;
+use viz_lex::put_whole;
 
 /// What is wrong with a line; of one line they are asked in the order of docs/FORMATS.md.
 #[derive(Clone, Copy, PartialEq, Eq, Debug, Error)]
@@ -63,4 +65,36 @@ impl<T: Drop> From<AllocFailed<T>> for ScriptStop {
     fn from(_error: AllocFailed<T>) -> ScriptStop {
         ScriptStop::Memory
     }
+}
+
+fn refusal_word(refusal: &ScriptRefusal) -> &'static str
+    ensures { result.now ≡ refusal_word refusal.now }
+{
+    match refusal {
+        ScriptRefusal::Word => "Word",
+        ScriptRefusal::Arity => "Arity",
+        ScriptRefusal::Number => "Number",
+        ScriptRefusal::Name => "Name",
+        ScriptRefusal::ActorRange => "ActorRange",
+        ScriptRefusal::Phase => "Phase",
+        ScriptRefusal::TooLong => "TooLong",
+        ScriptRefusal::Edit => "Edit",
+    }
+}
+
+/// The line of a script or journal that is refused.
+#[tactic(auto, unfolding(crate::specs::Refusals::refused_script))]
+pub fn refused_line(
+    alloc: Global,
+    line: u32,
+    refusal: &ScriptRefusal,
+) -> Result<Vec<u8>, AllocError>
+    ensures { IfOk result (λ text. text.items ≡ refused_script line refusal.now) }
+{
+    let mut text = Vec::from_slice(alloc, b"script line ")?;
+    put_whole(&mut text, i128::from(line))?;
+    text.push(b' ')?;
+    text.extend_from_slice(refusal_word(refusal).as_bytes())?;
+    text.push(b'\n')?;
+    Ok(text)
 }
