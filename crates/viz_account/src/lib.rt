@@ -20,6 +20,3 @@ pub use laws::{
 };
 pub use updating::{update, word_text};
 pub use viz_report::{Line, Reason};
-
-#[cfg(test)]
-mod tests;

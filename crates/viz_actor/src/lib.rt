@@ -23,8 +23,3 @@ pub use script::{Served, serve_script};
 pub use serving::serve_steps;
 pub use updating::{audit_node, update};
 pub use viz_account::{Answer, AuditAnswer};
-
-#[cfg(test)]
-mod script_tests;
-#[cfg(test)]
-mod updating_tests;

@@ -17,6 +17,3 @@ pub use laws::own_entries_are_counted;
 pub use machine::Core;
 pub use pinned::Pinned;
 pub use publishing::Kept;
-
-#[cfg(test)]
-mod tests;

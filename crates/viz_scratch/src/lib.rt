@@ -19,6 +19,3 @@ pub use evaluation::scratch;
 pub use laws::files_are_one;
 pub use stored::stored_whole;
 pub use written::{file_text, style_with, text_of, text_with};
-
-#[cfg(test)]
-mod tests;

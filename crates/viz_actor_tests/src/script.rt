@@ -3,13 +3,13 @@
 ghost use Rattle.std.specs.Prelude.{◌≡◌};
 ghost use Rattle.viz_actor.specs.Groups.{actors_over};
 
-use crate::updating_tests::CORNER;
-use crate::{Served, serve_script};
+use crate::updating::CORNER;
 use std::alloc::Global;
 use std::process::Abort;
 use std::sync::Wait;
 use std::test::Fail;
 use std::thread::Threads;
+use viz_actor::{Served, serve_script};
 use viz_base::{ACTORS, Bytes, FILE_LIMIT, FailAt, FileEntry, MemoryPort, OpenGate, Word};
 use viz_report::report_text;
 use viz_script::parse;

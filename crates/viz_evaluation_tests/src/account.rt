@@ -1,10 +1,10 @@
 //! Updates and audits of networks, their answers and their lines, counted by hand.
 
-use crate::{Answer, AuditAnswer, audit, update, word_text};
+use crate::story::Story;
 use std::alloc::Global;
-use std::marker::Model;
 use std::process::Abort;
 use std::test::Fail;
+use viz_account::{Answer, AuditAnswer, audit, update, word_text};
 use viz_audit::Counts;
 use viz_base::{Bytes, FILE_LIMIT, FailAt, MemoryPort, Shared, Word};
 use viz_network::{ApplyStop, Cause, Edit, Fault, Kind, Net, Param, Value};
@@ -20,43 +20,6 @@ const SURFACE: &str = "# vtk DataFile Version 3.0\nvizrun fixed 10^-3\nASCII\nDA
     POINTS 7 long\n555 555 555\n1000 555 555\n555 1000 555\n1000 1000 555\n555 555 1000\n\
     1000 555 1000\n555 1000 1000\nPOLYGONS 6 24\n3 1 0 3\n3 5 0 1\n3 3 0 2\n3 2 0 6\n3 4 0 5\n\
     3 6 0 4\nPOINT_DATA 7\nSCALARS scalars long 1\nLOOKUP_TABLE default\n5\n5\n5\n5\n5\n5\n5\n";
-
-// A network and the position of its last edit.
-#[derive(Drop)]
-struct Story {
-    net: Net,
-    at: u32,
-}
-
-impl Model for Story {
-    ghost use Rattle.viz_network.specs.Network.{Network};
-    ghost use Rattle.viz_network.specs.EqualStamps.{IsSound};
-
-    ghost Value = { Network };
-
-    ghost view = { λ story. story.net };
-
-    ghost invariant = { λ story. IsSound story.at story.net };
-}
-
-impl Story {
-    fn new(alloc: Global) -> Story {
-        Story {
-            net: Net::new(alloc),
-            at: 0,
-        }
-    }
-
-    fn apply(&mut self, edit: &Edit) -> Result<(), ApplyStop> {
-        if self.at == u32::MAX {
-            return Err(ApplyStop::Memory);
-        }
-        let at = self.at + 1;
-        let answer = self.net.apply(at, edit);
-        self.at = at;
-        answer
-    }
-}
 
 fn word(text: &str) -> Result<Word, Fail> {
     Ok(Word::new(text.as_bytes()).ok_or("no name")?)

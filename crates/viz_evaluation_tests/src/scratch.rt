@@ -1,50 +1,13 @@
 //! Networks evaluated from scratch: each kind, each fault, and faults beside each other.
 
-use crate::file_text;
+use crate::story::Story;
 use std::alloc::Global;
-use std::marker::Model;
 use std::process::Abort;
 use std::test::Fail;
 use viz_base::{Bytes, NodeId, Shared, Word};
 use viz_lex::{FileFault, FileKind};
 use viz_network::{ApplyStop, Cause, Edit, Fault, Kind, Net, Param, Stop, Value};
-
-// A network and the position of its last edit.
-#[derive(Drop)]
-struct Story {
-    net: Net,
-    at: u32,
-}
-
-impl Model for Story {
-    ghost use Rattle.viz_network.specs.Network.{Network};
-    ghost use Rattle.viz_network.specs.EqualStamps.{IsSound};
-
-    ghost Value = { Network };
-
-    ghost view = { λ story. story.net };
-
-    ghost invariant = { λ story. IsSound story.at story.net };
-}
-
-impl Story {
-    fn new(alloc: Global) -> Story {
-        Story {
-            net: Net::new(alloc),
-            at: 0,
-        }
-    }
-
-    fn apply(&mut self, edit: &Edit) -> Result<(), ApplyStop> {
-        if self.at == u32::MAX {
-            return Err(ApplyStop::Memory);
-        }
-        let at = self.at + 1;
-        let answer = self.net.apply(at, edit);
-        self.at = at;
-        answer
-    }
-}
+use viz_scratch::file_text;
 
 // An edit in plain words.
 #[derive(Clone, Copy, Debug)]

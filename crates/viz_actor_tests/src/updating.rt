@@ -2,12 +2,12 @@
 
 ghost use Rattle.std.specs.Prelude.{◌≡◌, ◌<◌, IfOk};
 
-use crate::{Answer, AuditAnswer, audit_node, update};
 use std::alloc::{AllocError, Global};
 use std::process::Abort;
 use std::sync::Wait;
 use std::test::Fail;
 use std::thread::Threads;
+use viz_actor::{Answer, AuditAnswer, audit_node, update};
 use viz_base::{Bytes, FILE_LIMIT, MemoryPort, OpenGate, Shape, Shared, Word};
 use viz_history::EditAnswer;
 use viz_hub::{Hub, Pass};

@@ -2,12 +2,12 @@
 
 ghost use Rattle.std.specs.Prelude.{◌<◌};
 
-use crate::{Core, EditAnswer, Entry, Pinned};
 use std::alloc::{AllocError, Global};
 use std::marker::Model;
 use std::process::Abort;
 use std::test::Fail;
 use viz_base::Word;
+use viz_history::{Core, EditAnswer, Entry, Pinned};
 use viz_kinds::{Kind, Param, Value};
 use viz_network::{Edit, Refusal};
 
