@@ -11,7 +11,7 @@ mod publishing;
 pub use publishing::{publish_both, publish_one};
 
 #[cfg(test)]
-mod core;
+mod one_pass;
 #[cfg(test)]
 mod passes;
 #[cfg(test)]

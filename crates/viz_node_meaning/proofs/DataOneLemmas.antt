@@ -1,5 +1,5 @@
 -- The data rule of a node has one result.
-use Rattle.std.proofs.Common.{◌≡◌, ℕ, List, Option, None, Some, Result, Ok, Err, refl, sym, ap, subst, ◌∙◌}
+use Rattle.std.proofs.Common.{◌≡◌, ℕ, List, Option, None, Some, Result, Ok, Err, sym, ap, ◌∙◌}
 use Rattle.viz_base.specs.declared.node.Pick.{Pick}
 use Rattle.viz_lex.specs.Rules.{IsDefinite}
 use Rattle.viz_lex.specs.declared.fault.FileFault.{FileFault}
@@ -13,7 +13,6 @@ use Rattle.viz_legacy_read.specs.Reading.{front}
 use Rattle.viz_kinds.specs.declared.settings.Settings.{Settings}
 use Rattle.viz_kinds.specs.declared.settings.Settings.TheVariants as settings
 use Rattle.viz_meaning.specs.WholeImages.{WholeImage, whole_of}
-use Rattle.viz_network.specs.declared.node.Node.{Node}
 use Rattle.viz_network.specs.declared.fault.Cause.{Cause}
 use Rattle.viz_network.specs.declared.fault.Cause.TheVariants.{BadFile}
 use Rattle.viz_node_meaning.specs.declared.information.Information.{Information}

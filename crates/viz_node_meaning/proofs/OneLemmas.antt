@@ -1,7 +1,6 @@
 -- What a node gives is one.
-use Rattle.std.proofs.Common.{◌≡◌, ℕ, List, [], ◌∷◌, Option, None, Some, Result, Ok, Err, refl, sym, ap, subst, ◌∙◌}
+use Rattle.std.proofs.Common.{◌≡◌, Option, None, Some, Result, Ok, Err, sym, ap, subst, ◌∙◌}
 use Rattle.viz_network.specs.declared.node.Node.{Node}
-use Rattle.viz_network.specs.declared.fault.Cause.{Cause}
 use Rattle.viz_network.specs.declared.fault.Fault.{Fault}
 use Rattle.viz_network.specs.Cone.{Cone, Tree, none, empty, fed}
 use Rattle.viz_node_meaning.specs.Rules.{Inputs, NodeRule, IsOne}

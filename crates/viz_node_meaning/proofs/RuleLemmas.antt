@@ -1,5 +1,5 @@
 -- The rules of a node have one result each.
-use Rattle.std.proofs.Common.{◌≡◌, ℕ, ◌⊎◌, List, Option, None, Some, Result, Ok, Err, refl, sym, ap, subst, ◌∙◌}
+use Rattle.std.proofs.Common.{◌≡◌, ℕ, List, Option, None, Some, Result, Ok, Err, refl, sym, ap, ◌∙◌}
 use Rattle.viz_lex.specs.Rules.{IsDefinite}
 use Rattle.viz_lex.specs.declared.fault.FileFault.{FileFault}
 use Rattle.viz_legacy_read.specs.Header.{Header, Heading, header}
@@ -11,7 +11,6 @@ use Rattle.viz_dataset.specs.declared.dataset.Info.TheVariants as info
 use Rattle.viz_extent.specs.Extent.{Bounds}
 use Rattle.viz_kinds.specs.declared.settings.Settings.{Settings}
 use Rattle.viz_kinds.specs.declared.settings.Settings.TheVariants as settings
-use Rattle.viz_network.specs.declared.node.Node.{Node}
 use Rattle.viz_network.specs.declared.fault.Cause.{Cause}
 use Rattle.viz_network.specs.declared.fault.Cause.TheVariants.{BadFile}
 use Rattle.viz_node_meaning.specs.declared.information.Grid.{Grid}

@@ -25,7 +25,6 @@ use Rattle.viz_mesh_meaning.specs.Merge.{merged}
 use Rattle.viz_mesh_meaning.specs.Select.{selections}
 use Rattle.viz_sheet.specs.Sheet.{SheetData}
 use Rattle.viz_meaning.specs.WholeImages.{WholeImage, whole_of, IsOn}
-use Rattle.viz_network.specs.declared.node.Node.{Node}
 use Rattle.viz_network.specs.declared.fault.Cause.{Cause}
 use Rattle.viz_network.specs.declared.fault.Cause.TheVariants.{NoFile, BadFile, TooWide}
 use Rattle.viz_node_meaning.specs.Rules.{Inputs, NodeRule}

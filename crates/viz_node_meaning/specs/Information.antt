@@ -1,5 +1,5 @@
 -- What is known of a node's dataset before its numbers are (VTK User's Guide, "The visualization pipeline": the information pass; docs/FORMATS.md, "What a node gives").
-use Rattle.std.specs.Prelude.{◌≡◌, ℕ, suc, ◌-◌, ◌^◌, Bool, true, false, ◌&&◌, nat_le, nat_eq, int_le, ℤ, pos, ◌*ℤ◌, if◌then◌else◌, min, max, List, [], ◌∷◌, slice_index_or, map, Option, None, Some, Result, Ok, Err}
+use Rattle.std.specs.Prelude.{◌≡◌, ℕ, suc, ◌-◌, ◌^◌, Bool, true, false, ◌&&◌, nat_le, nat_eq, int_le, ℤ, pos, ◌*ℤ◌, if◌then◌else◌, min, max, List, [], ◌∷◌, slice_index_or, Option, None, Some, Result, Ok, Err}
 use Rattle.std.specs.Int.{w128, saturate_signed}
 use Rattle.std.specs.List.{list_any}
 use Rattle.std.specs.Ordering.{int_eq}
@@ -11,12 +11,11 @@ use Rattle.viz_dataset.specs.declared.dataset.Info.{Info}
 use Rattle.viz_dataset.specs.declared.dataset.Info.TheVariants as info
 use Rattle.viz_dataset.specs.declared.dataset.Dataset.{Dataset}
 use Rattle.viz_dataset.specs.declared.dataset.Dataset.TheVariants as dataset
-use Rattle.viz_legacy_read.specs.Reading.{IsImageFile, IsMeshFile, StopsInHeader, ReadsHeader}
-use Rattle.viz_legacy_read.specs.Header.{Header, Heading}
+use Rattle.viz_legacy_read.specs.Reading.{IsMeshFile, StopsInHeader, ReadsHeader}
+use Rattle.viz_legacy_read.specs.Header.{Header}
 use Rattle.viz_legacy_read.specs.Header.Heading.{OfImage as ImageHead}
 use Rattle.viz_kinds.specs.declared.settings.Settings.{Settings}
 use Rattle.viz_kinds.specs.declared.settings.Settings.TheVariants as settings
-use Rattle.viz_network.specs.declared.node.Node.{Node}
 use Rattle.viz_network.specs.declared.fault.Cause.{Cause}
 use Rattle.viz_network.specs.declared.fault.Cause.TheVariants.{Unconnected, WrongInput, NoFile, BadFile, EmptyExtent, GridsDiffer, TooWide}
 use Rattle.viz_node_meaning.specs.declared.information.Lengths.{Lengths}

@@ -5,7 +5,6 @@ use Rattle.viz_network.specs.declared.edit.Edit.{Edit}
 use Rattle.viz_network.specs.declared.fault.Fault.{Fault}
 use Rattle.viz_network.specs.Cone.{Tree, stamp_of}
 use Rattle.viz_network.specs.History.{net_of}
-use Rattle.viz_network.specs.Network.{Network}
 use Rattle.viz_node_meaning.specs.Scratch.{IsScratchOf, IsScratch}
 
 -- equal cones give one dataset, or one fault

@@ -1,5 +1,5 @@
 use Rattle.viz_node_meaning.proofs.ScratchLemmas.{cones_give_one}
 use Rattle.viz_node_meaning.proofs.laws.scratch_is_one.Goals as goal
 
-pub returns-clause-cones : goal.returns-clause-cones
-returns-clause-cones c = cones_give_one c.rules_are_one.ensures.information c.rules_are_one.ensures.data
+pub returns : goal.returns
+returns c = record { cones = cones_give_one c.rules_are_one.ensures.information c.rules_are_one.ensures.data }

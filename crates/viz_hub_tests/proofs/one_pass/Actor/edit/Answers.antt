@@ -1,6 +1,6 @@
 use Rattle.std.proofs.Common.{◌+◌, length, sym, ap, ◌∙◌}
 use Rattle.viz_history.proofs.HistoryLemmas.{own_all}
-use Rattle.viz_hub_tests.proofs.core.Actor.edit.Goals as goal
+use Rattle.viz_hub_tests.proofs.one_pass.Actor.edit.Goals as goal
 
 pub edit-answer-requires : goal.edit-answer-requires
 edit-answer-requires c = record { next = ap (λ n. n + 1) (c.front-count.ensures.value ∙ ap length (sym c.self.invariant)) }
