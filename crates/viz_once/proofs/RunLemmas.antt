@@ -149,9 +149,12 @@ module _ {P : Type 0} (m : port.Ghosts P) (c : Command) where
     script-Run is =
         let o : Outcome = outcome.NoPort in
         let same : found ≡ o = (at status.Script is is_no_script).1 in
-        let none = lacks old new (serves_as o same) in
-        (none.0, none.1, subst (λ (x : Outcome). PutsOrBreaks l (line_of x) before after) same
-        (puts_at l before after ended (telling_of found) status.Script told is is_no_script usage_is_no_script))
+        let none = lacks old new (serves_as o same) in (
+          none.0,
+          none.1,
+          subst (λ (x : Outcome). PutsOrBreaks l (line_of x) before after) same
+              (puts_at l before after ended (telling_of found) status.Script told is is_no_script usage_is_no_script),
+        )
 
     pub no_port-Run : old ≡ [] → EndsInScript l no_port_line before after ended
     no_port-Run none =

@@ -78,11 +78,7 @@ fn given_alone(alloc: Global, node: Node) -> Result<Shared<Dataset>, Stop>
 }
 
 // What a node gives whose first port is fed. What feeds it is given up.
-fn given_behind(
-    alloc: Global,
-    node: &Node,
-    input: Shared<Dataset>,
-) -> Result<Shared<Dataset>, Stop>
+fn given_behind(alloc: Global, node: &Node, input: Shared<Dataset>) -> Result<Shared<Dataset>, Stop>
     requires sound { IsSound input }
     ensures value { Answers (IsMade DataRule node.now (Ok (fed_by input))) result }
     ensures sound { IfOk result IsSound }

@@ -1,7 +1,7 @@
 //! The command that reads one file, filters it and writes one: from its words to the status.
 //!
-//! Contract: a run has one outcome, and is accounted for by it: what was called and written, the one
-//! line put, and the status. What it writes or is refused for is what one fixed history gives,
+//! Contract: a run has one outcome, and is accounted for by it: what was called and written, the
+//! one line put, and the status. What it writes or is refused for is what one fixed history gives,
 //! evaluated from scratch: a source with the file's bytes, and the filter behind it.
 //! Definitions: `specs/FixedHistory.antt`, `specs/Account.antt` and the files that they name; the
 //! rules are those of docs/FORMATS.md, "Report".

@@ -18,8 +18,8 @@ pub struct Made {
     pub points: u64,
 }
 
-/// What is made of a file's bytes, which are given up before the filter works. The dataset is counted
-/// first, since it is given up while its text is made.
+/// What is made of a file's bytes, which are given up before the filter works. The dataset is
+/// counted first, since it is given up while its text is made.
 pub fn made_of(alloc: Global, filter: &Filter, bytes: Bytes) -> Result<Made, Stop>
     ensures { Makes filter.now bytes result }
 {

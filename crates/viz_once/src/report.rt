@@ -8,9 +8,7 @@ use std::alloc::{AllocError, Global};
 use viz_base::Bytes;
 use viz_lex::put_whole;
 use viz_report::{Reason, put_reason};
-use viz_told::{
-    Status, Tells, Text, memory_line, no_port_line, read_fault_line, write_fault_line,
-};
+use viz_told::{Status, Tells, Text, memory_line, no_port_line, read_fault_line, write_fault_line};
 
 /// The line of a refusal.
 #[tactic(auto, unfolding(crate::specs::Report::refused_line))]

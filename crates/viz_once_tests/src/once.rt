@@ -153,7 +153,7 @@ fn a_mesh_has_no_threshold_by_its_header_alone(rt: HostRuntime) -> Result<(), Fa
         STRIP,
         NO_CELLS,
         FIRST_SURFACE,
-        // Faults behind the header: no number of points, points of floats, an index past the points.
+        // Faults behind the header: no number of points, points of floats, an index past them.
         CUT,
         FLOAT_POINTS,
         past.as_str(),

@@ -9,7 +9,8 @@ use Rattle.viz_make.specs.Make.{Make as Making}
 use Rattle.viz_make.specs.Size.{volume_extent}
 use Rattle.viz_replay.specs.Replay.{Replay}
 
--- a command: one file to be read, filtered and written; a script with the name of its journal; the prefix of a journal; or a volume to be made
+-- a command: one file to be read, filtered and written; a script with the name of its journal; the prefix of a journal; or a volume to
+-- be made
 pub data Command : Type 0 where
   Once : OneFile → Command
   Script : List ℕ → List ℕ → Command
