@@ -1,20 +1,22 @@
 -- The file of the filter's node, and whose fault it is where there is none.
-use Rattle.std.proofs.Common.{◌≡◌, ◌⊎◌, ℕ, List, Some, Result, Ok, Err, refl, sym, ap, subst, ◌∙◌, inl, inr}
+use Rattle.std.proofs.Common.{◌≡◌, ◌⊎◌, ℕ, List, Some, Result, Ok, Err, refl, sym, ap, ap₂, subst, ◌∙◌, inl, inr}
 use Rattle.viz_base.specs.declared.node.NodeId.{NodeId}
 use Rattle.viz_dataset.specs.declared.dataset.Dataset.{Dataset}
 use Rattle.viz_network.specs.declared.fault.Fault.{Fault}
+use Rattle.viz_network.specs.declared.fault.Stop.{Stop}
+use Rattle.viz_network.specs.declared.node.Node.{Node}
 use Rattle.viz_network.specs.Cone.{Tree, cone_of}
 use Rattle.viz_node_meaning.specs.declared.information.Information.{Information}
 use Rattle.viz_node_meaning.specs.Data.{DataRule}
 use Rattle.viz_node_meaning.specs.Fold.{IsGiven}
 use Rattle.viz_node_meaning.specs.Information.{InformationRule}
-use Rattle.viz_node_meaning.specs.Scratch.{IsBehind, IsScratchOf, IsScratch}
+use Rattle.viz_node_meaning.specs.Scratch.{Answers, IsBehind, IsScratchOf, IsScratch}
 use Rattle.viz_scratch.specs.Written.{Style, IsTextOf, IsTextBehind, style_with, style_of}
 use Rattle.viz_once.specs.declared.command.Filter.{Filter}
 use Rattle.viz_once.specs.FixedHistory.{HasNumbers, network_for, source_id, op_id, IsFileFor}
 use Rattle.viz_once.specs.Reasons.{IsFaultFor}
 use Rattle.viz_once.specs.Steps.Nodes.{settings_of, source_node, op_node, name_at, tree_of}
-use Rattle.viz_once.proofs.GivenLemmas.{of_either}
+use Rattle.viz_once.proofs.GivenLemmas.{answers_more, of_either}
 use Rattle.viz_once.proofs.NetworkLemmas.{name_is, cone_is}
 
 module _ (filter : Filter) (bytes : List ℕ) (numbers : HasNumbers filter) where
@@ -27,6 +29,21 @@ module _ (filter : Filter) (bytes : List ℕ) (numbers : HasNumbers filter) wher
 
   scratch_was : (r : Result Dataset Fault) → IsScratch (network_for filter bytes) op_id r → IsScratchOf (Some tree) r
   scratch_was r h = subst (λ t. IsScratchOf t r) (cone_is filter bytes numbers) h
+
+  -- the same of two nodes that were made
+  pub scratch_answers : (src node : Node) → src ≡ source_node bytes → node ≡ op_node filter → (i : Information) → IsGiven InformationRule (Some (tree_of src node)) (Ok i)
+      → (r : Result Dataset Stop) → Answers (IsGiven DataRule (Some (tree_of src node))) r → Answers (IsScratch (network_for filter bytes) op_id) r
+  scratch_answers src node src_is node_is i known r given =
+      let same : tree_of src node ≡ tree = ap₂ tree_of src_is node_is in
+      let k = subst (λ (t : Tree). IsGiven InformationRule (Some t) (Ok i)) same known in
+      let g = subst (λ (t : Tree). Answers (IsGiven DataRule (Some t)) r) same given in
+      answers_more (IsGiven DataRule (Some tree)) (IsScratch (network_for filter bytes) op_id) (λ v h. scratch_is v (Ok i, k, h)) r g
+
+  pub scratch_fault : (src node : Node) → src ≡ source_node bytes → node ≡ op_node filter → (fault : Fault) → IsGiven InformationRule (Some (tree_of src node)) (Err fault)
+      → IsScratch (network_for filter bytes) op_id (Err fault)
+  scratch_fault src node src_is node_is fault known =
+      let same : tree_of src node ≡ tree = ap₂ tree_of src_is node_is in
+      scratch_is (Err fault) (Err fault, subst (λ (t : Tree). IsGiven InformationRule (Some t) (Err fault)) same known, refl)
 
   -- the style of the file is that of the filter's node
   style_is : (style : Style) → style ≡ style_with (settings_of filter) → style ≡ style_of (cone_of (network_for filter bytes) op_id)

@@ -3,6 +3,7 @@ pub mod NumberLemmas
 pub mod NetworkLemmas
 pub mod GivenLemmas
 pub mod FileLemmas
+pub mod MadeLemmas
 pub mod ReasonLemmas
 pub mod ServeLemmas
 pub mod EndLemmas

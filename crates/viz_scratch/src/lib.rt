@@ -3,7 +3,7 @@
 //!
 //! Contract: `scratch` gives the dataset of the definitions or its first fault, and `file_text` the
 //! text of the dataset or why there is none, of which `cell_count` and `point_count` tell what is
-//! written; a node has one file. Definitions: those of `viz_node_meaning`, and `specs/Written.antt`.
+//! written; a node has one file. Definitions: those of `viz_node_meaning`, `specs/Written.antt`.
 #![tactic(auto)]
 
 mod counts;
