@@ -1,9 +1,9 @@
 #!/usr/bin/env python3
 """A plain contour, beside the one that is proved: no flags, no ranks by search, fractions for points.
 
-It makes the surface of the image of 4 x 4 x 4 points in crates/viz_once/src/contour_texts.rt, and
+It makes the surface of the image of 4 x 4 x 4 points in crates/viz_once_tests/src/contour_texts.rt, and
 compares it with the text there; and it counts the contour of 32 x 32 x 32 points and the sides of
-its triangles, whose numbers tests of viz_once, viz_surface_law and viz_session want. It makes the
+its triangles, whose numbers tests of viz_once_tests, viz_surface_law and viz_session want. It makes the
 volume of the number 7, of so many points too, and counts what crates/viz_session/src/tests/volumes.rt
 wants of it.
 """
@@ -119,7 +119,7 @@ def report_of(number, sizes):
 
 
 def main():
-    texts = constants("crates/viz_once/src/contour_texts.rt")
+    texts = constants("crates/viz_once_tests/src/contour_texts.rt")
     image = texts["MIXED_FILE"]
     sizes = numbers(image, "DIMENSIONS", 3)
     values = numbers(image, "LOOKUP_TABLE default", sizes[0] * sizes[1] * sizes[2])

@@ -219,7 +219,7 @@ def constant(page, name):
 
 def check_contour():
     """The contour of one command: the first row of the tests of contours."""
-    page = text("crates/viz_once/src/contour_texts.rt")
+    page = text("crates/viz_once_tests/src/contour_texts.rt")
     front, values, level, report, surface = (
         constant(page, name) for name in
         ("CUBE", "FIRST_VALUES", "FIRST_LEVEL", "FIRST_REPORT", "FIRST_SURFACE"))

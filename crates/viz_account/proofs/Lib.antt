@@ -3,7 +3,6 @@ pub mod AccountLemmas
 mod MadeLemmas
 mod AboveLemmas
 mod RanLemmas
-mod CountLemmas
 pub mod ScriptLemmas
 mod OnceLemmas
 mod NumberLemmas

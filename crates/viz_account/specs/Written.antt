@@ -3,22 +3,12 @@ use Rattle.std.specs.Prelude.{◌≡◌, ◌↔◌, ℕ, Bool, true, false, List
 use Rattle.std.specs.List.{Contains}
 use Rattle.std.specs.List.Sorted.{IsStrictlySortedBy}
 use Rattle.std.specs.Ordering.{nat_cmp}
-use Rattle.viz_dataset.specs.declared.dataset.Dataset.{Dataset}
 use Rattle.viz_kinds.specs.declared.settings.Settings.{Settings}
 use Rattle.viz_kinds.specs.declared.settings.Settings.TheVariants.{Writer}
-use Rattle.viz_mesh_write.specs.Counts.{cells_written, points_written}
 use Rattle.viz_network.specs.declared.node.Node.{Node}
 use Rattle.viz_network.specs.Network.{Network, node_of}
 use Rattle.viz_network.specs.Cone.{cone_of, has_node}
-use Rattle.viz_node_meaning.specs.Scratch.{IsScratch}
-use Rattle.viz_scratch.specs.Written.{IsFileOf}
-
--- a node gives a dataset of so many cells and points
-pub record HasCounts (net : Network) (id cells points : ℕ) : Type 0 where
-  pub dataset : Dataset
-  pub given : IsScratch net id (Ok dataset)
-  pub cells_are : cells ≡ cells_written dataset
-  pub points_are : points ≡ points_written dataset
+use Rattle.viz_scratch.specs.Written.{IsFileOf, HasCounts}
 
 -- whether a node only passes on what it is given
 abbrev pub is_writer : Settings → Bool

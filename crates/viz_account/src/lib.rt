@@ -7,7 +7,6 @@
 
 mod answer;
 mod auditing;
-mod counts;
 mod laws;
 mod made;
 mod running;

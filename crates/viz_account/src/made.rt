@@ -7,13 +7,12 @@ ghost use Rattle.viz_scratch.specs.Written.{IsFileOf};
 ghost use Rattle.viz_account.specs.Steps.Made.{IsStop, Makes, MakesNamed};
 
 use crate::answer::Missing;
-use crate::counts::{cell_count, point_count};
 use crate::running::ran;
 use std::alloc::Global;
 use viz_base::{Bytes, NodeId, Shared, Word};
 use viz_dataset::Dataset;
 use viz_network::{Net, Stop};
-use viz_scratch::{scratch, style_with, text_of};
+use viz_scratch::{cell_count, point_count, scratch, style_with, text_of};
 
 /// The text of a node's file, with the numbers that its line tells.
 #[derive(Debug, Drop)]

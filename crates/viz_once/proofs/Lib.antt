@@ -1,10 +1,11 @@
 pub mod CommandLemmas
-pub mod ContourLemmas
-pub mod CountLemmas
-pub mod StopLemmas
+pub mod NumberLemmas
+pub mod NetworkLemmas
+pub mod GivenLemmas
+pub mod FileLemmas
+pub mod MadeLemmas
+pub mod ReasonLemmas
 pub mod ServeLemmas
-pub mod CauseLemmas
-pub mod MakeLemmas
 pub mod EndLemmas
 pub mod RunLemmas
 pub mod StandardFacts

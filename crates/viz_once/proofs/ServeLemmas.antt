@@ -1,5 +1,5 @@
 -- What a read and a write at a port come to together.
-use Rattle.std.proofs.Common.{◌≡◌, ℕ, ◌≤◌, List, [], ◌∷◌, ◌++◌, Some, subst}
+use Rattle.std.proofs.Common.{◌≡◌, ℕ, ◌≤◌, List, [], ◌∷◌, ◌++◌, Some}
 use Rattle.std.specs.Prelude.{IsTrue}
 use Rattle.viz_base.specs.Faults.{Rose}
 use Rattle.viz_base.specs.Files.{SameFiles, SameOthers}
@@ -7,10 +7,8 @@ use Rattle.viz_base.specs.declared.port.Port as port
 use Rattle.viz_base.specs.declared.call.Call.TheVariants.{Read, Write}
 use Rattle.viz_base.specs.declared.call.ReadAnswer.TheVariants as read
 use Rattle.viz_base.specs.declared.call.WriteAnswer.{WriteAnswer}
-use Rattle.viz_dataset.specs.declared.dataset.Dataset.{Dataset}
 use Rattle.viz_once.specs.Account.{Asked, Answered, calls_of}
 use Rattle.viz_once.specs.Command.{Command}
-use Rattle.viz_once.specs.Outputs.{output_text}
 use Rattle.viz_told.specs.Calls.{LeavesText, HasFailed, IsCalled}
 use Rattle.viz_told.proofs.CallLemmas.{behind_read}
 
@@ -24,21 +22,20 @@ module _ {P : Type 0} (m : port.Ghosts P) (c : Command) (p r q : P) (bytes : Lis
     (after : m.faults r ≤ m.faults q)
     (same_after : m.limit q ≡ m.limit r) where
   -- a write that was answered
-  pub written : (d : Dataset) (answer : WriteAnswer) (text : List ℕ) → text ≡ output_text c.filter d
+  pub written : (text : List ℕ) (answer : WriteAnswer)
       → (IsTrue m.tells_calls → m.calls q ≡ m.calls r ++ Write c.output text answer ∷ [])
       → (IsTrue m.tells_files → LeavesText c.output text answer (m.files q))
       → (IsTrue m.tells_files → SameOthers c.output (m.files r) (m.files q))
       → (HasFailed (Write c.output text answer ∷ []) → Rose (m.faults r) (m.faults q))
-      → IsCalled m (calls_of c (Answered bytes d answer)) p q
-  written d answer text is told left others failed =
-      subst (λ (x : List ℕ). IsCalled m (Read c.input (read.Given bytes) ∷ Write c.output x answer ∷ []) p q) is
-      (behind_read m p r q c.input bytes asked given kept later same (Write c.output text answer ∷ []) (record {
+      → IsCalled m (calls_of c (Answered bytes text answer)) p q
+  written text answer told left others failed =
+      behind_read m p r q c.input bytes asked given kept later same (Write c.output text answer ∷ []) (record {
         calls = told;
         files = λ t. (left t, others t);
         cause = failed;
         later = after;
         limit = same_after;
-      }))
+      })
 
   -- a write for which memory ran out
   pub unwritten : (IsTrue m.tells_calls → m.calls q ≡ m.calls r ++ [])

@@ -1,4 +1,4 @@
--- The words of a command (docs/FORMATS.md, "Words of a command").
+-- The words of a command of one file (docs/FORMATS.md, "Words of a command").
 use Rattle.std.specs.Prelude.{ℕ, List, [], ◌∷◌, codes, Option, Some, None, option_map, option_and_then, if◌then◌else◌}
 use Rattle.std.specs.Str.{bytes_eq}
 use Rattle.viz_words.specs.Names.{is_file_name}
@@ -29,10 +29,9 @@ filter_of (name ∷ lo ∷ hi ∷ []) =
     else None
 filter_of words = None
 
--- the command that all words are
-unfoldable pub command_of : List (List ℕ) → Option Command
-command_of (verb ∷ input ∷ output ∷ filter) =
-    if bytes_eq verb (codes "once")
-    then option_and_then (λ i. option_and_then (λ o. option_map (λ f. record { input = i; output = o; filter = f }) (filter_of filter)) (file_name_of output)) (file_name_of input)
-    else None
-command_of words = None
+-- the command that the words behind `once` are: IN OUT and those of a filter
+unfoldable pub once_of : List (List ℕ) → Option Command
+once_of (input ∷ output ∷ filter) =
+    option_and_then (λ i. option_and_then (λ o. option_map (λ f. record { input = i; output = o; filter = f })
+    (filter_of filter)) (file_name_of output)) (file_name_of input)
+once_of words = None

@@ -1,8 +1,9 @@
+pub mod FixedHistory
 pub mod Account
 pub mod Promises
-pub mod Causes
+pub mod Reasons
 pub mod Report
 pub mod Command
-pub mod Outputs
 pub mod Commands
-pub mod Made
+pub mod Laws
+pub mod Steps

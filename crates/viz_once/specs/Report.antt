@@ -1,47 +1,45 @@
 -- The line that a run puts, and its status (docs/FORMATS.md, "Report").
 use Rattle.std.specs.Prelude.{ℕ, Bool, true, false, List, ◌++◌, codes}
 use Rattle.std.specs.Fmt.{decimal}
-use Rattle.viz_once.specs.declared.outcome.Cause.{Cause}
+use Rattle.viz_report.specs.declared.line.Reason.{Reason}
+use Rattle.viz_report.specs.Words.{reason_text}
+use Rattle.viz_told.specs.declared.status.Status.{Status}
+use Rattle.viz_told.specs.declared.status.Status.TheVariants as status
+use Rattle.viz_told.specs.Lines.{no_port_line, read_fault_line, write_fault_line, memory_line}
+use Rattle.viz_told.specs.Told.{Telling}
 use Rattle.viz_once.specs.declared.outcome.Failed.TheVariants as call
 use Rattle.viz_once.specs.declared.outcome.Outcome.{Outcome}
 use Rattle.viz_once.specs.declared.outcome.Outcome.TheVariants as outcome
-use Rattle.viz_once.specs.Causes.{cause_text}
-use Rattle.viz_told.specs.declared.status.Status.{Status}
-use Rattle.viz_told.specs.declared.status.Status.TheVariants as status
-use Rattle.viz_told.specs.Lines.{usage_line, no_port_line, read_fault_line, write_fault_line, memory_line}
-use Rattle.viz_told.specs.Told.{Telling}
 
 -- a file was written
 unfoldable pub file_line : ℕ → ℕ → List ℕ
 file_line cells points = codes "file cells " ++ decimal cells ++ codes " points " ++ decimal points ++ codes "\n"
 
--- the command is refused
-unfoldable pub refused_line : Cause → List ℕ
-refused_line cause = codes "refused " ++ cause_text cause ++ codes "\n"
+-- the command is refused, in the words that a report has for it
+unfoldable pub refused_line : Reason → List ℕ
+refused_line why = codes "refused " ++ reason_text why ++ codes "\n"
 
 -- the line of an outcome
 abbrev pub line_of : Outcome → List ℕ
-line_of outcome.Usage = usage_line
 line_of outcome.NoPort = no_port_line
 line_of (outcome.Written cells points) = file_line cells points
-line_of (outcome.Refused cause) = refused_line cause
+line_of (outcome.Refused why) = refused_line why
 line_of (outcome.Fault call.Read) = read_fault_line
 line_of (outcome.Fault call.Write) = write_fault_line
 line_of outcome.Memory = memory_line
 
 -- the status where the whole line is put
 abbrev pub status_of : Outcome → Status
-status_of outcome.Usage = status.Usage
 status_of outcome.NoPort = status.Script
 status_of (outcome.Written cells points) = status.Done
-status_of (outcome.Refused cause) = status.Refused
+status_of (outcome.Refused why) = status.Refused
 status_of (outcome.Fault failed) = status.Fault
 status_of outcome.Memory = status.Memory
 
--- whether the line is made, of numbers or of a cause
+-- whether the line is made, of numbers or of a reason
 abbrev pub is_made : Outcome → Bool
 is_made (outcome.Written cells points) = true
-is_made (outcome.Refused cause) = true
+is_made (outcome.Refused why) = true
 is_made o = false
 
 -- what is told of an outcome

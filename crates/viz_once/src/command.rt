@@ -1,7 +1,7 @@
 //! Commands, read by hand from their words (docs/FORMATS.md, "Words of a command").
 
 ghost use Rattle.std.specs.Prelude.{◌≡◌, option_map};
-ghost use Rattle.viz_once.specs.Command.{file_name_of, contour_of, filter_of, command_of};
+ghost use Rattle.viz_once.specs.Command.{file_name_of, contour_of, filter_of, once_of};
 ghost use Rattle.viz_once.specs.Commands.{command_view};
 ghost use Rattle.viz_words.specs.Names.{is_file_name};
 
@@ -80,17 +80,14 @@ fn read_filter(words: &[Bytes]) -> Option<Filter>
     Some(Filter::Threshold { lo, hi })
 }
 
-/// The command that all words are.
-#[tactic(auto, unfolding(crate::specs::Command::command_of))]
-pub fn command(words: &[Bytes]) -> Option<Once<'_>>
-    ensures { option_map command_view result ≡ command_of words.now }
+/// The command that the words behind `once` are: IN OUT and those of a filter.
+#[tactic(auto, unfolding(crate::specs::Command::once_of))]
+pub fn read_once(words: &[Bytes]) -> Option<Once<'_>>
+    ensures { option_map command_view result ≡ once_of words.now }
 {
-    let [verb, input, output, behind @ ..] = words else {
+    let [input, output, behind @ ..] = words else {
         return None;
     };
-    if verb.list() != b"once".as_slice() {
-        return None;
-    }
     let input = file_name_text(input.list())?;
     let output = file_name_text(output.list())?;
     let filter = read_filter(behind)?;

@@ -1,32 +1,22 @@
 //! The command that reads one file, filters it and writes one: from its words to the status.
 //!
-//! Contract: a run has one outcome of its words, and is accounted for by it: what was called and
-//! written, the one line put, and the status. Definitions: `specs/Account.antt` and the files that it
-//! names; the rules are those of docs/FORMATS.md, "Report".
+//! Contract: a run has one outcome, and is accounted for by it: what was called and written, the
+//! one line put, and the status. What it writes or is refused for is what one fixed history gives,
+//! evaluated from scratch: a source with the file's bytes, and the filter behind it.
+//! Definitions: `specs/FixedHistory.antt`, `specs/Account.antt` and the files that they name; the
+//! rules are those of docs/FORMATS.md, "Report".
 #![tactic(auto)]
 
 mod command;
-mod contour;
-mod entry;
+mod evaluation;
+mod laws;
 mod made;
-mod once;
+mod nodes;
 mod outcome;
 mod report;
-mod stop;
-mod threshold;
+mod run;
+mod serving;
 
-pub use command::file_name_text;
-pub use entry::run_once;
-
-#[cfg(test)]
-mod contour_tests;
-#[cfg(test)]
-mod contour_texts;
-#[cfg(test)]
-mod image_files;
-#[cfg(test)]
-mod mesh_files;
-#[cfg(test)]
-mod runs;
-#[cfg(test)]
-mod tests;
+pub use command::{Filter, Once, file_name_text, read_once};
+pub use laws::histories_are_legal;
+pub use run::run_once;

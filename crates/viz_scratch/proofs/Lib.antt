@@ -1,3 +1,4 @@
 pub mod TableLemmas
 pub mod ReaderLemmas
 pub mod ScratchLemmas
+pub mod CountLemmas

@@ -10,6 +10,7 @@ use Rattle.viz_image_write.specs.declared.stop.WriteStop.{WriteStop}
 use Rattle.viz_image_write.specs.declared.stop.WriteStop.TheVariants as write
 use Rattle.viz_image_write.specs.declared.style.Style.{Style as Writers}
 use Rattle.viz_image_write.specs.ImageText.{image_text}
+use Rattle.viz_mesh_write.specs.Counts.{cells_written, points_written}
 use Rattle.viz_mesh_write.specs.Fits.{FitCounts, FitNumbers}
 use Rattle.viz_mesh_write.specs.MeshText.{mesh_text}
 use Rattle.viz_network.specs.declared.node.Node.{Node}
@@ -72,6 +73,13 @@ style_of (Some t) = style_with t.0.settings
 -- the file of a node: the text of its dataset, or the fault of it or of its writing
 abbrev pub IsFileOf : Network → ℕ → Result (List ℕ) Fault → Type 0
 IsFileOf net id r = (s : Result Dataset Fault) × IsScratch net id s × IsTextBehind (style_of (cone_of net id)) id s r
+
+-- a node gives a dataset of so many cells and points
+pub record HasCounts (net : Network) (id cells points : ℕ) : Type 0 where
+  pub dataset : Dataset
+  pub given : IsScratch net id (Ok dataset)
+  pub cells_are : cells ≡ cells_written dataset
+  pub points_are : points ≡ points_written dataset
 
 -- a style of the writers
 abbrev pub style_seen : Writers → Style

@@ -2,10 +2,11 @@
 //! definitions over all that lies upstream of it.
 //!
 //! Contract: `scratch` gives the dataset of the definitions or its first fault, and `file_text` the
-//! text of the dataset or why there is none; a node has one file. Definitions: those of
-//! `viz_node_meaning`, and `specs/Written.antt`.
+//! text of the dataset or why there is none, of which `cell_count` and `point_count` tell what is
+//! written; a node has one file. Definitions: those of `viz_node_meaning`, `specs/Written.antt`.
 #![tactic(auto)]
 
+mod counts;
 mod datasets;
 mod evaluation;
 mod gathered;
@@ -15,6 +16,7 @@ mod readers;
 mod stored;
 mod written;
 
+pub use counts::{cell_count, point_count};
 pub use evaluation::scratch;
 pub use laws::files_are_one;
 pub use stored::stored_whole;

@@ -1,8 +1,7 @@
--- The words of commands on scripts, journals and volumes (docs/FORMATS.md, "Words of a command").
-use Rattle.std.specs.Prelude.{◌≡◌, ℕ, List, [], ◌∷◌, codes, Option, None, Some, Result, Ok, Err, option_map, option_and_then, if◌then◌else◌}
+-- The words of a command (docs/FORMATS.md, "Words of a command").
+use Rattle.std.specs.Prelude.{ℕ, List, [], ◌∷◌, codes, Option, None, Some, Result, Ok, Err, option_map, option_and_then, if◌then◌else◌}
 use Rattle.std.specs.Str.{bytes_eq}
-use Rattle.viz_once.specs.Command.{file_name_of}
-use Rattle.viz_once.specs.Command as once
+use Rattle.viz_once.specs.Command.{Command as OneFile, file_name_of, once_of}
 use Rattle.viz_words.specs.declared.refusal.ScriptRefusal.{ScriptRefusal}
 use Rattle.viz_words.specs.Names.{named_in, is_node_name, is_file_name}
 use Rattle.viz_words.specs.Numbers.{natural_in}
@@ -10,8 +9,10 @@ use Rattle.viz_make.specs.Make.{Make as Making}
 use Rattle.viz_make.specs.Size.{volume_extent}
 use Rattle.viz_replay.specs.Replay.{Replay}
 
--- a command on more than one file: a script with the name of its journal; the prefix of a journal; or a volume to be made
+-- a command: one file to be read, filtered and written; a script with the name of its journal; the prefix of a journal; or a volume to
+-- be made
 pub data Command : Type 0 where
+  Once : OneFile → Command
   Script : List ℕ → List ℕ → Command
   Scratch : Replay → Command
   Make : Making → Command
@@ -48,14 +49,11 @@ make_of (number ∷ x ∷ y ∷ z ∷ output ∷ []) = option_and_then (λ n. op
     (file_name_of output)) (volume_extent a b c)) (size_in z)) (size_in y)) (size_in x)) (given (natural_in 0 2147483647 number))
 make_of words = None
 
--- the command that all words are, where they aren't of one file
+-- the command that all words are
 unfoldable pub command_of : List (List ℕ) → Option Command
 command_of [] = None
 command_of (verb ∷ words) =
-    if bytes_eq verb (codes "run") then script_of words
+    if bytes_eq verb (codes "once") then option_map (λ c. Once c) (once_of words)
+    else if bytes_eq verb (codes "run") then script_of words
     else if bytes_eq verb (codes "scratch") then scratch_of words
     else if bytes_eq verb (codes "make") then make_of words else None
-
--- the words are no command at all
-abbrev pub AreNone : List (List ℕ) → Type 0
-AreNone words = (command_of words ≡ None) × (once.command_of words ≡ None)

@@ -1,4 +1,4 @@
-//! Commands on scripts, journals and volumes, read from their words (docs/FORMATS.md, "Words of a command").
+//! Commands, read from their words (docs/FORMATS.md, "Words of a command").
 
 ghost use Rattle.std.specs.Prelude.{◌≡◌, option_map};
 ghost use Rattle.viz_session.specs.Command.{script_of, scratch_of, size_in, make_of, command_of};
@@ -6,13 +6,15 @@ ghost use Rattle.viz_session.specs.Runs.{command_view};
 
 use viz_base::Bytes;
 use viz_make::{Make, volume_extent};
-use viz_once::file_name_text;
+use viz_once::{Once, file_name_text, read_once};
 use viz_replay::Replay;
 use viz_words::{file_name, natural, node_name};
 
-/// A command that isn't of one file.
+/// A command of the program.
 #[derive(Clone, Copy, Debug)]
 pub enum Command<'a> {
+    /// The words `once IN OUT` and a filter.
+    Once(Once<'a>),
     /// The words `run SCRIPT JOURNAL`.
     Script { script: &'a str, journal: &'a str },
     /// The words `scratch JOURNAL N SINK OUT`.
@@ -79,7 +81,7 @@ fn make(words: &[Bytes]) -> Option<Command<'_>>
     }))
 }
 
-/// The command that all words are, where they aren't of one file.
+/// The command that all words are.
 #[tactic(auto, unfolding(crate::specs::Command::command_of))]
 pub fn read_command(words: &[Bytes]) -> Option<Command<'_>>
     ensures { option_map command_view result ≡ command_of words.now }
@@ -87,6 +89,9 @@ pub fn read_command(words: &[Bytes]) -> Option<Command<'_>>
     let [verb, rest @ ..] = words else {
         return None;
     };
+    if verb.list() == b"once".as_slice() {
+        return Some(Command::Once(read_once(rest)?));
+    }
     if verb.list() == b"run".as_slice() {
         return script(rest);
     }

@@ -7,6 +7,7 @@
 
 mod command;
 mod session;
+mod usage;
 
 pub use session::run;
 pub use viz_actor::{Answer, AuditAnswer, audit_node, update};

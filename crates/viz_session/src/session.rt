@@ -1,24 +1,24 @@
 //! The top call: one run of the program.
 
-ghost use Rattle.std.specs.Prelude.{◌≡◌, ◌⊎◌, ◌↔◌};
+ghost use Rattle.std.specs.Prelude.{◌≡◌, ◌⊎◌, ◌↔◌, None};
 ghost use Rattle.viz_base.specs.Faults.{Rose, one_more};
 ghost use Rattle.viz_script_run.specs.Promises.{SomeRose};
-ghost use Rattle.viz_session.specs.Command.{command_of, AreNone};
-ghost use Rattle.viz_session.specs.Runs.{IsRun, IsByHistory, IsDone, IsRefused, IsScript, IsFault, IsCutOff, OthersStay, Refuses};
+ghost use Rattle.viz_session.specs.Command.{command_of};
+ghost use Rattle.viz_session.specs.Runs.{IsRun, IsDone, IsRefused, IsScript, IsFault, IsCutOff, OthersStay, Refuses};
 ghost use Rattle.viz_told.specs.Lines.{usage_line};
 ghost use Rattle.viz_told.specs.Puts.{PutsLine};
 
 use crate::command::{Command, read_command};
+use crate::usage::NoCommand;
 use std::alloc::Global;
 use std::sync::Wait;
 use std::thread::Threads;
 use viz_base::{Bytes, Gate, Out, Port};
 use viz_make::run_make;
 use viz_once::run_once;
-use viz_once_history::runs_are_accounted;
 use viz_replay::run_scratch;
 use viz_script_run::run_script;
-use viz_told::Status;
+use viz_told::{Status, tell};
 
 /// Runs the command of the words, and puts one text.
 ///
@@ -34,44 +34,42 @@ pub fn run<R: Threads + Wait + Sync, P: Port + Send + Drop, O: Out, G: Gate + Sy
     gate: &G,
 ) -> Status
     // What the run was: the account of its command, and the text put of it.
-    ensures account { IsRun P.Port O.Out words.now desk.old desk.new ports.old.items ports.new.items
+    ensures account { IsRun P.Port O.Out desk.old desk.new ports.old.items ports.new.items
         out.old out.new (command_of words.now) result }
-    ensures history { IsByHistory P.Port O.Out words.now desk.old desk.new ports.old.items
-        ports.new.items out.old out.new (command_of words.now) result }
 
     // What follows of it for each status.
-    ensures usage { (result ≡ Status.Usage) ↔ AreNone words.now }
-    ensures usage_line { AreNone words.now → PutsLine O.Out usage_line out.old out.new }
-    ensures script { result ≡ Status.Script → IsScript P.Port O.Out words.now desk.old desk.new
+    ensures usage { (result ≡ Status.Usage) ↔ (command_of words.now ≡ None) }
+    ensures usage_line { command_of words.now ≡ None → PutsLine O.Out usage_line out.old out.new }
+    ensures script { result ≡ Status.Script → IsScript P.Port O.Out desk.old desk.new
         ports.old.items ports.new.items out.old out.new (command_of words.now) }
-    ensures done { result ≡ Status.Done → IsDone P.Port O.Out words.now desk.old desk.new
+    ensures done { result ≡ Status.Done → IsDone P.Port O.Out desk.old desk.new
         ports.old.items ports.new.items out.old out.new (command_of words.now) }
-    ensures refused { result ≡ Status.Refused → IsRefused P.Port O.Out words.now desk.old desk.new
+    ensures refused { result ≡ Status.Refused → IsRefused P.Port O.Out desk.old desk.new
         ports.old.items ports.new.items out.old out.new (command_of words.now) }
-    ensures refuses { Refuses P.Port O.Out words.now desk.old desk.new ports.old.items
-        ports.new.items out.old out.new (command_of words.now) result }
-    ensures fault { result ≡ Status.Fault → IsFault P.Port O.Out words.now desk.old desk.new
+    ensures refuses { Refuses P.Port O.Out desk.old desk.new ports.old.items ports.new.items
+        out.old out.new (command_of words.now) result }
+    ensures fault { result ≡ Status.Fault → IsFault P.Port O.Out desk.old desk.new
         ports.old.items ports.new.items out.old out.new (command_of words.now) }
-    ensures memory { result ≡ Status.Memory → IsCutOff P.Port O.Out words.now desk.old desk.new
+    ensures memory { result ≡ Status.Memory → IsCutOff P.Port O.Out desk.old desk.new
         ports.old.items ports.new.items out.old out.new (command_of words.now) }
     ensures cause { result ≡ Status.Fault → Rose (P.faults desk.old) (P.faults desk.new)
         ⊎ (SomeRose P.Port ports.old.items ports.new.items
         ⊎ Rose (O.faults out.old) (O.faults out.new)) }
 
     // What is called and changed, whatever the status.
-    ensures usage_stays { AreNone words.now
+    ensures usage_stays { command_of words.now ≡ None
         → (desk.new ≡ desk.old) × (ports.new.items ≡ ports.old.items) }
-    ensures others { OthersStay P.Port O.Out words.now desk.old desk.new ports.old.items
-        ports.new.items out.old out.new (command_of words.now) }
+    ensures others { OthersStay P.Port O.Out desk.old desk.new ports.old.items ports.new.items
+        out.old out.new (command_of words.now) }
     ensures one_put { O.puts out.new ≡ one_more (O.puts out.old) }
 {
-    runs_are_accounted::<P, O>();
     match read_command(words) {
+        Some(Command::Once(once)) => run_once(alloc, &once, ports, out),
         Some(Command::Script { script, journal }) => {
             run_script(rt, alloc, script, journal, desk, ports, out, gate)
         }
         Some(Command::Scratch(replay)) => run_scratch(alloc, &replay, desk, ports, out),
         Some(Command::Make(make)) => run_make(alloc, &make, ports, out),
-        None => run_once(alloc, words, ports, out),
+        None => tell(alloc, out, &NoCommand),
     }
 }

@@ -444,11 +444,19 @@ fn audited<R: Threads + Wait + Sync + Abort>(
 fn other_words_are_usage(rt: HostRuntime) -> Result<(), Fail> {
     let alloc = rt.alloc();
     for (line, status, want) in [
+        ("", Status::Usage, "vizrun: usage\n"),
+        ("Run s j", Status::Usage, "vizrun: usage\n"),
         ("run s", Status::Usage, "vizrun: usage\n"),
         ("run s j k", Status::Usage, "vizrun: usage\n"),
         ("run .s j", Status::Usage, "vizrun: usage\n"),
         ("scratch s 65537 a o", Status::Usage, "vizrun: usage\n"),
         ("scratch s 1 a.b o", Status::Usage, "vizrun: usage\n"),
+        (
+            "Once a.vtk o.vtk contour 2",
+            Status::Usage,
+            "vizrun: usage\n",
+        ),
+        ("once a.vtk o.vtk contour", Status::Usage, "vizrun: usage\n"),
         ("run t j", Status::Fault, "fault read\n"),
         ("scratch t 1 a o", Status::Fault, "fault read\n"),
         ("scratch s 1 a o", Status::Script, "script line 1 Word\n"),

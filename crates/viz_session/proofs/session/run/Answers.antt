@@ -1,6 +1,4 @@
 use Rattle.std.proofs.Common.{Option, Some, List, ℕ, refl, subst, sym, inl, inr}
-use Rattle.viz_once.specs.Account.{Serves}
-use Rattle.viz_once.specs.Command as once
 use Rattle.viz_session.specs.Command.{Command}
 use Rattle.viz_session.specs.declared.command.Command.{Command as Words}
 use Rattle.viz_session.specs.Runs.{IsFault, command_view}
@@ -9,9 +7,9 @@ use Rattle.viz_session.proofs.session.run.Goals as goal
 
 pub returns-in-Some-Script-clause-fault : goal.returns-in-Some-Script-clause-fault
 returns-in-Some-Script-clause-fault g c = λ is.
-    subst (λ (x : Option Command). IsFault g.P.Port g.O.Out c.args.words.now c.args.desk.now c.run_script.new.desk c.args.ports.now.items c.run_script.new.ports.items c.args.out.now c.run_script.new.out x)
+    subst (λ (x : Option Command). IsFault g.P.Port g.O.Out c.args.desk.now c.run_script.new.desk c.args.ports.now.items c.run_script.new.ports.items c.args.out.now c.run_script.new.out x)
     c.in-Some-Script.ensures
-    (subst (λ (w : Words). IsFault g.P.Port g.O.Out c.args.words.now c.args.desk.now c.run_script.new.desk c.args.ports.now.items c.run_script.new.ports.items c.args.out.now c.run_script.new.out (Some (command_view w)))
+    (subst (λ (w : Words). IsFault g.P.Port g.O.Out c.args.desk.now c.run_script.new.desk c.args.ports.now.items c.run_script.new.ports.items c.args.out.now c.run_script.new.out (Some (command_view w)))
     (sym c.in-Some-Script.field-0-is) (c.run_script.ensures.fault is))
 
 pub returns-in-Some-Scratch-clause-cause : goal.returns-in-Some-Scratch-clause-cause
@@ -29,7 +27,8 @@ returns-in-Some-Make-clause-cause g c = λ is. elim (c.run_make.ensures.cause is
   | inr put ↦ inr (inr put)
 ]
 
-pub returns-in-None-clause-usage_stays : goal.returns-in-None-clause-usage_stays
-returns-in-None-clause-usage_stays g c = λ none.
-    let run = c.run_once.ensures.account in
-    (refl, (subst (λ (w : Option once.Command). Serves g.P.Port w run.found c.args.ports.now.items c.run_once.new.ports.items) none.1 run.served).1)
+pub returns-in-Some-Once-clause-cause : goal.returns-in-Some-Once-clause-cause
+returns-in-Some-Once-clause-cause g c = λ is. elim (c.run_once.ensures.cause is) [
+  | inl first ↦ inr (inl (some_of_first g.P.Port c.args.ports.now.items c.run_once.new.ports.items first))
+  | inr put ↦ inr (inr put)
+]

@@ -1,8 +1,0 @@
-use Rattle.std.proofs.Common.{take}
-use Rattle.std.specs.List.{All}
-use Rattle.viz_sheet.specs.Sheet.{IsSheet}
-use Rattle.viz_once.proofs.contour.known.Given as goal
-
--- the sheets so far
-abbrev pub invariant-loop-sheet : goal.invariant-loop-sheet
-invariant-loop-sheet l = All IsSheet (take l.sheet-index l.sheets)

@@ -1,8 +1,0 @@
-use Rattle.std.proofs.Common.{◌≡◌, length, take}
-use Rattle.viz_mesh_write.specs.Cells.{points_of}
-use Rattle.viz_once.specs.Made.{capped}
-use Rattle.viz_once.proofs.contour.point_count.Given as goal
-
--- the sheets so far
-abbrev pub invariant-loop-sheet : goal.invariant-loop-sheet
-invariant-loop-sheet l = l.count ≡ capped (length (points_of (take l.sheet-index l.sheets)))

@@ -1,9 +1,0 @@
-use Rattle.viz_once_history.proofs.CommandLemmas.{words_have_numbers}
-use Rattle.viz_once_history.proofs.NetworkLemmas as network
-use Rattle.viz_once_history.proofs.laws.histories_are_legal.Goals as goal
-
-pub returns-clause-words : goal.returns-clause-words
-returns-clause-words c = words_have_numbers
-
-pub returns-clause-legal : goal.returns-clause-legal
-returns-clause-legal c = network.histories_are_legal

@@ -1,3 +1,0 @@
-pub mod Account
-pub mod FixedHistory
-pub mod Laws

@@ -1,0 +1,7 @@
+use Rattle.std.proofs.Common.{◌≡◌, length, take}
+use Rattle.viz_mesh_write.specs.Cells.{cells_of}
+use Rattle.viz_scratch.proofs.counts.cells_in.Given as goal
+
+-- the sheets so far
+abbrev pub invariant-loop-sheet : goal.invariant-loop-sheet
+invariant-loop-sheet l = l.count ≡ length (cells_of (take l.sheet-index l.sheets))
