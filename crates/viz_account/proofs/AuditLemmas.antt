@@ -11,8 +11,8 @@ use Rattle.viz_network.specs.Network.{Network, named, name_of}
 use Rattle.viz_history.specs.declared.entry.Entry.{Entry}
 use Rattle.viz_script.specs.Orders.{Asked, edit, load, update, audit}
 use Rattle.viz_node_meaning.specs.Scratch.{Answers}
-use Rattle.viz_audit.specs.Audited.{IsAuditOf}
-use Rattle.viz_audit.specs.Laws.{AuditsAreClosed}
+use Rattle.viz_account.specs.Audited.{IsAuditOf}
+use Rattle.viz_account.specs.SurfaceLaws.{AuditsAreClosed}
 use Rattle.viz_report.specs.declared.line.Line.{Line}
 use Rattle.viz_report.specs.declared.line.Line.TheVariants as line
 use Rattle.viz_account.specs.declared.answer.Missing.{Missing}

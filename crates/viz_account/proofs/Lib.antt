@@ -8,3 +8,10 @@ mod OnceLemmas
 mod NumberLemmas
 mod AloneLemmas
 mod AuditLemmas
+mod GivenLemmas
+mod ContourLemmas
+mod CutLemmas
+mod SurfaceLemmas
+mod StepLemmas
+mod GroundLemmas
+mod SumLemmas

@@ -5,3 +5,5 @@ pub mod Written
 pub mod Answers
 pub mod Laws
 pub mod Steps
+pub mod Audited
+pub mod SurfaceLaws

@@ -14,7 +14,7 @@ use Rattle.viz_history.specs.declared.entry.Entry.{Entry}
 use Rattle.viz_history.specs.History.{network_of}
 use Rattle.viz_script.specs.Orders.{Asked, edit, load, update, audit}
 use Rattle.viz_scratch.specs.Written.{IsFileOf}
-use Rattle.viz_audit.specs.Audited.{IsAuditOf}
+use Rattle.viz_account.specs.Audited.{IsAuditOf}
 use Rattle.viz_report.specs.declared.line.Line.{Line}
 use Rattle.viz_report.specs.declared.line.Line.TheVariants as line
 use Rattle.viz_report.specs.declared.line.Reason.TheVariants as reason

@@ -3,10 +3,10 @@
 ghost use Rattle.std.specs.Prelude.{◌≡◌};
 ghost use Rattle.viz_account.specs.Answers.{line_of, audit_line_of, without, audit_without};
 
-use viz_audit::Counts;
 use viz_base::Word;
 use viz_network::Fault;
 use viz_report::{Line, Reason};
+use viz_surface_law::Counts;
 
 /// Why a node has no file, or no counts.
 #[derive(Clone, Copy, PartialEq, Eq, Debug)]

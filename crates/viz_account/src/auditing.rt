@@ -2,17 +2,19 @@
 
 ghost use Rattle.std.specs.Prelude.{◌≡◌, IfSome};
 ghost use Rattle.viz_node_meaning.specs.Scratch.{Answers};
-ghost use Rattle.viz_audit.specs.Audited.{IsAuditOf};
+ghost use Rattle.viz_account.specs.Audited.{IsAuditOf};
 ghost use Rattle.viz_account.specs.Answers.{audit_line_of, audit_at_of};
 ghost use Rattle.viz_account.specs.Laws.{IsClosedLine};
 ghost use Rattle.viz_account.specs.Lines.{TellsAudit};
 
 use crate::answer::{AuditAnswer, Missing};
 use crate::made::missing_of;
+use crate::surface::audit_of;
+use crate::surface_laws::audits_are_closed;
 use std::alloc::Global;
-use viz_audit::{Counts, audit_of, audits_are_closed};
 use viz_base::{NodeId, Word};
 use viz_network::{Net, Stop};
+use viz_surface_law::Counts;
 
 // The counts of a node, if it is there.
 fn audit_there(alloc: Global, net: &Net, node: NodeId) -> Result<Counts, Stop>

@@ -3,7 +3,7 @@
 
 ghost use Rattle.viz_account.specs.Laws.{AuditLinesAreClosed, EntriesAreToldOnce, HoldLater, LinesCountEdits};
 
-use viz_audit::audits_are_closed;
+use crate::surface_laws::audits_are_closed;
 use viz_base::Port;
 
 /// Lines that tell of commands in a history tell of them in each longer one.

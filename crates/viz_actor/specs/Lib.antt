@@ -3,3 +3,9 @@ pub mod Serving
 pub mod Groups
 pub mod Places
 pub mod Runs
+pub mod Journals
+pub mod Deeds
+pub mod Told
+pub mod Promises
+pub mod Numbering
+pub mod DeskServing

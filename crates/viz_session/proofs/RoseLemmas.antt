@@ -1,7 +1,7 @@
 -- The first port is one of all.
 use Rattle.std.proofs.Common.{List, [], ◌∷◌, inl}
 use Rattle.viz_base.specs.declared.port.Port as port
-use Rattle.viz_script_run.specs.Promises.{SomeRose}
+use Rattle.viz_actor.specs.Promises.{SomeRose}
 use Rattle.viz_told.specs.Ports.{FirstRose}
 
 pub some_of_first : {P : Type 0} (m : port.Ghosts P) (old new : List P) → FirstRose m old new → SomeRose m old new

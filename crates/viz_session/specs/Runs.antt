@@ -15,10 +15,10 @@ use Rattle.viz_replay.specs.Replay as replay
 use Rattle.viz_replay.specs.Served.{replay_of}
 use Rattle.viz_replay.specs.Told as replay_told
 use Rattle.viz_replay.specs.declared.came.Came.{Came}
-use Rattle.viz_script_run.specs.Deeds as deeds
-use Rattle.viz_script_run.specs.Promises as script_promises
-use Rattle.viz_script_run.specs.Told as script_told
-use Rattle.viz_script_run.specs.declared.ran.Ran.{Ran}
+use Rattle.viz_actor.specs.Deeds as deeds
+use Rattle.viz_actor.specs.Promises as script_promises
+use Rattle.viz_actor.specs.Told as script_told
+use Rattle.viz_actor.specs.declared.ran.Ran.{Ran}
 use Rattle.viz_told.specs.declared.status.Status.{Status}
 use Rattle.viz_told.specs.declared.status.Status.TheVariants as status
 use Rattle.viz_told.specs.Lines.{usage_line}

@@ -2,7 +2,7 @@
 
 ghost use Rattle.std.specs.Prelude.{◌≡◌, ◌⊎◌, ◌↔◌, None};
 ghost use Rattle.viz_base.specs.Faults.{Rose, one_more};
-ghost use Rattle.viz_script_run.specs.Promises.{SomeRose};
+ghost use Rattle.viz_actor.specs.Promises.{SomeRose};
 ghost use Rattle.viz_session.specs.Command.{command_of};
 ghost use Rattle.viz_session.specs.Runs.{IsRun, IsDone, IsRefused, IsScript, IsFault, IsCutOff, OthersStay, Refuses};
 ghost use Rattle.viz_told.specs.Lines.{usage_line};
@@ -13,11 +13,11 @@ use crate::usage::NoCommand;
 use std::alloc::Global;
 use std::sync::Wait;
 use std::thread::Threads;
+use viz_actor::run_script;
 use viz_base::{Bytes, Gate, Out, Port};
 use viz_make::run_make;
 use viz_once::run_once;
 use viz_replay::run_scratch;
-use viz_script_run::run_script;
 use viz_told::{Status, tell};
 
 /// Runs the command of the words, and puts one text.

@@ -1,7 +1,7 @@
 use Rattle.std.proofs.Common.{refl, sym, subst, ◌∙◌, Ok, Err}
 use Rattle.viz_network.specs.Network.{named}
 use Rattle.viz_node_meaning.specs.Scratch.{Answers}
-use Rattle.viz_audit.specs.Audited.{IsAuditOf}
+use Rattle.viz_account.specs.Audited.{IsAuditOf}
 use Rattle.viz_account.specs.Answers.{audit_line_of}
 use Rattle.viz_account.specs.Laws.{IsClosedLine}
 use Rattle.viz_account.specs.Lines.{TellsAudit}

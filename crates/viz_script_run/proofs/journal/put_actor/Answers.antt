@@ -1,5 +1,0 @@
-use Rattle.viz_script_run.proofs.FoundLemmas.{found_told}
-use Rattle.viz_script_run.proofs.journal.put_actor.Goals as goal
-
-pub returns : goal.returns
-returns c = λ actors tells h. found_told c.args.found.now actors c.args.row.now c.in-Edit.at c.in-Edit.is c.if-at-eq0.false c.if-at-found.false tells h

@@ -1,5 +1,0 @@
-use Rattle.viz_script_run.proofs.FoundLemmas.{Counted}
-use Rattle.viz_script_run.proofs.journal.running_numbers.Given as goal
-
-abbrev pub invariant-loop-actor : goal.invariant-loop-actor
-invariant-loop-actor l = Counted l.actors l.actor-index l.counts l.numbers.items
