@@ -1,0 +1,5 @@
+pub mod Words
+pub mod CommandRead
+pub mod LineRead
+pub mod PlainLemmas
+pub mod ScriptRead
