@@ -13,7 +13,7 @@ use Rattle.viz_script_law.proofs.Words.{zip-length}
 use Rattle.viz_script_law.proofs.LineRead.{line-read}
 use Rattle.viz_script_law.proofs.PlainLemmas.{lines-again, lines-spelled}
 
-count-more : (line : Line) (lines : List Line) → count_by begins (line ∷ lines) ≡ cond (begins line) 1 0 + count_by begins lines
+pub count-more : (line : Line) (lines : List Line) → count_by begins (line ∷ lines) ≡ cond (begins line) 1 0 + count_by begins lines
 count-more line lines = sum_by-cons (λ l. cond (begins l) 1 0) line lines
 
 steps-read : (actors n phase : ℕ) (lines : List Line) (texts : List (List ℕ)) → AllByRecursion (FitsLine actors) lines → AllZip SpellsLine lines texts
