@@ -26,8 +26,8 @@ use Rattle.viz_words.specs.Commands.{kind_verb, param_verb, verb_of, one, two, t
 use Rattle.viz_words.specs.Edits.{add_in, remove_in, connect_in, disconnect_in, value_set_in}
 use Rattle.viz_script.specs.Orders.{Asked, edit, load, update, audit, load_in, update_in, audit_in, order_in}
 use Rattle.viz_journal.proofs.AgainLemmas.{named-again, param-again}
-use Rattle.viz_script_law.specs.Grammar.{Word, exact, number, value_words, edit_words, command_words}
-use Rattle.viz_script_law.specs.Says.{FitsNumbers, FitsRange, is_text_of, FitsValue, FitsEdit, FitsCommand}
+use Rattle.viz_script_law.specs.Tokens.{Token, exact, number, value_tokens, edit_tokens, command_tokens}
+use Rattle.viz_script_law.specs.Fits.{FitsNumbers, FitsRange, is_text_of, FitsLineValue, FitsLineEdit, FitsCommand}
 use Rattle.viz_script_law.proofs.Words.{Spelled, first-exact, first-number, no-more}
 
 -- what is read of the words behind an actor
@@ -84,7 +84,7 @@ counted : (range : Range) (n : ℕ) → range.least ≤ n → n ≤ range.most �
 counted range n least most few = rw (le-leb range.least n least, le-leb n range.most most, le-leb n 8 few) refl
 
 -- the words of a value are counted and read
-value-read : (p : Param) (value : Value) (texts : List (List ℕ)) → FitsValue p value → Spelled (value_words value) texts
+value-read : (p : Param) (value : Value) (texts : List (List ℕ)) → FitsLineValue p value → Spelled (value_tokens value) texts
     → (fits_count (numbers_of p) (length texts) ≡ true) × (value_in p (numbers_of p) texts ≡ Ok value)
 unfolding one
 value-read p (Text text) texts f h =
@@ -230,7 +230,7 @@ audit-says node p w pieces workers f ep ew = record {
 
 -- ---- the words of a command
 
-edit-says : (e : Edit) (texts : List (List ℕ)) → FitsEdit e → Spelled (edit_words e) texts → Says texts (edit e)
+edit-says : (e : Edit) (texts : List (List ℕ)) → FitsLineEdit e → Spelled (edit_tokens e) texts → Says texts (edit e)
 edit-says (edits.Add k node) texts f h =
     let a = first-exact (command_word command.Add) (exact (kind_word k) ∷ exact node ∷ []) texts h in
     let b = first-exact (kind_word k) (exact node ∷ []) a.0 a.2 in
@@ -252,14 +252,14 @@ edit-says (edits.Disconnect to port) texts f h =
     let c = first-number (pos port) [] b.0 b.2 in
     rw (a.1, b.1, c.2, no-more c.1 c.4) (disconnect-says to c.0 port f.0 f.1 c.3)
 edit-says (edits.Set node p value) texts f h =
-    let a = first-exact (command_word command.Set) (exact node ∷ exact (param_word p) ∷ value_words value) texts h in
-    let b = first-exact node (exact (param_word p) ∷ value_words value) a.0 a.2 in
-    let c = first-exact (param_word p) (value_words value) b.0 b.2 in
+    let a = first-exact (command_word command.Set) (exact node ∷ exact (param_word p) ∷ value_tokens value) texts h in
+    let b = first-exact node (exact (param_word p) ∷ value_tokens value) a.0 a.2 in
+    let c = first-exact (param_word p) (value_tokens value) b.0 b.2 in
     let read = value-read p value c.0 f.1 c.2 in
     rw (a.1, b.1, c.1) (set-says p node value c.0 f.0 read.0 read.1)
 edit-says (edits.Load node file) texts f h = absurd f
 
-pub command-says : (asked : Asked) (texts : List (List ℕ)) → FitsCommand asked → Spelled (command_words asked) texts → Says texts asked
+pub command-says : (asked : Asked) (texts : List (List ℕ)) → FitsCommand asked → Spelled (command_tokens asked) texts → Says texts asked
 command-says (edit e) texts f h = edit-says e texts f h
 command-says (load node file) texts f h =
     let a = first-exact (command_word command.Load) (exact node ∷ exact file ∷ []) texts h in

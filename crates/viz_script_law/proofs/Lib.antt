@@ -1,7 +1,10 @@
 pub mod Words
+pub mod FitLemmas
+pub mod SpellingLemmas
+pub mod LinesLemmas
+pub mod PlainLemmas
 pub mod CommandRead
 pub mod LineRead
-pub mod PlainLemmas
 pub mod ScriptRead
 pub mod OnlyParts
 pub mod OnlyCommands

@@ -16,9 +16,9 @@ use Rattle.viz_words.specs.Commands.{verb_of, due}
 use Rattle.viz_script.specs.Orders.{Asked, order_in}
 use Rattle.viz_script.specs.Script.{Line, silent, begins_phase, asks, is_actor, phase_in, actor_in, number_in_front, words_in, line_in}
 use Rattle.viz_journal.proofs.OnlyLemmas.{same-text}
-use Rattle.viz_script_law.specs.Grammar.{Word, exact, number, command_words, line_words, SpellsWords, SpellsLine}
-use Rattle.viz_script_law.specs.Says.{FitsLine, FitsCommand}
-use Rattle.viz_script_law.proofs.Words.{first-exact, first-number, no-more}
+use Rattle.viz_script_law.specs.Tokens.{Token, exact, number, command_tokens, line_tokens}
+use Rattle.viz_script_law.specs.Fits.{FitsLine, FitsCommand}
+use Rattle.viz_script_law.proofs.Words.{HasWords, HasLine, first-exact, first-number, no-more}
 use Rattle.viz_script_law.proofs.CommandRead.{Says, command-says}
 
 -- the first word begins with the first byte of a line that begins with a word
@@ -95,14 +95,14 @@ actor-read actor actors words asked known s =
     ∙ ap (λ b. guard b refusal.ActorRange >>= λ in_range. tail words) known ∙ ap tail s.are ∙ ap last s.told
 
 -- a line that is spelled says what it spells
-pub line-read : (actors : ℕ) (line : Line) (text : List ℕ) → FitsLine actors line → SpellsLine line text → line_in actors text ≡ Ok line
+pub line-read : (actors : ℕ) (line : Line) (text : List ℕ) → FitsLine actors line → HasLine line text → line_in actors text ≡ Ok line
 line-read actors silent text f h = ap (λ b. cond b (Ok silent) (guard (is_plain text) refusal.Word >>= λ p. words_in actors (words_of text))) h
 line-read actors begins_phase text f h =
     let first = first-exact (codes "phase") [] (words_of text) h.1 in
     let are : words_of text ≡ codes "phase" ∷ [] = first.1 ∙ ap (λ l. codes "phase" ∷ l) (no-more first.0 first.2) in
     words-read actors text (codes "phase") [] h.0 are refl
 line-read actors (asks actor asked) text f h =
-    let first = first-number (pos actor) (command_words asked) (words_of text) h.1 in
+    let first = first-number (pos actor) (command_tokens asked) (words_of text) h.1 in
     let word = first.0 in
     let words = first.1 in
     words-read actors text word words h.0 first.2 (number-hash word (pos actor) first.3)

@@ -27,8 +27,8 @@ use Rattle.viz_words.specs.Edits.{add_in, remove_in, connect_in, disconnect_in, 
 use Rattle.viz_words.proofs.NumberLemmas.{due-is}
 use Rattle.viz_script.specs.Orders.{Asked, edit, load, update, audit, load_in, update_in, audit_in, order_in}
 use Rattle.viz_journal.proofs.SolidLemmas.{and-parts}
-use Rattle.viz_script_law.specs.Grammar.{Word, exact, number, value_words, edit_words, command_words}
-use Rattle.viz_script_law.specs.Says.{FitsNumbers, FitsRange, is_text_of, FitsValue, FitsEdit, FitsCommand}
+use Rattle.viz_script_law.specs.Tokens.{Token, exact, number, value_tokens, edit_tokens, command_tokens}
+use Rattle.viz_script_law.specs.Fits.{FitsNumbers, FitsRange, is_text_of, FitsLineValue, FitsLineEdit, FitsCommand}
 use Rattle.viz_script_law.proofs.Words.{Spelled}
 use Rattle.viz_script_law.proofs.OnlyParts.{bind-ok, guarded, one-is, two-is, three-is, four-is, named-is, some-is, number-within, natural-is, with_word-is}
 
@@ -133,17 +133,17 @@ padded-fit range ns counted fits =
     }
 
 value-is : (p : Param) (texts : List (List ℕ)) (value : Value) → fits_count (numbers_of p) (length texts) ≡ true → value_in p (numbers_of p) texts ≡ Ok value
-    → Spelled (value_words value) texts × FitsValue p value
+    → Spelled (value_tokens value) texts × FitsLineValue p value
 value-is p texts value counted read = by (numbers_of p) refl counted read
   where
-    by : (r : Option Range) → numbers_of p ≡ r → fits_count r (length texts) ≡ true → value_in p r texts ≡ Ok value → Spelled (value_words value) texts × FitsValue p value
+    by : (r : Option Range) → numbers_of p ≡ r → fits_count r (length texts) ≡ true → value_in p r texts ≡ Ok value → Spelled (value_tokens value) texts × FitsLineValue p value
     by None e c h =
         let a = bind-ok (one texts) (λ word. text_in p word >>= λ text. Ok (Text text)) value h in
         let b = bind-ok (text_in p a.0) (λ text. Ok (Text text)) value a.2 in
         let t = text-is p a.0 b.0 b.1 in
         let same : Text b.0 ≡ value = cc b.2 in
         let spelled : Spelled (exact b.0 ∷ []) texts = subst (Spelled (exact b.0 ∷ [])) (sym (one-is texts a.0 a.1)) (t.0, tt) in
-        subst (λ v. Spelled (value_words v) texts × FitsValue p v) same (spelled, (e, t.1))
+        subst (λ v. Spelled (value_tokens v) texts × FitsLineValue p v) same (spelled, (e, t.1))
     by (Some range) e c h =
         let a = bind-ok (padded_in texts) (λ items. Ok (Numbers (length texts) items)) value h in
         let b = bind-ok (numbers_in texts) (λ ns. Ok (padded ns)) a.0 a.1 in
@@ -154,15 +154,15 @@ value-is p texts value counted read = by (numbers_of p) refl counted read
         let front : take (length b.0) (padded b.0) ≡ b.0 = take-front b.0 (replicate (8 - length b.0) (pos 0)) in
         let spelled : Spelled (map number (take (length b.0) (padded b.0))) texts = subst (λ l. Spelled (map number l) texts) (sym front) n.0 in
         let fits = padded-fit range b.0 (ap (fits_count (Some range)) (sym n.1) ∙ c) n.2 in
-        subst (λ v. Spelled (value_words v) texts × FitsValue p v) same (spelled, subst (λ r. FitsRange r (length b.0) (padded b.0)) (sym e) fits)
+        subst (λ v. Spelled (value_tokens v) texts × FitsLineValue p v) same (spelled, subst (λ r. FitsRange r (length b.0) (padded b.0)) (sym e) fits)
 
 -- ---- edits
 
 -- the words are those of the edit, which a line can tell
 abbrev TellsEdit : Edit → List ℕ → List (List ℕ) → Type 0
-TellsEdit e word tail = Spelled (edit_words e) (word ∷ tail) × FitsEdit e
+TellsEdit e word tail = Spelled (edit_tokens e) (word ∷ tail) × FitsLineEdit e
 
-spelled-at : (words : List Word) (word : List ℕ) (tail are : List (List ℕ)) → tail ≡ are → Spelled words (word ∷ are) → Spelled words (word ∷ tail)
+spelled-at : (words : List Token) (word : List ℕ) (tail are : List (List ℕ)) → tail ≡ are → Spelled words (word ∷ are) → Spelled words (word ∷ tail)
 spelled-at words word tail are e s = subst (λ ws. Spelled words (word ∷ ws)) (sym e) s
 
 add-is : (kind : Kind) (word : List ℕ) (tail : List (List ℕ)) (e : Edit) → IsVerb (verb.Add kind) word tail → add_in kind tail ≡ Ok e → TellsEdit e word tail
@@ -175,7 +175,7 @@ add-is kind word tail e is h =
     let both : a.0.0 ∷ a.0.1 ∷ [] ≡ kind_word kind ∷ is.1.0 = sym are ∙ is.1.1 in
     let front : a.0.0 ≡ kind_word kind = cc both in
     let same : edits.Add kind b.0 ≡ e = cc b.2 in
-    subst (λ x. TellsEdit x word tail) same (spelled-at (edit_words (edits.Add kind b.0)) word tail _ are (is.0, (front, (n.0, tt))), n.1)
+    subst (λ x. TellsEdit x word tail) same (spelled-at (edit_tokens (edits.Add kind b.0)) word tail _ are (is.0, (front, (n.0, tt))), n.1)
 
 remove-is : (word : List ℕ) (tail : List (List ℕ)) (e : Edit) → IsVerb verb.Remove word tail → remove_in tail ≡ Ok e → TellsEdit e word tail
 unfolding remove_in
@@ -184,7 +184,7 @@ remove-is word tail e is h =
     let b = bind-ok (named_in is_node_name a.0) (λ node. Ok (edits.Remove node)) e a.2 in
     let n = named-is is_node_name a.0 b.0 b.1 in
     let same : edits.Remove b.0 ≡ e = cc b.2 in
-    subst (λ x. TellsEdit x word tail) same (spelled-at (edit_words (edits.Remove b.0)) word tail _ (one-is tail a.0 a.1) (is, (n.0, tt)), n.1)
+    subst (λ x. TellsEdit x word tail) same (spelled-at (edit_tokens (edits.Remove b.0)) word tail _ (one-is tail a.0 a.1) (is, (n.0, tt)), n.1)
 
 connect-is : (word : List ℕ) (tail : List (List ℕ)) (e : Edit) → IsVerb verb.Connect word tail → connect_in tail ≡ Ok e → TellsEdit e word tail
 unfolding connect_in
@@ -198,7 +198,7 @@ connect-is word tail e is h =
     let q = natural-is 0 255 p.0 a.0.2 p.1 in
     let same : edits.Connect b.0 d.0 p.0 ≡ e = cc p.2 in
     subst (λ x. TellsEdit x word tail) same
-    (spelled-at (edit_words (edits.Connect b.0 d.0 p.0)) word tail _ (three-is tail a.0 a.1) (is, (n.0, (m.0, (q.0, tt)))), (n.1, m.1, omega (arith, q.2)))
+    (spelled-at (edit_tokens (edits.Connect b.0 d.0 p.0)) word tail _ (three-is tail a.0 a.1) (is, (n.0, (m.0, (q.0, tt)))), (n.1, m.1, omega (arith, q.2)))
 
 disconnect-is : (word : List ℕ) (tail : List (List ℕ)) (e : Edit) → IsVerb verb.Disconnect word tail → disconnect_in tail ≡ Ok e → TellsEdit e word tail
 unfolding disconnect_in
@@ -210,7 +210,7 @@ disconnect-is word tail e is h =
     let q = natural-is 0 255 p.0 a.0.1 p.1 in
     let same : edits.Disconnect b.0 p.0 ≡ e = cc p.2 in
     subst (λ x. TellsEdit x word tail) same
-    (spelled-at (edit_words (edits.Disconnect b.0 p.0)) word tail _ (two-is tail a.0 a.1) (is, (n.0, (q.0, tt))), (n.1, omega (arith, q.2)))
+    (spelled-at (edit_tokens (edits.Disconnect b.0 p.0)) word tail _ (two-is tail a.0 a.1) (is, (n.0, (q.0, tt))), (n.1, omega (arith, q.2)))
 
 set-is : (p : Param) (word : List ℕ) (tail : List (List ℕ)) (e : Edit) → IsVerb (verb.Set p) word tail → value_set_in p tail ≡ Ok e → TellsEdit e word tail
 unfolding value_set_in set_in
@@ -235,13 +235,13 @@ set-is p word tail e is h =
     let name = named-is is_node_name b.0.0 n.0 n.1 in
     let value = value-is p d.0.1 v.0 g.0 v.1 in
     subst (λ x. TellsEdit x word tail) same
-    (spelled-at (edit_words (edits.Set n.0 p v.0)) word tail _ are (is.0, (name.0, (second, value.0))), (name.1, value.1))
+    (spelled-at (edit_tokens (edits.Set n.0 p v.0)) word tail _ are (is.0, (name.0, (second, value.0))), (name.1, value.1))
 
 -- ---- commands
 
 -- the words are those of the command, which a line can tell
 abbrev pub Tells : Asked → List ℕ → List (List ℕ) → Type 0
-Tells asked word tail = Spelled (command_words asked) (word ∷ tail) × FitsCommand asked
+Tells asked word tail = Spelled (command_tokens asked) (word ∷ tail) × FitsCommand asked
 
 load-is : (word : List ℕ) (tail : List (List ℕ)) (asked : Asked) → IsVerb verb.Load word tail → load_in tail ≡ Ok asked → Tells asked word tail
 unfolding load_in
@@ -252,7 +252,7 @@ load-is word tail asked is h =
     let n = named-is is_node_name a.0.0 b.0 b.1 in
     let f = named-is is_file_name a.0.1 d.0 d.1 in
     let same : load b.0 d.0 ≡ asked = cc d.2 in
-    subst (λ x. Tells x word tail) same (spelled-at (command_words (load b.0 d.0)) word tail _ (two-is tail a.0 a.1) (is, (n.0, (f.0, tt))), (n.1, f.1))
+    subst (λ x. Tells x word tail) same (spelled-at (command_tokens (load b.0 d.0)) word tail _ (two-is tail a.0 a.1) (is, (n.0, (f.0, tt))), (n.1, f.1))
 
 update-is : (word : List ℕ) (tail : List (List ℕ)) (asked : Asked) → IsVerb verb.Update word tail → update_in tail ≡ Ok asked → Tells asked word tail
 unfolding update_in
@@ -272,7 +272,7 @@ update-is word tail asked is h =
     let r = natural-is 1 64 w.0 a.0.3 w.1 in
     let same : update b.0 d.0 p.0 w.0 ≡ asked = cc w.2 in
     subst (λ x. Tells x word tail) same
-    (spelled-at (command_words (update b.0 d.0 p.0 w.0)) word tail _ (four-is tail a.0 a.1) (is, (n.0, (f.0, (q.0, (r.0, tt))))), (n.1, f.1, (q.1, q.2), (r.1, r.2)))
+    (spelled-at (command_tokens (update b.0 d.0 p.0 w.0)) word tail _ (four-is tail a.0 a.1) (is, (n.0, (f.0, (q.0, (r.0, tt))))), (n.1, f.1, (q.1, q.2), (r.1, r.2)))
 
 audit-is : (word : List ℕ) (tail : List (List ℕ)) (asked : Asked) → IsVerb verb.Audit word tail → audit_in tail ≡ Ok asked → Tells asked word tail
 unfolding audit_in
@@ -289,7 +289,7 @@ audit-is word tail asked is h =
     let r = natural-is 1 64 w.0 a.0.2 w.1 in
     let same : audit b.0 p.0 w.0 ≡ asked = cc w.2 in
     subst (λ x. Tells x word tail) same
-    (spelled-at (command_words (audit b.0 p.0 w.0)) word tail _ (three-is tail a.0 a.1) (is, (n.0, (q.0, (r.0, tt)))), (n.1, (q.1, q.2), (r.1, r.2)))
+    (spelled-at (command_tokens (audit b.0 p.0 w.0)) word tail _ (three-is tail a.0 a.1) (is, (n.0, (q.0, (r.0, tt)))), (n.1, (q.1, q.2), (r.1, r.2)))
 
 -- an edit as a command
 as-edit : (r : Result Edit ScriptRefusal) (word : List ℕ) (tail : List (List ℕ)) (asked : Asked) → ((e : Edit) → r ≡ Ok e → TellsEdit e word tail)

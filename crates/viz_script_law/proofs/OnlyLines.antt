@@ -16,9 +16,14 @@ use Rattle.viz_script.specs.Orders.{Asked, order_in}
 use Rattle.viz_script.specs.Script.{Line, silent, begins_phase, asks, Stepped, Stop, byte_limit, line_limit, phase_limit, is_actor, phase_in, actor_in, number_in_front, words_in, line_in, with_step, told, steps_from, is_too_long, script_of}
 use Rattle.viz_journal.proofs.OnlyLemmas.{same-text}
 use Rattle.viz_journal.proofs.SolidLemmas.{and-parts}
-use Rattle.viz_script_law.specs.Grammar.{Word, exact, number, command_words, line_words, SpellsLine}
-use Rattle.viz_script_law.specs.Says.{steps_at, steps_of, FitsCommand, FitsLine, begins, Fits, IsScript}
-use Rattle.viz_script_law.proofs.Words.{Spelled, zip-length}
+use Rattle.viz_script_law.specs.Tokens.{Token, exact, number, command_tokens, line_tokens}
+use Rattle.viz_script_law.specs.Spelling.{SpellsLine}
+use Rattle.viz_script_law.specs.Fits.{FitsCommand, FitsLine, is_phase, FitsScript}
+use Rattle.viz_script_law.specs.Says.{steps_at, steps_of}
+use Rattle.viz_script_law.specs.Script.{IsScript}
+use Rattle.viz_script_law.proofs.Words.{Spelled, HasLine, zip-length}
+use Rattle.viz_script_law.proofs.SpellingLemmas.{line-spells}
+use Rattle.viz_script_law.proofs.LinesLemmas.{lines-there}
 use Rattle.viz_script_law.proofs.ScriptRead.{count-more}
 use Rattle.viz_script_law.proofs.OnlyParts.{bind-ok, guarded}
 use Rattle.viz_script_law.proofs.OnlyCommands.{IsVerb, verb-is, Tells, order-is}
@@ -27,7 +32,7 @@ use Rattle.viz_script_law.proofs.OnlyCommands.{IsVerb, verb-is, Tells, order-is}
 
 -- the line is spelled, and so many actors may serve it
 abbrev pub IsLine : ℕ → Line → List ℕ → Type 0
-IsLine actors line text = SpellsLine line text × FitsLine actors line
+IsLine actors line text = HasLine line text × FitsLine actors line
 
 actor-is : (z : ℤ) (actors : ℕ) → is_actor z actors ≡ true → (z ≡ pos (unsigned_abs z)) × (1 ≤ unsigned_abs z) × (unsigned_abs z ≤ 8) × (unsigned_abs z ≤ actors)
 actor-is (pos n) actors h =
@@ -38,7 +43,7 @@ actor-is (negsuc n) actors h = absurd (true≢false (sym h))
 
 -- the words behind an actor
 actor-line : (actors : ℕ) (z : ℤ) (words : List (List ℕ)) (line : Line) → actor_in z actors words ≡ Ok line
-    → (asked : Asked) × (asks (unsigned_abs z) asked ≡ line) × (is_actor z actors ≡ true) × Spelled (command_words asked) words × FitsCommand asked
+    → (asked : Asked) × (asks (unsigned_abs z) asked ≡ line) × (is_actor z actors ≡ true) × Spelled (command_tokens asked) words × FitsCommand asked
 actor-line actors z words line h =
     let a = bind-ok (verb_of words) (λ verb. guard (is_actor z actors) refusal.ActorRange >>= λ in_range.
     due words >>= λ rest. order_in verb rest.1 >>= λ order. Ok (asks (unsigned_abs z) order)) line h in
@@ -49,7 +54,7 @@ actor-line actors z words line h =
     let known : verb_of (d.0.0 ∷ d.0.1) ≡ Ok a.0 = sym (ap verb_of are) ∙ a.1 in
     let tells = order-is a.0 d.0.0 d.0.1 o.0 (verb-is d.0.0 d.0.1 a.0 known) o.1 in
     let same : asks (unsigned_abs z) o.0 ≡ line = cc o.2 in
-    (o.0, same, g.0, subst (Spelled (command_words o.0)) (sym are) tells.0, tells.1)
+    (o.0, same, g.0, subst (Spelled (command_tokens o.0)) (sym are) tells.0, tells.1)
 
 -- a line with a word
 words-line : (actors : ℕ) (text word : List ℕ) (words : List (List ℕ)) (line : Line) → is_plain text ≡ true → words_of text ≡ word ∷ words
@@ -70,7 +75,7 @@ words-line actors text word words line plain are h = by (is_text word (codes "ph
         let a = actor-line actors z words line g in
         let is = actor-is z actors a.2 in
         let read : number_of word ≡ Some (pos (unsigned_abs z)) = e ∙ ap (λ (n : ℤ). Some n) is.0 in
-        let all = line_words (asks (unsigned_abs z) a.0) in
+        let all = line_tokens (asks (unsigned_abs z) a.0) in
         let spelled : Spelled all (words_of text) = subst (Spelled all) (sym are) (read, a.3) in
         subst (λ l. IsLine actors l text) a.1 ((plain, spelled), (is.1, is.2, is.3, a.4))
 
@@ -102,9 +107,9 @@ line-is actors text line h = by (is_skipped text) refl h
 -- there are lines that say the steps
 record Lines (actors n phase : ℕ) (texts : List (List ℕ)) (steps : List Stepped) : Type 0 where
   pub lines : List Line
-  pub spelled : AllZip SpellsLine lines texts
+  pub spelled : AllZip HasLine lines texts
   pub fits : AllByRecursion (FitsLine actors) lines
-  pub phases : phase + count_by begins lines ≤ phase_limit
+  pub phases : phase + count_by is_phase lines ≤ phase_limit
   pub same : steps ≡ steps_at n phase lines
 
 with-step : (step : Stepped) (r : Result (List Stepped) Stop) (steps : List Stepped) → with_step step r ≡ Ok steps
@@ -148,6 +153,13 @@ lines-are actors n phase (text ∷ texts) steps few h = by (line_in actors text)
         record { lines = asks actor asked ∷ rest.lines; spelled = (is.0, rest.spelled); fits = (is.1, rest.fits);
           phases = omega (arith, rest.phases, count-more (asks actor asked) rest.lines); same = more.2 ∙ ap (λ l. step ∷ l) rest.same }
 
+-- lines with their words are spelled
+lines-spell : (lines : List Line) (texts : List (List ℕ)) → AllZip HasLine lines texts → AllZip SpellsLine lines texts
+lines-spell [] [] h = tt
+lines-spell [] (text ∷ texts) h = absurd h
+lines-spell (line ∷ lines) [] h = absurd h
+lines-spell (line ∷ lines) (text ∷ texts) h = (line-spells line text h.0, lines-spell lines texts h.1)
+
 pub only : (actors : ℕ) (bytes : List ℕ) (steps : List Stepped) → script_of actors bytes ≡ Ok steps
     → (lines : List Line) × IsScript actors lines bytes × (steps ≡ steps_of lines)
 only actors bytes steps h = by (nat_lt byte_limit (length bytes)) refl (nat_lt line_limit (length (lines_of bytes))) refl h
@@ -160,7 +172,14 @@ only actors bytes steps h = by (nat_lt byte_limit (length bytes)) refl (nat_lt l
     by false e false f g =
         let one : 1 ≤ phase_limit = omega arith in
         let r = lines-are actors 1 1 (lines_of bytes) steps one g in
-        let long = zip-length SpellsLine r.lines (lines_of bytes) r.spelled in
+        let long = zip-length HasLine r.lines (lines_of bytes) r.spelled in
         let few = ltb-false line_limit (length (lines_of bytes)) f in
-        let fits : Fits actors r.lines = record { few = omega (arith, long, few); phases = omega (arith, r.phases); each = r.fits } in
-        (r.lines, record { short = ltb-false byte_limit (length bytes) e; fits = fits; spelled = r.spelled }, r.same)
+        let fits : FitsScript actors r.lines = record { few = omega (arith, long, few); phases = omega (arith, r.phases); each = r.fits } in
+        let script : IsScript actors r.lines bytes = record {
+          texts = lines_of bytes;
+          are = lines-there bytes;
+          spelled = lines-spell r.lines (lines_of bytes) r.spelled;
+          fits = fits;
+          short = ltb-false byte_limit (length bytes) e;
+        } in
+        (r.lines, script, r.same)

@@ -1,5 +1,5 @@
 -- A script is read as the steps that its lines say.
-use Rattle.std.proofs.Common.{◌≡◌, ℕ, ◌+◌, ◌<◌, ◌≤◌, Bool, false, cond, ◌||◌, nat_eq, List, [], ◌∷◌, map, length, Result, Ok, Err, refl, sym, ap, ◌∙◌, arith}
+use Rattle.std.proofs.Common.{◌≡◌, ℕ, ◌+◌, ◌<◌, ◌≤◌, Bool, false, cond, ◌||◌, nat_eq, List, [], ◌∷◌, map, length, Result, Ok, Err, refl, sym, ap, ◌∙◌, subst, arith}
 use Rattle.std.specs.Prelude.{◌==◌, nat_lt, count_by}
 use Rattle.std.specs.List.{AllZip, AllByRecursion}
 use Rattle.std.proofs.lemmas.Bool.{ne_eqb, le-ltb}
@@ -7,46 +7,67 @@ use Rattle.std.proofs.lemmas.List.Sums.{sum_by-cons}
 use Rattle.viz_words.specs.declared.refusal.ScriptRefusal.TheVariants as refusal
 use Rattle.viz_words.specs.Lines.{lines_of}
 use Rattle.viz_script.specs.Script.{Line, silent, begins_phase, asks, Stepped, Stop, byte_limit, line_limit, phase_limit, with_step, told, line_in, steps_from, is_too_long, script_of}
-use Rattle.viz_script_law.specs.Grammar.{SpellsLine, line_text, script_text}
-use Rattle.viz_script_law.specs.Says.{steps_at, steps_of, FitsLine, begins, Fits, IsScript}
-use Rattle.viz_script_law.proofs.Words.{zip-length}
+use Rattle.viz_script_law.specs.Tokens.{line_text, script_text}
+use Rattle.viz_script_law.specs.Spelling.{SpellsLine, AreLines}
+use Rattle.viz_script_law.specs.Fits.{FitsLine, is_phase, FitsScript}
+use Rattle.viz_script_law.specs.Says.{steps_at, steps_of}
+use Rattle.viz_script_law.specs.Script.{IsScript}
+use Rattle.viz_script_law.proofs.Words.{HasLine, zip-length}
+use Rattle.viz_script_law.proofs.SpellingLemmas.{line-found}
+use Rattle.viz_script_law.proofs.LinesLemmas.{lines-found, lines-there}
 use Rattle.viz_script_law.proofs.LineRead.{line-read}
 use Rattle.viz_script_law.proofs.PlainLemmas.{lines-again, lines-spelled}
 
-pub count-more : (line : Line) (lines : List Line) → count_by begins (line ∷ lines) ≡ cond (begins line) 1 0 + count_by begins lines
-count-more line lines = sum_by-cons (λ l. cond (begins l) 1 0) line lines
+pub count-more : (line : Line) (lines : List Line) → count_by is_phase (line ∷ lines) ≡ cond (is_phase line) 1 0 + count_by is_phase lines
+count-more line lines = sum_by-cons (λ l. cond (is_phase l) 1 0) line lines
 
-steps-read : (actors n phase : ℕ) (lines : List Line) (texts : List (List ℕ)) → AllByRecursion (FitsLine actors) lines → AllZip SpellsLine lines texts
-    → phase + count_by begins lines ≤ phase_limit → steps_from actors n phase texts ≡ Ok (steps_at n phase lines)
+steps-read : (actors n phase : ℕ) (lines : List Line) (texts : List (List ℕ)) → AllByRecursion (FitsLine actors) lines → AllZip HasLine lines texts
+    → phase + count_by is_phase lines ≤ phase_limit → steps_from actors n phase texts ≡ Ok (steps_at n phase lines)
 steps-read actors n phase [] [] f h few = refl
 steps-read actors n phase [] (text ∷ texts) f h few = absurd h
 steps-read actors n phase (line ∷ lines) [] f h few = absurd h
 steps-read actors n phase (silent ∷ lines) (text ∷ texts) f h few =
-    let same : count_by begins (silent ∷ lines) ≡ 0 + count_by begins lines = count-more silent lines in
+    let same : count_by is_phase (silent ∷ lines) ≡ 0 + count_by is_phase lines = count-more silent lines in
     ap (told n phase (λ p. steps_from actors (n + 1) p texts)) (line-read actors silent text f.0 h.0)
     ∙ steps-read actors (n + 1) phase lines texts f.1 h.1 (omega (arith, few, same))
 steps-read actors n phase (begins_phase ∷ lines) (text ∷ texts) f h few =
-    let more : count_by begins (begins_phase ∷ lines) ≡ 1 + count_by begins lines = count-more begins_phase lines in
+    let more : count_by is_phase (begins_phase ∷ lines) ≡ 1 + count_by is_phase lines = count-more begins_phase lines in
     ap (told n phase (λ p. steps_from actors (n + 1) p texts)) (line-read actors begins_phase text f.0 h.0)
     ∙ ap (λ b. cond b (Err (n, refusal.Phase)) (steps_from actors (n + 1) (phase + 1) texts)) (ne_eqb phase 64 (λ e. omega (arith, few, more)))
     ∙ steps-read actors (n + 1) (phase + 1) lines texts f.1 h.1 (omega (arith, few, more))
 steps-read actors n phase (asks actor asked ∷ lines) (text ∷ texts) f h few =
-    let same : count_by begins (asks actor asked ∷ lines) ≡ 0 + count_by begins lines = count-more (asks actor asked) lines in
+    let same : count_by is_phase (asks actor asked ∷ lines) ≡ 0 + count_by is_phase lines = count-more (asks actor asked) lines in
     let step : Stepped = record { phase = phase; actor = actor; line = n; asked = asked } in
     ap (told n phase (λ p. steps_from actors (n + 1) p texts)) (line-read actors (asks actor asked) text f.0 h.0)
     ∙ ap (with_step step) (steps-read actors (n + 1) phase lines texts f.1 h.1 (omega (arith, few, same)))
 
+-- lines that are spelled have their words
+lines-words : (actors : ℕ) (lines : List Line) (texts : List (List ℕ)) → AllByRecursion (FitsLine actors) lines → AllZip SpellsLine lines texts → AllZip HasLine lines texts
+lines-words actors [] [] f h = tt
+lines-words actors [] (text ∷ texts) f h = absurd h
+lines-words actors (line ∷ lines) [] f h = absurd h
+lines-words actors (line ∷ lines) (text ∷ texts) f h = (line-found actors line text f.0 h.0, lines-words actors lines texts f.1 h.1)
+
 pub every : (actors : ℕ) (lines : List Line) (bytes : List ℕ) → IsScript actors lines bytes → script_of actors bytes ≡ Ok (steps_of lines)
 every actors lines bytes s =
-    let long = zip-length SpellsLine lines (lines_of bytes) s.spelled in
+    let found : lines_of bytes ≡ s.texts = lines-found s.texts bytes s.are in
+    let spelled : AllZip HasLine lines (lines_of bytes) = subst (AllZip HasLine lines) (sym found) (lines-words actors lines s.texts s.fits.each s.spelled) in
+    let long = zip-length HasLine lines (lines_of bytes) spelled in
     let short : is_too_long bytes ≡ false =
     ap (λ b. b || nat_lt line_limit (length (lines_of bytes))) (le-ltb byte_limit (length bytes) s.short)
     ∙ le-ltb line_limit (length (lines_of bytes)) (omega (arith, long, s.fits.few)) in
     ap (λ b. cond b (Err (0, refusal.TooLong)) (steps_from actors 1 1 (lines_of bytes))) short
-    ∙ steps-read actors 1 1 lines (lines_of bytes) s.fits.each s.spelled (omega (arith, s.fits.phases))
+    ∙ steps-read actors 1 1 lines (lines_of bytes) s.fits.each spelled (omega (arith, s.fits.phases))
 
-pub plain : (actors : ℕ) (lines : List Line) → Fits actors lines → length (script_text (map line_text lines)) ≤ byte_limit
-    → script_of actors (script_text (map line_text lines)) ≡ Ok (steps_of lines)
-plain actors lines f short =
-    every actors lines (script_text (map line_text lines))
-    (record { short = short; fits = f; spelled = rw (lines-again actors lines f.each) (lines-spelled actors lines f.each) })
+-- the plain spelling of lines is a script of them
+pub plain-script : (actors : ℕ) (lines : List Line) → FitsScript actors lines → length (script_text lines) ≤ byte_limit → IsScript actors lines (script_text lines)
+plain-script actors lines f short = record {
+  texts = map line_text lines;
+  are = subst (λ ts. AreLines ts (script_text lines)) (lines-again actors lines f.each) (lines-there (script_text lines));
+  spelled = lines-spelled actors lines f.each;
+  fits = f;
+  short = short;
+}
+
+pub plain : (actors : ℕ) (lines : List Line) → FitsScript actors lines → length (script_text lines) ≤ byte_limit → script_of actors (script_text lines) ≡ Ok (steps_of lines)
+plain actors lines f short = every actors lines (script_text lines) (plain-script actors lines f short)

@@ -1,24 +1,37 @@
 -- The words of a line, taken off one by one.
-use Rattle.std.proofs.Common.{◌≡◌, ℕ, ℤ, pos, List, [], ◌∷◌, length, Some, refl, ap, ◌∙◌, arith}
+use Rattle.std.proofs.Common.{◌≡◌, ℕ, ℤ, true, List, [], ◌∷◌, length, Some, refl, ap, ◌∙◌, arith}
 use Rattle.std.specs.List.{AllZip}
+use Rattle.viz_words.specs.Lines.{is_plain}
+use Rattle.viz_words.specs.Words.{words_of, is_skipped}
 use Rattle.viz_words.specs.Numbers.{number_of}
-use Rattle.viz_script_law.specs.Grammar.{Word, exact, number, SpellsWord}
+use Rattle.viz_script.specs.Script.{Line, silent, begins_phase, asks}
+use Rattle.viz_script_law.specs.Tokens.{Token, exact, number, line_tokens}
+use Rattle.viz_script_law.specs.Spelling.{SpellsToken}
 
--- the words of texts are spelled
-abbrev pub Spelled : List Word → List (List ℕ) → Type 0
-Spelled words texts = AllZip SpellsWord words texts
+-- the words spell the tokens in turn
+abbrev pub Spelled : List Token → List (List ℕ) → Type 0
+Spelled tokens words = AllZip SpellsToken tokens words
+
+-- the words of the text, each byte of which may stand in a script, spell the tokens
+abbrev pub HasWords : List Token → List ℕ → Type 0
+HasWords tokens text = (is_plain text ≡ true) × Spelled tokens (words_of text)
+
+-- the words of the text are those of the line
+abbrev pub HasLine : Line → List ℕ → Type 0
+HasLine silent text = is_skipped text ≡ true
+HasLine line text = HasWords (line_tokens line) text
 
 -- the first word is spelled in one way
-pub first-exact : (word : List ℕ) (words : List Word) (texts : List (List ℕ)) → Spelled (exact word ∷ words) texts
-    → (rest : List (List ℕ)) × (texts ≡ word ∷ rest) × Spelled words rest
-first-exact word words [] h = absurd h
-first-exact word words (text ∷ texts) h = (texts, ap (λ t. t ∷ texts) h.0, h.1)
+pub first-exact : (word : List ℕ) (tokens : List Token) (texts : List (List ℕ)) → Spelled (exact word ∷ tokens) texts
+    → (rest : List (List ℕ)) × (texts ≡ word ∷ rest) × Spelled tokens rest
+first-exact word tokens [] h = absurd h
+first-exact word tokens (text ∷ texts) h = (texts, ap (λ t. t ∷ texts) h.0, h.1)
 
 -- the first word is a number
-pub first-number : (n : ℤ) (words : List Word) (texts : List (List ℕ)) → Spelled (number n ∷ words) texts
-    → (text : List ℕ) × (rest : List (List ℕ)) × (texts ≡ text ∷ rest) × (number_of text ≡ Some n) × Spelled words rest
-first-number n words [] h = absurd h
-first-number n words (text ∷ texts) h = (text, texts, refl, h.0, h.1)
+pub first-number : (n : ℤ) (tokens : List Token) (texts : List (List ℕ)) → Spelled (number n ∷ tokens) texts
+    → (text : List ℕ) × (rest : List (List ℕ)) × (texts ≡ text ∷ rest) × (number_of text ≡ Some n) × Spelled tokens rest
+first-number n tokens [] h = absurd h
+first-number n tokens (text ∷ texts) h = (text, texts, refl, h.0, h.1)
 
 -- there is no further word
 pub no-more : (texts : List (List ℕ)) → Spelled [] texts → texts ≡ []

@@ -1,2 +1,5 @@
-pub mod Grammar
+pub mod Script
 pub mod Says
+pub mod Fits
+pub mod Spelling
+pub mod Tokens

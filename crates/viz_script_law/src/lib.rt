@@ -8,4 +8,4 @@
 
 mod laws;
 
-pub use laws::{nothing_else_is_read, plain_lines_are_spelled, what_is_spelled_is_read};
+pub use laws::{nothing_else_is_read, plain_spelling_spells, what_is_spelled_is_read};
