@@ -1,6 +1,6 @@
 -- Words that spell a command are read as that command.
-use Rattle.std.proofs.Common.{◌≡◌, ℕ, ℤ, pos, ◌-◌, ◌<◌, ◌≤◌, true, false, cond, ◌&&◌, nat_le, List, [], ◌∷◌, ◌++◌, map, length, take, drop, replicate, Option, Some, None, Result, Ok, Err, refl, sym, ap, ◌∙◌, arith}
-use Rattle.std.specs.Prelude.{codes, ok_or, int_le, unsigned_abs}
+use Rattle.std.proofs.Common.{◌≡◌, ℕ, ℤ, pos, ◌-◌, ◌<◌, ◌≤◌, true, cond, ◌&&◌, nat_le, List, [], ◌∷◌, ◌++◌, map, length, take, replicate, Option, Some, None, Result, Ok, Err, refl, sym, ap, ◌∙◌, arith}
+use Rattle.std.specs.Prelude.{ok_or, int_le, unsigned_abs}
 use Rattle.std.proofs.lemmas.Bool.{le-leb}
 use Rattle.std.proofs.lemmas.List.{length-take-le, take-append-drop}
 use Rattle.viz_kinds.specs.declared.kind.Kind.{Kind}
@@ -26,8 +26,8 @@ use Rattle.viz_words.specs.Commands.{kind_verb, param_verb, verb_of, one, two, t
 use Rattle.viz_words.specs.Edits.{add_in, remove_in, connect_in, disconnect_in, value_set_in}
 use Rattle.viz_script.specs.Orders.{Asked, edit, load, update, audit, load_in, update_in, audit_in, order_in}
 use Rattle.viz_journal.proofs.AgainLemmas.{named-again, param-again}
-use Rattle.viz_script_law.specs.Tokens.{Token, exact, number, value_tokens, edit_tokens, command_tokens}
-use Rattle.viz_script_law.specs.Fits.{FitsNumbers, FitsRange, is_text_of, FitsLineValue, FitsLineEdit, FitsCommand}
+use Rattle.viz_script_law.specs.Tokens.{exact, number, value_tokens, edit_tokens, command_tokens}
+use Rattle.viz_script_law.specs.Fits.{FitsRange, is_text_of, FitsLineValue, FitsLineEdit, FitsCommand}
 use Rattle.viz_script_law.proofs.Words.{Spelled, first-exact, first-number, no-more}
 
 -- what is read of the words behind an actor
@@ -211,7 +211,7 @@ update-says node file p w pieces workers f ep ew = record {
   told = ap (λ (r : Result (List ℕ) ScriptRefusal). r >>= λ a. named_in is_file_name file >>= λ b. natural_in 1 64 p >>= λ m. natural_in 1 64 w >>= λ n. Ok (update a b m n)) (named-again is_node_name node f.0)
       ∙ ap (λ (r : Result (List ℕ) ScriptRefusal). r >>= λ b. natural_in 1 64 p >>= λ m. natural_in 1 64 w >>= λ n. Ok (update node b m n)) (named-again is_file_name file f.1)
       ∙ ap (λ (r : Result ℕ ScriptRefusal). r >>= λ m. natural_in 1 64 w >>= λ n. Ok (update node file m n)) (natural-read 1 64 pieces p f.2.0 f.2.1 ep)
-      ∙ ap (λ (r : Result ℕ ScriptRefusal). r >>= λ n. Ok (update node file pieces n)) (natural-read 1 64 workers w f.3.0 f.3.1 ew);
+      ∙ ap (λ (r : Result ℕ ScriptRefusal). r >>= λ n. Ok (update node file pieces n)) (natural-read 1 64 workers w f.2.2 f.2.3 ew);
 }
 
 audit-says : (node p w : List ℕ) (pieces workers : ℕ) → FitsCommand (audit node pieces workers) → number_of p ≡ Some (pos pieces) → number_of w ≡ Some (pos workers)
@@ -225,7 +225,7 @@ audit-says node p w pieces workers f ep ew = record {
   known = refl;
   told = ap (λ (r : Result (List ℕ) ScriptRefusal). r >>= λ a. natural_in 1 64 p >>= λ m. natural_in 1 64 w >>= λ n. Ok (audit a m n)) (named-again is_node_name node f.0)
       ∙ ap (λ (r : Result ℕ ScriptRefusal). r >>= λ m. natural_in 1 64 w >>= λ n. Ok (audit node m n)) (natural-read 1 64 pieces p f.1.0 f.1.1 ep)
-      ∙ ap (λ (r : Result ℕ ScriptRefusal). r >>= λ n. Ok (audit node pieces n)) (natural-read 1 64 workers w f.2.0 f.2.1 ew);
+      ∙ ap (λ (r : Result ℕ ScriptRefusal). r >>= λ n. Ok (audit node pieces n)) (natural-read 1 64 workers w f.1.2 f.1.3 ew);
 }
 
 -- ---- the words of a command

@@ -1,8 +1,7 @@
 -- The words of a command are bytes without a gap, and numbers of 64 bits.
-use Rattle.std.proofs.Common.{◌≡◌, ◌⊎◌, inl, inr, ℕ, ℤ, pos, ◌≤◌, Bool, true, false, cond, ◌&&◌, ◌||◌, nat_le, true≢false, List, [], ◌∷◌, ◌++◌, map, length, take, append_assoc, Option, Some, None, refl, sym, ap, ◌∙◌, eqb-true, arith}
+use Rattle.std.proofs.Common.{◌≡◌, ◌⊎◌, inl, inr, ℕ, ℤ, pos, ◌≤◌, true, ◌&&◌, ◌||◌, nat_le, List, [], ◌∷◌, map, length, take, Option, Some, None, refl, ap, eqb-true, arith}
 use Rattle.std.specs.Prelude.{◌==◌, codes, int_le}
-use Rattle.std.specs.List.{list_all, AllZip, AllByRecursion}
-use Rattle.std.specs.Fmt.{signed_decimal}
+use Rattle.std.specs.List.{list_all, AllByRecursion}
 use Rattle.std.proofs.lemmas.Bool.{le-leb, leb-true}
 use Rattle.viz_kinds.specs.declared.param.Param.{Param}
 use Rattle.viz_kinds.specs.declared.param.Param.TheVariants as param
@@ -14,16 +13,13 @@ use Rattle.viz_network.specs.declared.edit.Edit.{Edit}
 use Rattle.viz_network.specs.declared.edit.Edit.TheVariants as edits
 use Rattle.viz_words.specs.declared.command.Command.{Command}
 use Rattle.viz_words.specs.declared.command.Command.TheVariants as command
-use Rattle.viz_words.specs.Lines.{begins_newline, in_front, lines_of, is_plain_byte, is_plain}
-use Rattle.viz_words.specs.Words.{words_of, spaced}
-use Rattle.viz_words.specs.Names.{is_node_byte, is_file_byte, is_array_byte, is_node_name, is_file_name, is_array_name, begins_name}
+use Rattle.viz_words.specs.Names.{is_node_byte, is_file_byte, is_array_byte, is_file_name, begins_name}
 use Rattle.viz_words.specs.Tables.{command_word}
 use Rattle.viz_script.specs.Orders.{Asked, edit, load, update, audit}
 use Rattle.viz_script.specs.Script.{Line, silent, begins_phase, asks}
-use Rattle.viz_journal.proofs.SolidLemmas.{and-parts, or-parts, weaker, Solid, solid-node, solid-array, solid-number, number-signed, words-again, plain-again}
+use Rattle.viz_journal.proofs.SolidLemmas.{and-parts, or-parts, weaker, Solid, solid-node, solid-array}
 use Rattle.viz_journal.proofs.AgainLemmas.{kind-solid, param-solid}
-use Rattle.viz_script_law.specs.Tokens.{Token, exact, number, value_tokens, edit_tokens, command_tokens, line_tokens, token_text, line_text, script_text}
-use Rattle.viz_script_law.specs.Spelling.{SpellsToken}
+use Rattle.viz_script_law.specs.Tokens.{Token, exact, number, value_tokens, edit_tokens, command_tokens, line_tokens}
 use Rattle.viz_script_law.specs.Fits.{FitsRange, is_text_of, FitsLineValue, FitsLineEdit, FitsCommand, FitsLine}
 
 -- a word that can be spelled plainly: bytes without a gap, or a number of 64 bits
@@ -97,9 +93,9 @@ pub asked-fit : (c : Asked) → FitsCommand c → AllByRecursion Fit (command_to
 asked-fit (edit e) f = edit-fit e f
 asked-fit (load node file) f = (command-fit command.Load, (solid-node node f.0, (file-fit file f.1, tt)))
 asked-fit (update node file pieces workers) f =
-    (command-fit command.Update, (solid-node node f.0, (file-fit file f.1, (natural-fit pieces (omega (arith, f.2.1)), (natural-fit workers (omega (arith, f.3.1)), tt)))))
+    (command-fit command.Update, (solid-node node f.0, (file-fit file f.1, (natural-fit pieces (omega (arith, f.2.1)), (natural-fit workers (omega (arith, f.2.3)), tt)))))
 asked-fit (audit node pieces workers) f =
-    (command-fit command.Audit, (solid-node node f.0, (natural-fit pieces (omega (arith, f.1.1)), (natural-fit workers (omega (arith, f.2.1)), tt))))
+    (command-fit command.Audit, (solid-node node f.0, (natural-fit pieces (omega (arith, f.1.1)), (natural-fit workers (omega (arith, f.1.3)), tt))))
 
 -- the words of a line that a script can have
 pub line-fit : (actors : ℕ) (line : Line) → FitsLine actors line → AllByRecursion Fit (line_tokens line)

@@ -9,3 +9,4 @@ pub mod ScriptRead
 pub mod OnlyParts
 pub mod OnlyCommands
 pub mod OnlyLines
+mod StandardFacts

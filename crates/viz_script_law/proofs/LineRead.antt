@@ -1,9 +1,7 @@
 -- A line that is spelled says what it spells.
-use Rattle.std.proofs.Common.{◌≡◌, ℕ, ℤ, pos, ◌≤◌, Bool, true, false, cond, ◌&&◌, ◌||◌, true≢false, List, [], ◌∷◌, length, Option, Some, None, Result, Ok, Err, refl, sym, ap, ◌∙◌, eqb-true, arith}
-use Rattle.std.specs.Prelude.{◌==◌, codes, option_map, nat_le}
-use Rattle.std.specs.List.{list_all}
+use Rattle.std.proofs.Common.{◌≡◌, ℕ, ℤ, pos, ◌≤◌, Bool, true, false, cond, ◌||◌, true≢false, List, [], ◌∷◌, length, Option, Some, None, Result, Ok, refl, sym, ap, ◌∙◌, eqb-true}
+use Rattle.std.specs.Prelude.{◌==◌, codes, option_map}
 use Rattle.std.proofs.lemmas.Bool.{le-leb}
-use Rattle.viz_lex.specs.Numbers.{is_digit, digits_value, natural_of}
 use Rattle.viz_kinds.specs.Values.{is_text}
 use Rattle.viz_words.specs.declared.refusal.ScriptRefusal.{ScriptRefusal}
 use Rattle.viz_words.specs.declared.refusal.ScriptRefusal.TheVariants as refusal
@@ -12,13 +10,13 @@ use Rattle.viz_words.specs.Gives.{◌>>=◌, guard}
 use Rattle.viz_words.specs.Lines.{in_front, is_plain}
 use Rattle.viz_words.specs.Words.{is_gap, begins_word, words_of, begins_hash, is_empty, is_skipped}
 use Rattle.viz_words.specs.Numbers.{within, number_of}
-use Rattle.viz_words.specs.Commands.{verb_of, due}
+use Rattle.viz_words.specs.Commands.{due}
 use Rattle.viz_script.specs.Orders.{Asked, order_in}
 use Rattle.viz_script.specs.Script.{Line, silent, begins_phase, asks, is_actor, phase_in, actor_in, number_in_front, words_in, line_in}
 use Rattle.viz_journal.proofs.OnlyLemmas.{same-text}
-use Rattle.viz_script_law.specs.Tokens.{Token, exact, number, command_tokens, line_tokens}
-use Rattle.viz_script_law.specs.Fits.{FitsLine, FitsCommand}
-use Rattle.viz_script_law.proofs.Words.{HasWords, HasLine, first-exact, first-number, no-more}
+use Rattle.viz_script_law.specs.Tokens.{command_tokens}
+use Rattle.viz_script_law.specs.Fits.{FitsLine}
+use Rattle.viz_script_law.proofs.Words.{HasLine, first-exact, first-number, no-more}
 use Rattle.viz_script_law.proofs.CommandRead.{Says, command-says}
 
 -- the first word begins with the first byte of a line that begins with a word

@@ -1,6 +1,5 @@
 -- What is read as a command is spelled by the words that were read.
-use Rattle.std.proofs.Common.{◌≡◌, ℕ, ℤ, pos, ◌-◌, ◌<◌, ◌≤◌, Bool, true, false, cond, ◌&&◌, nat_le, List, [], ◌∷◌, ◌++◌, map, length, length-append, take, drop, replicate, Option, Some, None, Result, Ok, Err, refl, sym, ap, ◌∙◌, subst, arith}
-use Rattle.std.specs.Prelude.{ok_or, int_le}
+use Rattle.std.proofs.Common.{◌≡◌, ℕ, ℤ, pos, ◌-◌, true, ◌&&◌, nat_le, List, [], ◌∷◌, ◌++◌, map, length, length-append, take, drop, replicate, Option, Some, None, Result, Ok, refl, sym, ap, ◌∙◌, subst, arith}
 use Rattle.std.proofs.lemmas.Bool.{leb-true}
 use Rattle.std.proofs.lemmas.List.{length-replicate}
 use Rattle.viz_kinds.specs.declared.kind.Kind.{Kind}
@@ -143,7 +142,7 @@ value-is p texts value counted read = by (numbers_of p) refl counted read
         let t = text-is p a.0 b.0 b.1 in
         let same : Text b.0 ≡ value = cc b.2 in
         let spelled : Spelled (exact b.0 ∷ []) texts = subst (Spelled (exact b.0 ∷ [])) (sym (one-is texts a.0 a.1)) (t.0, tt) in
-        subst (λ v. Spelled (value_tokens v) texts × FitsLineValue p v) same (spelled, (e, t.1))
+        subst (λ v. Spelled (value_tokens v) texts × FitsLineValue p v) {x = Text b.0} same (spelled, (e, t.1))
     by (Some range) e c h =
         let a = bind-ok (padded_in texts) (λ items. Ok (Numbers (length texts) items)) value h in
         let b = bind-ok (numbers_in texts) (λ ns. Ok (padded ns)) a.0 a.1 in
@@ -154,7 +153,7 @@ value-is p texts value counted read = by (numbers_of p) refl counted read
         let front : take (length b.0) (padded b.0) ≡ b.0 = take-front b.0 (replicate (8 - length b.0) (pos 0)) in
         let spelled : Spelled (map number (take (length b.0) (padded b.0))) texts = subst (λ l. Spelled (map number l) texts) (sym front) n.0 in
         let fits = padded-fit range b.0 (ap (fits_count (Some range)) (sym n.1) ∙ c) n.2 in
-        subst (λ v. Spelled (value_tokens v) texts × FitsLineValue p v) same (spelled, subst (λ r. FitsRange r (length b.0) (padded b.0)) (sym e) fits)
+        subst (λ v. Spelled (value_tokens v) texts × FitsLineValue p v) {x = Numbers (length b.0) (padded b.0)} same (spelled, subst (λ r. FitsRange r (length b.0) (padded b.0)) (sym e) fits)
 
 -- ---- edits
 
@@ -175,7 +174,7 @@ add-is kind word tail e is h =
     let both : a.0.0 ∷ a.0.1 ∷ [] ≡ kind_word kind ∷ is.1.0 = sym are ∙ is.1.1 in
     let front : a.0.0 ≡ kind_word kind = cc both in
     let same : edits.Add kind b.0 ≡ e = cc b.2 in
-    subst (λ x. TellsEdit x word tail) same (spelled-at (edit_tokens (edits.Add kind b.0)) word tail _ are (is.0, (front, (n.0, tt))), n.1)
+    subst (λ x. TellsEdit x word tail) {x = edits.Add kind b.0} same (spelled-at (edit_tokens (edits.Add kind b.0)) word tail _ are (is.0, (front, (n.0, tt))), n.1)
 
 remove-is : (word : List ℕ) (tail : List (List ℕ)) (e : Edit) → IsVerb verb.Remove word tail → remove_in tail ≡ Ok e → TellsEdit e word tail
 unfolding remove_in
@@ -184,7 +183,7 @@ remove-is word tail e is h =
     let b = bind-ok (named_in is_node_name a.0) (λ node. Ok (edits.Remove node)) e a.2 in
     let n = named-is is_node_name a.0 b.0 b.1 in
     let same : edits.Remove b.0 ≡ e = cc b.2 in
-    subst (λ x. TellsEdit x word tail) same (spelled-at (edit_tokens (edits.Remove b.0)) word tail _ (one-is tail a.0 a.1) (is, (n.0, tt)), n.1)
+    subst (λ x. TellsEdit x word tail) {x = edits.Remove b.0} same (spelled-at (edit_tokens (edits.Remove b.0)) word tail _ (one-is tail a.0 a.1) (is, (n.0, tt)), n.1)
 
 connect-is : (word : List ℕ) (tail : List (List ℕ)) (e : Edit) → IsVerb verb.Connect word tail → connect_in tail ≡ Ok e → TellsEdit e word tail
 unfolding connect_in
@@ -197,7 +196,7 @@ connect-is word tail e is h =
     let m = named-is is_node_name a.0.1 d.0 d.1 in
     let q = natural-is 0 255 p.0 a.0.2 p.1 in
     let same : edits.Connect b.0 d.0 p.0 ≡ e = cc p.2 in
-    subst (λ x. TellsEdit x word tail) same
+    subst (λ x. TellsEdit x word tail) {x = edits.Connect b.0 d.0 p.0} same
     (spelled-at (edit_tokens (edits.Connect b.0 d.0 p.0)) word tail _ (three-is tail a.0 a.1) (is, (n.0, (m.0, (q.0, tt)))), (n.1, m.1, omega (arith, q.2)))
 
 disconnect-is : (word : List ℕ) (tail : List (List ℕ)) (e : Edit) → IsVerb verb.Disconnect word tail → disconnect_in tail ≡ Ok e → TellsEdit e word tail
@@ -209,8 +208,11 @@ disconnect-is word tail e is h =
     let n = named-is is_node_name a.0.0 b.0 b.1 in
     let q = natural-is 0 255 p.0 a.0.1 p.1 in
     let same : edits.Disconnect b.0 p.0 ≡ e = cc p.2 in
-    subst (λ x. TellsEdit x word tail) same
+    subst (λ x. TellsEdit x word tail) {x = edits.Disconnect b.0 p.0} same
     (spelled-at (edit_tokens (edits.Disconnect b.0 p.0)) word tail _ (two-is tail a.0 a.1) (is, (n.0, (q.0, tt))), (n.1, omega (arith, q.2)))
+
+set-same : (p : Param) (name : List ℕ) (value : Value) (s : List ℕ × Value) (e : Edit) → (name, value) ≡ s → edits.Set s.0 p s.1 ≡ e → edits.Set name p value ≡ e
+set-same p name value s e pair made = ap (λ (x : List ℕ × Value). edits.Set x.0 p x.1) pair ∙ made
 
 set-is : (p : Param) (word : List ℕ) (tail : List (List ℕ)) (e : Edit) → IsVerb (verb.Set p) word tail → value_set_in p tail ≡ Ok e → TellsEdit e word tail
 unfolding value_set_in set_in
@@ -228,13 +230,13 @@ set-is p word tail e is h =
     let v = bind-ok (value_in p (numbers_of p) d.0.1) (last n.0) a.0 n.2 in
     let pair : (n.0, v.0) ≡ a.0 = cc v.2 in
     let made : edits.Set a.0.0 p a.0.1 ≡ e = cc a.2 in
-    let same : edits.Set n.0 p v.0 ≡ e = ap (λ (s : List ℕ × Value). edits.Set s.0 p s.1) pair ∙ made in
+    let same : edits.Set n.0 p v.0 ≡ e = set-same p n.0 v.0 a.0 e pair made in
     let are : tail ≡ b.0.0 ∷ d.0.0 ∷ d.0.1 = due-is tail b.0 b.1 ∙ ap (λ l. b.0.0 ∷ l) (due-is b.0.1 d.0 d.1) in
     let both : b.0.0 ∷ d.0.0 ∷ d.0.1 ≡ is.1.0 ∷ param_word p ∷ is.1.1 = sym are ∙ is.1.2 in
     let second : d.0.0 ≡ param_word p = cc both in
     let name = named-is is_node_name b.0.0 n.0 n.1 in
     let value = value-is p d.0.1 v.0 g.0 v.1 in
-    subst (λ x. TellsEdit x word tail) same
+    subst (λ x. TellsEdit x word tail) {x = edits.Set n.0 p v.0} same
     (spelled-at (edit_tokens (edits.Set n.0 p v.0)) word tail _ are (is.0, (name.0, (second, value.0))), (name.1, value.1))
 
 -- ---- commands
@@ -252,7 +254,7 @@ load-is word tail asked is h =
     let n = named-is is_node_name a.0.0 b.0 b.1 in
     let f = named-is is_file_name a.0.1 d.0 d.1 in
     let same : load b.0 d.0 ≡ asked = cc d.2 in
-    subst (λ x. Tells x word tail) same (spelled-at (command_tokens (load b.0 d.0)) word tail _ (two-is tail a.0 a.1) (is, (n.0, (f.0, tt))), (n.1, f.1))
+    subst (λ x. Tells x word tail) {x = load b.0 d.0} same (spelled-at (command_tokens (load b.0 d.0)) word tail _ (two-is tail a.0 a.1) (is, (n.0, (f.0, tt))), (n.1, f.1))
 
 update-is : (word : List ℕ) (tail : List (List ℕ)) (asked : Asked) → IsVerb verb.Update word tail → update_in tail ≡ Ok asked → Tells asked word tail
 unfolding update_in
@@ -271,8 +273,8 @@ update-is word tail asked is h =
     let q = natural-is 1 64 p.0 a.0.2 p.1 in
     let r = natural-is 1 64 w.0 a.0.3 w.1 in
     let same : update b.0 d.0 p.0 w.0 ≡ asked = cc w.2 in
-    subst (λ x. Tells x word tail) same
-    (spelled-at (command_tokens (update b.0 d.0 p.0 w.0)) word tail _ (four-is tail a.0 a.1) (is, (n.0, (f.0, (q.0, (r.0, tt))))), (n.1, f.1, (q.1, q.2), (r.1, r.2)))
+    subst (λ x. Tells x word tail) {x = update b.0 d.0 p.0 w.0} same
+    (spelled-at (command_tokens (update b.0 d.0 p.0 w.0)) word tail _ (four-is tail a.0 a.1) (is, (n.0, (f.0, (q.0, (r.0, tt))))), (n.1, f.1, (q.1, q.2, r.1, r.2)))
 
 audit-is : (word : List ℕ) (tail : List (List ℕ)) (asked : Asked) → IsVerb verb.Audit word tail → audit_in tail ≡ Ok asked → Tells asked word tail
 unfolding audit_in
@@ -288,8 +290,8 @@ audit-is word tail asked is h =
     let q = natural-is 1 64 p.0 a.0.1 p.1 in
     let r = natural-is 1 64 w.0 a.0.2 w.1 in
     let same : audit b.0 p.0 w.0 ≡ asked = cc w.2 in
-    subst (λ x. Tells x word tail) same
-    (spelled-at (command_tokens (audit b.0 p.0 w.0)) word tail _ (three-is tail a.0 a.1) (is, (n.0, (q.0, (r.0, tt)))), (n.1, (q.1, q.2), (r.1, r.2)))
+    subst (λ x. Tells x word tail) {x = audit b.0 p.0 w.0} same
+    (spelled-at (command_tokens (audit b.0 p.0 w.0)) word tail _ (three-is tail a.0 a.1) (is, (n.0, (q.0, (r.0, tt)))), (n.1, (q.1, q.2, r.1, r.2)))
 
 -- an edit as a command
 as-edit : (r : Result Edit ScriptRefusal) (word : List ℕ) (tail : List (List ℕ)) (asked : Asked) → ((e : Edit) → r ≡ Ok e → TellsEdit e word tail)
@@ -297,7 +299,7 @@ as-edit : (r : Result Edit ScriptRefusal) (word : List ℕ) (tail : List (List �
 as-edit r word tail asked is h =
     let a = bind-ok r (λ e. Ok (edit e)) asked h in
     let same : edit a.0 ≡ asked = cc a.2 in
-    subst (λ x. Tells x word tail) same (is a.0 a.1)
+    subst (λ x. Tells x word tail) {x = edit a.0} same (is a.0 a.1)
 
 pub order-is : (v : Verb) (word : List ℕ) (tail : List (List ℕ)) (asked : Asked) → IsVerb v word tail → order_in v tail ≡ Ok asked → Tells asked word tail
 order-is verb.Missing word tail asked is h = let bad : ⊥ = cc h in absurd bad

@@ -1,6 +1,6 @@
 -- What is read as the steps of a script is a script of lines that say these steps.
-use Rattle.std.proofs.Common.{◌≡◌, ℕ, ℤ, pos, negsuc, ◌+◌, ◌≤◌, Bool, true, false, cond, ◌&&◌, ◌||◌, nat_le, true≢false, List, [], ◌∷◌, length, Option, Some, None, Result, Ok, Err, refl, sym, ap, ◌∙◌, subst, eqb-true, eq-eqb, arith}
-use Rattle.std.specs.Prelude.{◌==◌, codes, int_le, nat_lt, unsigned_abs, count_by}
+use Rattle.std.proofs.Common.{◌≡◌, ℕ, ℤ, pos, negsuc, ◌+◌, ◌≤◌, Bool, true, false, cond, ◌&&◌, ◌||◌, nat_le, true≢false, List, [], ◌∷◌, length, Option, Some, None, Result, Ok, Err, refl, sym, ap, ◌∙◌, subst, arith}
+use Rattle.std.specs.Prelude.{◌==◌, codes, nat_lt, unsigned_abs, count_by}
 use Rattle.std.specs.List.{AllZip, AllByRecursion}
 use Rattle.std.proofs.lemmas.Bool.{leb-true, ltb-false, eqb-false}
 use Rattle.viz_kinds.specs.Values.{is_text}
@@ -13,20 +13,20 @@ use Rattle.viz_words.specs.Numbers.{number_of}
 use Rattle.viz_words.specs.Commands.{verb_of, due}
 use Rattle.viz_words.proofs.NumberLemmas.{due-is}
 use Rattle.viz_script.specs.Orders.{Asked, order_in}
-use Rattle.viz_script.specs.Script.{Line, silent, begins_phase, asks, Stepped, Stop, byte_limit, line_limit, phase_limit, is_actor, phase_in, actor_in, number_in_front, words_in, line_in, with_step, told, steps_from, is_too_long, script_of}
+use Rattle.viz_script.specs.Script.{Line, silent, begins_phase, asks, Stepped, Stop, byte_limit, line_limit, phase_limit, is_actor, phase_in, actor_in, number_in_front, words_in, line_in, with_step, told, steps_from, script_of}
 use Rattle.viz_journal.proofs.OnlyLemmas.{same-text}
 use Rattle.viz_journal.proofs.SolidLemmas.{and-parts}
-use Rattle.viz_script_law.specs.Tokens.{Token, exact, number, command_tokens, line_tokens}
+use Rattle.viz_script_law.specs.Tokens.{exact, command_tokens, line_tokens}
 use Rattle.viz_script_law.specs.Spelling.{SpellsLine}
 use Rattle.viz_script_law.specs.Fits.{FitsCommand, FitsLine, is_phase, FitsScript}
 use Rattle.viz_script_law.specs.Says.{steps_at, steps_of}
-use Rattle.viz_script_law.specs.Script.{IsScript}
+use Rattle.viz_script_law.specs.Script.{SpellsScript}
 use Rattle.viz_script_law.proofs.Words.{Spelled, HasLine, zip-length}
 use Rattle.viz_script_law.proofs.SpellingLemmas.{line-spells}
 use Rattle.viz_script_law.proofs.LinesLemmas.{lines-there}
 use Rattle.viz_script_law.proofs.ScriptRead.{count-more}
 use Rattle.viz_script_law.proofs.OnlyParts.{bind-ok, guarded}
-use Rattle.viz_script_law.proofs.OnlyCommands.{IsVerb, verb-is, Tells, order-is}
+use Rattle.viz_script_law.proofs.OnlyCommands.{verb-is, order-is}
 
 -- ---- one line
 
@@ -131,8 +131,13 @@ lines-are actors n phase (text ∷ texts) steps few h = by (line_in actors text)
     by (Ok silent) e g ih =
         let is = line-is actors text silent e in
         let rest = ih phase steps few g in
-        record { lines = silent ∷ rest.lines; spelled = (is.0, rest.spelled); fits = (is.1, rest.fits);
-          phases = omega (arith, rest.phases, count-more silent rest.lines); same = rest.same }
+        record {
+          lines = silent ∷ rest.lines;
+          spelled = (is.0, rest.spelled);
+          fits = (is.1, rest.fits);
+          phases = omega (arith, rest.phases, count-more silent rest.lines);
+          same = rest.same;
+        }
     by (Ok begins_phase) e g ih = inner (phase == phase_limit) refl g
       where
         inner : (t : Bool) → (phase == phase_limit) ≡ t → cond t (Err (n, refusal.Phase)) (steps_from actors (n + 1) (phase + 1) texts) ≡ Ok steps
@@ -143,15 +148,25 @@ lines-are actors n phase (text ∷ texts) steps few h = by (line_in actors text)
             let other = eqb-false phase 64 p in
             let less : phase + 1 ≤ phase_limit = omega (arith, few, other) in
             let rest = ih (phase + 1) steps less k in
-            record { lines = begins_phase ∷ rest.lines; spelled = (is.0, rest.spelled); fits = (is.1, rest.fits);
-              phases = omega (arith, rest.phases, count-more begins_phase rest.lines); same = rest.same }
+            record {
+              lines = begins_phase ∷ rest.lines;
+              spelled = (is.0, rest.spelled);
+              fits = (is.1, rest.fits);
+              phases = omega (arith, rest.phases, count-more begins_phase rest.lines);
+              same = rest.same;
+            }
     by (Ok (asks actor asked)) e g ih =
         let is = line-is actors text (asks actor asked) e in
         let step : Stepped = record { phase = phase; actor = actor; line = n; asked = asked } in
         let more = with-step step (steps_from actors (n + 1) phase texts) steps g in
         let rest = ih phase more.0 few more.1 in
-        record { lines = asks actor asked ∷ rest.lines; spelled = (is.0, rest.spelled); fits = (is.1, rest.fits);
-          phases = omega (arith, rest.phases, count-more (asks actor asked) rest.lines); same = more.2 ∙ ap (λ l. step ∷ l) rest.same }
+        record {
+          lines = asks actor asked ∷ rest.lines;
+          spelled = (is.0, rest.spelled);
+          fits = (is.1, rest.fits);
+          phases = omega (arith, rest.phases, count-more (asks actor asked) rest.lines);
+          same = more.2 ∙ ap (λ l. step ∷ l) rest.same;
+        }
 
 -- lines with their words are spelled
 lines-spell : (lines : List Line) (texts : List (List ℕ)) → AllZip HasLine lines texts → AllZip SpellsLine lines texts
@@ -161,12 +176,12 @@ lines-spell (line ∷ lines) [] h = absurd h
 lines-spell (line ∷ lines) (text ∷ texts) h = (line-spells line text h.0, lines-spell lines texts h.1)
 
 pub only : (actors : ℕ) (bytes : List ℕ) (steps : List Stepped) → script_of actors bytes ≡ Ok steps
-    → (lines : List Line) × IsScript actors lines bytes × (steps ≡ steps_of lines)
+    → (lines : List Line) × SpellsScript actors lines bytes × (steps ≡ steps_of lines)
 only actors bytes steps h = by (nat_lt byte_limit (length bytes)) refl (nat_lt line_limit (length (lines_of bytes))) refl h
   where
     by : (s : Bool) → nat_lt byte_limit (length bytes) ≡ s → (t : Bool) → nat_lt line_limit (length (lines_of bytes)) ≡ t
         → cond (s || t) (Err (0, refusal.TooLong)) (steps_from actors 1 1 (lines_of bytes)) ≡ Ok steps
-        → (lines : List Line) × IsScript actors lines bytes × (steps ≡ steps_of lines)
+        → (lines : List Line) × SpellsScript actors lines bytes × (steps ≡ steps_of lines)
     by true e t f g = let bad : ⊥ = cc g in absurd bad
     by false e true f g = let bad : ⊥ = cc g in absurd bad
     by false e false f g =
@@ -175,9 +190,9 @@ only actors bytes steps h = by (nat_lt byte_limit (length bytes)) refl (nat_lt l
         let long = zip-length HasLine r.lines (lines_of bytes) r.spelled in
         let few = ltb-false line_limit (length (lines_of bytes)) f in
         let fits : FitsScript actors r.lines = record { few = omega (arith, long, few); phases = omega (arith, r.phases); each = r.fits } in
-        let script : IsScript actors r.lines bytes = record {
+        let script : SpellsScript actors r.lines bytes = record {
           texts = lines_of bytes;
-          are = lines-there bytes;
+          parts = lines-there bytes;
           spelled = lines-spell r.lines (lines_of bytes) r.spelled;
           fits = fits;
           short = ltb-false byte_limit (length bytes) e;

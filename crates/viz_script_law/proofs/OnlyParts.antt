@@ -1,5 +1,5 @@
 -- What a reader of words gave tells the words that it read.
-use Rattle.std.proofs.Common.{◌≡◌, ℕ, ℤ, pos, negsuc, suc, ◌≤◌, Bool, true, false, cond, ◌&&◌, nat_le, true≢false, List, [], ◌∷◌, length, Option, Some, None, Result, Ok, Err, refl, sym, ap, ◌∙◌, eqb-true, arith}
+use Rattle.std.proofs.Common.{◌≡◌, ℕ, ℤ, pos, negsuc, ◌≤◌, Bool, true, false, cond, ◌&&◌, nat_le, List, [], ◌∷◌, length, Option, Some, None, Result, Ok, Err, refl, sym, ap, ◌∙◌, eqb-true, arith}
 use Rattle.std.specs.Prelude.{◌==◌, neg_ℤ, option_map, ok_or, int_le, unsigned_abs}
 use Rattle.std.proofs.lemmas.Bool.{leb-true}
 use Rattle.viz_lex.specs.Numbers.{natural_of}

@@ -1,17 +1,18 @@
 -- A script is read as the steps that its lines say.
-use Rattle.std.proofs.Common.{◌≡◌, ℕ, ◌+◌, ◌<◌, ◌≤◌, Bool, false, cond, ◌||◌, nat_eq, List, [], ◌∷◌, map, length, Result, Ok, Err, refl, sym, ap, ◌∙◌, subst, arith}
-use Rattle.std.specs.Prelude.{◌==◌, nat_lt, count_by}
+use Rattle.std.proofs.Common.{◌≡◌, ℕ, ◌+◌, ◌≤◌, false, cond, ◌||◌, List, [], ◌∷◌, map, length, Result, Ok, Err, refl, sym, ap, ◌∙◌, subst, arith}
+use Rattle.std.specs.Prelude.{nat_lt, count_by}
 use Rattle.std.specs.List.{AllZip, AllByRecursion}
 use Rattle.std.proofs.lemmas.Bool.{ne_eqb, le-ltb}
 use Rattle.std.proofs.lemmas.List.Sums.{sum_by-cons}
+use Rattle.viz_words.specs.declared.refusal.ScriptRefusal.{ScriptRefusal}
 use Rattle.viz_words.specs.declared.refusal.ScriptRefusal.TheVariants as refusal
 use Rattle.viz_words.specs.Lines.{lines_of}
-use Rattle.viz_script.specs.Script.{Line, silent, begins_phase, asks, Stepped, Stop, byte_limit, line_limit, phase_limit, with_step, told, line_in, steps_from, is_too_long, script_of}
-use Rattle.viz_script_law.specs.Tokens.{line_text, script_text}
+use Rattle.viz_script.specs.Script.{Line, silent, begins_phase, asks, Stepped, byte_limit, line_limit, phase_limit, with_step, told, line_in, steps_from, is_too_long, script_of}
+use Rattle.viz_script_law.specs.Tokens.{plain_line, plain_script}
 use Rattle.viz_script_law.specs.Spelling.{SpellsLine, AreLines}
 use Rattle.viz_script_law.specs.Fits.{FitsLine, is_phase, FitsScript}
 use Rattle.viz_script_law.specs.Says.{steps_at, steps_of}
-use Rattle.viz_script_law.specs.Script.{IsScript}
+use Rattle.viz_script_law.specs.Script.{SpellsScript}
 use Rattle.viz_script_law.proofs.Words.{HasLine, zip-length}
 use Rattle.viz_script_law.proofs.SpellingLemmas.{line-found}
 use Rattle.viz_script_law.proofs.LinesLemmas.{lines-found, lines-there}
@@ -48,9 +49,9 @@ lines-words actors [] (text ∷ texts) f h = absurd h
 lines-words actors (line ∷ lines) [] f h = absurd h
 lines-words actors (line ∷ lines) (text ∷ texts) f h = (line-found actors line text f.0 h.0, lines-words actors lines texts f.1 h.1)
 
-pub every : (actors : ℕ) (lines : List Line) (bytes : List ℕ) → IsScript actors lines bytes → script_of actors bytes ≡ Ok (steps_of lines)
+pub every : (actors : ℕ) (lines : List Line) (bytes : List ℕ) → SpellsScript actors lines bytes → script_of actors bytes ≡ Ok (steps_of lines)
 every actors lines bytes s =
-    let found : lines_of bytes ≡ s.texts = lines-found s.texts bytes s.are in
+    let found : lines_of bytes ≡ s.texts = lines-found s.texts bytes s.parts in
     let spelled : AllZip HasLine lines (lines_of bytes) = subst (AllZip HasLine lines) (sym found) (lines-words actors lines s.texts s.fits.each s.spelled) in
     let long = zip-length HasLine lines (lines_of bytes) spelled in
     let short : is_too_long bytes ≡ false =
@@ -60,14 +61,35 @@ every actors lines bytes s =
     ∙ steps-read actors 1 1 lines (lines_of bytes) s.fits.each spelled (omega (arith, s.fits.phases))
 
 -- the plain spelling of lines is a script of them
-pub plain-script : (actors : ℕ) (lines : List Line) → FitsScript actors lines → length (script_text lines) ≤ byte_limit → IsScript actors lines (script_text lines)
+pub plain-script : (actors : ℕ) (lines : List Line) → FitsScript actors lines → length (plain_script lines) ≤ byte_limit → SpellsScript actors lines (plain_script lines)
 plain-script actors lines f short = record {
-  texts = map line_text lines;
-  are = subst (λ ts. AreLines ts (script_text lines)) (lines-again actors lines f.each) (lines-there (script_text lines));
+  texts = map plain_line lines;
+  parts = subst (λ ts. AreLines ts (plain_script lines)) (lines-again actors lines f.each) (lines-there (plain_script lines));
   spelled = lines-spelled actors lines f.each;
   fits = f;
   short = short;
 }
 
-pub plain : (actors : ℕ) (lines : List Line) → FitsScript actors lines → length (script_text lines) ≤ byte_limit → script_of actors (script_text lines) ≡ Ok (steps_of lines)
-plain actors lines f short = every actors lines (script_text lines) (plain-script actors lines f short)
+pub plain : (actors : ℕ) (lines : List Line) → FitsScript actors lines → length (plain_script lines) ≤ byte_limit → script_of actors (plain_script lines) ≡ Ok (steps_of lines)
+plain actors lines f short = every actors lines (plain_script lines) (plain-script actors lines f short)
+
+-- texts are spelled as one list of lines alone
+same-lines : (actors : ℕ) (lines others : List Line) (texts : List (List ℕ)) → AllByRecursion (FitsLine actors) lines → AllByRecursion (FitsLine actors) others
+    → AllZip SpellsLine lines texts → AllZip SpellsLine others texts → lines ≡ others
+same-lines actors [] [] texts f g h k = refl
+same-lines actors [] (other ∷ others) [] f g h k = absurd k
+same-lines actors [] (other ∷ others) (text ∷ texts) f g h k = absurd h
+same-lines actors (line ∷ lines) [] [] f g h k = absurd h
+same-lines actors (line ∷ lines) [] (text ∷ texts) f g h k = absurd k
+same-lines actors (line ∷ lines) (other ∷ others) [] f g h k = absurd h
+same-lines actors (line ∷ lines) (other ∷ others) (text ∷ texts) f g h k =
+    let a : line_in actors text ≡ Ok line = line-read actors line text f.0 (line-found actors line text f.0 h.0) in
+    let b : line_in actors text ≡ Ok other = line-read actors other text g.0 (line-found actors other text g.0 k.0) in
+    let both : ◌≡◌ {A = Result Line ScriptRefusal} (Ok line) (Ok other) = sym a ∙ b in
+    let same : line ≡ other = cc both in
+    ap (λ l. l ∷ lines) same ∙ ap (λ ls. other ∷ ls) (same-lines actors lines others texts f.1 g.1 h.1 k.1)
+
+pub one : (actors : ℕ) (lines others : List Line) (bytes : List ℕ) → SpellsScript actors lines bytes → SpellsScript actors others bytes → lines ≡ others
+one actors lines others bytes s r =
+    let same : r.texts ≡ s.texts = sym (lines-found r.texts bytes r.parts) ∙ lines-found s.texts bytes s.parts in
+    same-lines actors lines others s.texts s.fits.each r.fits.each s.spelled (subst (AllZip SpellsLine others) same r.spelled)

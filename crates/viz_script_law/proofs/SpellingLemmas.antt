@@ -1,18 +1,18 @@
 -- A text spells tokens just where its words do.
 use Rattle.std.proofs.Common.{◌≡◌, ◌⊎◌, inl, inr, ℕ, ℤ, pos, ◌<◌, ◌≤◌, Bool, true, false, cond, not, ◌&&◌, ◌||◌, nat_le, true≢false, List, [], ◌∷◌, ◌++◌, length, Option, Some, None, refl, sym, ap, ◌∙◌, subst, eqb-true, arith}
-use Rattle.std.specs.Prelude.{◌==◌, codes, neg_ℤ, option_map}
+use Rattle.std.specs.Prelude.{◌==◌, neg_ℤ, option_map}
 use Rattle.std.specs.List.{list_all, AllByRecursion}
 use Rattle.std.proofs.lemmas.Bool.{le-leb, leb-true, ne_eqb}
 use Rattle.std.proofs.lemmas.List.Folds.{list_all-append}
 use Rattle.viz_lex.specs.Numbers.{is_digit, digits_value, natural_of}
 use Rattle.viz_words.specs.Lines.{in_front, is_plain_byte, is_plain}
-use Rattle.viz_words.specs.Words.{is_gap, begins_word, words_of, begins_hash, is_empty, is_skipped}
+use Rattle.viz_words.specs.Words.{is_gap, begins_word, words_of, begins_hash, is_empty}
 use Rattle.viz_words.specs.Names.{is_array_byte}
 use Rattle.viz_words.specs.Numbers.{within, number_of}
 use Rattle.viz_script.specs.Script.{Line, silent, begins_phase, asks}
 use Rattle.viz_journal.proofs.SolidLemmas.{and-parts, or-parts, weaker, Solid}
 use Rattle.viz_script_law.specs.Tokens.{Token, exact, number, line_tokens}
-use Rattle.viz_script_law.specs.Spelling.{IsGap, SpellsToken, SpellsFirst, SpellsTokens, SpellsLine}
+use Rattle.viz_script_law.specs.Spelling.{IsGap, SpellsToken, SpellsTokens, SpellsLine}
 use Rattle.viz_script_law.specs.Fits.{FitsLine}
 use Rattle.viz_script_law.proofs.Words.{Spelled, HasWords, HasLine}
 use Rattle.viz_script_law.proofs.FitLemmas.{Fit, line-fit}
@@ -113,9 +113,9 @@ words-found (token ∷ tokens) text fit h =
     let rest = words-found tokens h.rest fit.1 h.later in
     let solid = token-solid token h.word fit.0 h.spelled in
     let words : words_of text ≡ h.word ∷ words_of h.rest =
-    ap words_of h.are ∙ gap-front h.gap (h.word ++ h.rest) h.blank ∙ words-front h.word h.rest solid.some solid.each h.ended in
+    ap words_of h.parts ∙ gap-front h.gap (h.word ++ h.rest) h.blank ∙ words-front h.word h.rest solid.some solid.each h.ends in
     let plain : is_plain text ≡ true =
-    ap is_plain h.are ∙ list_all-append is_plain_byte h.gap (h.word ++ h.rest)
+    ap is_plain h.parts ∙ list_all-append is_plain_byte h.gap (h.word ++ h.rest)
     ∙ ap (λ x. x && is_plain (h.word ++ h.rest)) (weaker is_gap is_plain_byte gap-plain h.gap h.blank)
     ∙ list_all-append is_plain_byte h.word h.rest ∙ ap (λ x. x && is_plain h.rest) (weaker is_array_byte is_plain_byte solid-plain h.word solid.each) ∙ rest.0 in
     (plain, subst (Spelled (token ∷ tokens)) (sym words) (h.spelled, rest.1))
@@ -205,10 +205,10 @@ words-spell (token ∷ tokens) text h = by (gap-of text) (words-spell tokens)
               gap = g.gap;
               word = f.word;
               rest = f.rest;
-              are = g.are ∙ ap (λ l. g.gap ++ l) f.are;
+              parts = g.are ∙ ap (λ l. g.gap ++ l) f.are;
               blank = g.blank;
               spelled = s.0;
-              ended = f.ended;
+              ends = f.ended;
               later = ih f.rest s.1;
             }
 

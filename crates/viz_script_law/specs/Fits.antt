@@ -11,7 +11,7 @@ use Rattle.viz_network.specs.declared.edit.Edit.{Edit}
 use Rattle.viz_network.specs.declared.edit.Edit.TheVariants as edits
 use Rattle.viz_words.specs.Names.{is_node_name, is_file_name, is_array_name}
 use Rattle.viz_script.specs.Orders.{Asked, edit, load, update, audit}
-use Rattle.viz_script.specs.Script.{Line, silent, begins_phase, asks, line_limit, phase_limit}
+use Rattle.viz_script.specs.Script.{Line, begins_phase, asks, line_limit, phase_limit}
 
 -- as many numbers as the range allows, of 64 bits each, and zeros, eight in all
 pub record FitsNumbers (range : Range) (count : ℕ) (items : List ℤ) : Type 0 where
@@ -37,29 +37,32 @@ abbrev pub FitsLineValue : Param → Value → Type 0
 FitsLineValue param (Numbers count items) = FitsRange (numbers_of param) count items
 FitsLineValue param (Text text) = (numbers_of param ≡ None) × (is_text_of param text ≡ true)
 
--- an edit that a line can tell: its names are names, and its numbers those of their types; a load isn't one
+-- an edit that a line can tell: names are names, ports 0 to 255; a load is a command of its own
 abbrev pub FitsLineEdit : Edit → Type 0
 FitsLineEdit (edits.Add kind node) = is_node_name node ≡ true
 FitsLineEdit (edits.Remove node) = is_node_name node ≡ true
-FitsLineEdit (edits.Connect from to port) = (is_node_name from ≡ true) × (is_node_name to ≡ true) × (port < 256)
+FitsLineEdit (edits.Connect from to port) =
+    (is_node_name from ≡ true) × (is_node_name to ≡ true) × (port < 256)
 FitsLineEdit (edits.Disconnect to port) = (is_node_name to ≡ true) × (port < 256)
 FitsLineEdit (edits.Set node param value) = (is_node_name node ≡ true) × FitsLineValue param value
 FitsLineEdit (edits.Load node file) = ⊥
 
--- from 1 to 64
-abbrev pub IsShape : ℕ → Type 0
-IsShape n = (1 ≤ n) × (n ≤ 64)
+-- pieces and workers are 1 to 64
+abbrev pub IsShape : ℕ → ℕ → Type 0
+IsShape pieces workers = (1 ≤ pieces) × (pieces ≤ 64) × (1 ≤ workers) × (workers ≤ 64)
 
 -- a command that a line can tell
 abbrev pub FitsCommand : Asked → Type 0
 FitsCommand (edit e) = FitsLineEdit e
 FitsCommand (load node file) = (is_node_name node ≡ true) × (is_file_name file ≡ true)
-FitsCommand (update node file pieces workers) = (is_node_name node ≡ true) × (is_file_name file ≡ true) × IsShape pieces × IsShape workers
-FitsCommand (audit node pieces workers) = (is_node_name node ≡ true) × IsShape pieces × IsShape workers
+FitsCommand (update node file pieces workers) =
+    (is_node_name node ≡ true) × (is_file_name file ≡ true) × IsShape pieces workers
+FitsCommand (audit node pieces workers) = (is_node_name node ≡ true) × IsShape pieces workers
 
 -- a line of a script that so many actors serve
 abbrev pub FitsLine : ℕ → Line → Type 0
-FitsLine actors (asks actor asked) = (1 ≤ actor) × (actor ≤ 8) × (actor ≤ actors) × FitsCommand asked
+FitsLine actors (asks actor asked) =
+    (1 ≤ actor) × (actor ≤ 8) × (actor ≤ actors) × FitsCommand asked
 FitsLine actors _ = Unit {0}
 
 -- the line begins a phase
@@ -67,7 +70,7 @@ abbrev pub is_phase : Line → Bool
 is_phase begins_phase = true
 is_phase _ = false
 
--- a script that so many actors serve can have these lines; its first phase has no line that begins it
+-- a script that so many actors serve can have these lines; no line begins the first phase
 pub record FitsScript (actors : ℕ) (lines : List Line) : Type 0 where
   pub few : length lines ≤ line_limit
   pub phases : count_by is_phase lines < phase_limit

@@ -6,9 +6,9 @@ use Rattle.viz_script_law.specs.Spelling.{SpellsLine, AreLines}
 use Rattle.viz_script_law.specs.Fits.{FitsScript}
 
 -- the bytes are a script of these lines, for so many actors
-pub record IsScript (actors : ℕ) (lines : List Line) (bytes : List ℕ) : Type 0 where
+pub record SpellsScript (actors : ℕ) (lines : List Line) (bytes : List ℕ) : Type 0 where
   pub texts : List (List ℕ)
-  pub are : AreLines texts bytes
+  pub parts : AreLines texts bytes
   pub spelled : AllZip SpellsLine lines texts
   pub fits : FitsScript actors lines
   pub short : length bytes ≤ byte_limit
