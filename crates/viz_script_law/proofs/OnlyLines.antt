@@ -1,6 +1,6 @@
 -- What is read as the steps of a script is a script of lines that say these steps.
 use Rattle.std.proofs.Common.{◌≡◌, ℕ, ℤ, pos, negsuc, ◌+◌, ◌≤◌, Bool, true, false, cond, ◌&&◌, ◌||◌, nat_le, true≢false, List, [], ◌∷◌, length, Option, Some, None, Result, Ok, Err, refl, sym, ap, ◌∙◌, subst, arith}
-use Rattle.std.specs.Prelude.{◌==◌, codes, nat_lt, unsigned_abs, count_by}
+use Rattle.std.specs.Prelude.{IsErr, ◌==◌, codes, nat_lt, unsigned_abs, count_by}
 use Rattle.std.specs.List.{AllZip, AllByRecursion}
 use Rattle.std.proofs.lemmas.Bool.{leb-true, ltb-false, eqb-false}
 use Rattle.viz_kinds.specs.Values.{is_text}
@@ -198,3 +198,10 @@ only actors bytes steps h = by (nat_lt byte_limit (length bytes)) refl (nat_lt l
           short = ltb-false byte_limit (length bytes) e;
         } in
         (r.lines, script, r.same)
+
+pub refused : (actors : ℕ) (bytes : List ℕ) → ((lines : List Line) → ¬ SpellsScript actors lines bytes) → IsErr (script_of actors bytes)
+refused actors bytes none = by (script_of actors bytes) refl
+  where
+    by : (r : Result (List Stepped) Stop) → script_of actors bytes ≡ r → IsErr r
+    by (Err stop) e = refl
+    by (Ok steps) e = let o = only actors bytes steps e in absurd (none o.0 o.1)

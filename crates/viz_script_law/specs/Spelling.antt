@@ -43,7 +43,7 @@ without_return [] = []
 without_return (b ∷ []) = if b == 13 then [] else b ∷ []
 without_return (b ∷ c ∷ cs) = b ∷ without_return (c ∷ cs)
 
--- the bytes are the line, a newline, and what is behind it; a return before the newline is dropped
+-- the bytes are the line, with its newline, and what is behind it; a carriage return there is dropped
 pub record IsEnded (line : List ℕ) (behind : List ℕ → Type 0) (bytes : List ℕ) : Type 0 where
   pub raw : List ℕ
   pub rest : List ℕ
@@ -51,7 +51,7 @@ pub record IsEnded (line : List ℕ) (behind : List ℕ → Type 0) (bytes : Lis
   pub dropped : line ≡ without_return raw
   pub later : behind rest
 
--- the bytes are the line, which is the last and no newline ends
+-- the bytes are the line, which is the last, and which no newline ends
 pub record IsLast (line : List ℕ) (lines : List (List ℕ)) (bytes : List ℕ) : Type 0 where
   pub are : bytes ≡ line
   pub some : 0 < length line

@@ -1,7 +1,7 @@
 //! What is spelled as the lines of a script is read as what they say. A law is a function that does
 //! nothing: its contract holds of the definitions alone.
 
-ghost use Rattle.std.specs.Prelude.{◌≡◌, ◌≤◌, ℕ, List, map, length, Ok};
+ghost use Rattle.std.specs.Prelude.{◌≡◌, ◌≤◌, ℕ, List, map, length, Ok, IsErr};
 ghost use Rattle.viz_network.specs.declared.edit.Edit.{Edit};
 ghost use Rattle.viz_journal.specs.Journal.{edit_words};
 ghost use Rattle.viz_script.specs.Script.{Line, Stepped, byte_limit, script_of};
@@ -22,11 +22,15 @@ pub fn what_is_spelled_is_read()
         → script_of actors (plain_script lines) ≡ Ok (steps_of lines) }
 {}
 
-/// What is read as steps is a script of lines that say just these steps.
+/// What is read as steps is a script of lines that say just these steps; bytes that are no script
+/// of any lines are refused.
 pub fn nothing_else_is_read()
     ensures only { (actors : ℕ) (bytes : List ℕ) (steps : List Stepped)
         → script_of actors bytes ≡ Ok steps
         → (lines : List Line) × SpellsScript actors lines bytes × (steps ≡ steps_of lines) }
+    ensures refused { (actors : ℕ) (bytes : List ℕ)
+        → ((lines : List Line) → ¬ SpellsScript actors lines bytes)
+        → IsErr (script_of actors bytes) }
 {}
 
 /// The same bytes are a script of one list of lines alone.
