@@ -13,6 +13,7 @@ use Rattle.viz_words.specs.declared.refusal.ScriptRefusal.TheVariants as refusal
 use Rattle.viz_report.specs.declared.line.Row.{Row}
 use Rattle.viz_report.specs.Report.{rows_text}
 use Rattle.viz_actor.specs.Groups.{actors_over}
+use Rattle.viz_words.specs.Refusals.{refused_script}
 use Rattle.viz_told.specs.declared.status.Status.{Status}
 use Rattle.viz_told.specs.declared.status.Status.TheVariants as status
 use Rattle.viz_told.specs.Calls.{IsCalled, HasAnswered}
