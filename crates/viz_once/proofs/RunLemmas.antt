@@ -169,7 +169,7 @@ module _ {P : Type 0} (m : port.Ghosts P) (c : Command) where
         let s = served o old new (serves_as o t.2) (λ e. cc) in
         let d = written_deed c s.0 t.0 t.1 s.1 in
         let lines = gains l (line_of o) before after w.0 t.3 (put_as o w.0 t.2 w.2) in
-        (d.0, d.1, t.0, t.1, d.3, subst (λ (x : Deed). FirstDid m c x old new) d.2 s.2, lines)
+        (d.0, d.1, t.0, t.1, d.3, subst (λ (x : Deed). FirstDid m c x old new) {y = Answered d.0 d.1 write.Written} d.2 s.2, lines)
 
     pub refused-Run : ended ≡ status.Refused → IsRefused m l c old new before after
     refused-Run is =
