@@ -1,11 +1,11 @@
 #!/usr/bin/env python3
 """A plain contour, beside the one that is proved: no flags, no ranks by search, fractions for points.
 
-It makes the surface of the image of 4 x 4 x 4 points in crates/viz_once_tests/src/contour_texts.rt, and
-compares it with the text there; and it counts the contour of 32 x 32 x 32 points and the sides of
-its triangles, whose numbers tests of viz_once_tests, viz_surface_law and viz_session want. It makes the
-volume of the number 7, of so many points too, and counts what crates/viz_session/src/tests/volumes.rt
-wants of it.
+It makes the surface of the image of 4 x 4 x 4 points in crates/viz_once_tests/src/contour_texts.rt,
+and compares it with the text there; and it counts the contour of 32 x 32 x 32 points and the sides
+of its triangles, whose numbers tests of viz_once_tests, viz_surface_law and viz_session want. It
+makes the volume of the number 7, of so many points too, and counts what
+crates/viz_session/src/tests/volumes.rt wants of it.
 """
 import os
 import re
