@@ -15,10 +15,11 @@ module _ (parts : List PartSheetData) (part : PartSheetData) (at : Contains part
   from_part : (r : ℕ) → IsFrom (map (rank_of names) part.sheet.names) part.sheet.points r new → IsPointAt parts names new r
   from_part r h =
       let below : h.0 < length part.sheet.names = omega (arith, h.1, length-map part.sheet.names (rank_of names)) in
-      (part, at, h.0, below, sym (get_or-map (rank_of names) part.sheet.names h.0 [] 0 below) ∙ h.2, h.3)
+      (part, at, h.0, below, sym (get_or-map (rank_of names) part.sheet.names h.0 [] 0 below) ∙ h.2, h.3, h.4)
 
   stays : (r : ℕ) → IsPointAt parts names old r → IsPointAt parts names new r
-  stays r h = ⊎_elim (λ f. from_part r f) (λ same. (h.0, h.1, h.2, h.3, h.4, λ d. same d ∙ h.5 d)) (put.others r)
+  stays r h =
+      ⊎_elim (λ f. from_part r f) (λ same. (h.0, h.1, h.2, h.3, h.4, omega (arith, h.5, put.size), λ d. same d ∙ h.6 d)) (put.others r h.5)
 
   has_points : HasPoints parts names new part
   has_points j below =
@@ -38,14 +39,14 @@ flat-more f xs i d l =
 -- one part more is joined
 pub joined-more : (parts : List PartSheetData) (names : List (List ℕ)) (start : List (List ℕ)) (i : ℕ) (part : PartSheetData) (before after : List (List ℕ)) (old new : List Point)
     → AreJoined parts names start i before old → i < length parts → part ≡ get_or parts i part → after ≡ before ++ own_ranks names part
-    → IsPut old (map (rank_of names) part.sheet.names) part.sheet.points new → AreJoined parts names start (i + 1) after new
-joined-more parts names start i part before after old new h l is pushed put = record {
+    → IsPut old (map (rank_of names) part.sheet.names) part.sheet.points new → All (λ r. r < length names) (map (rank_of names) part.sheet.names) → AreJoined parts names start (i + 1) after new
+joined-more parts names start i part before after old new h l is pushed put below = record {
   all_cells = pushed
       ∙ ap (λ b. b ++ own_ranks names part) h.all_cells
       ∙ ap (λ p. (start ++ flat_map (own_ranks names) (take i parts)) ++ own_ranks names p) is
       ∙ append_assoc start (flat_map (own_ranks names) (take i parts)) (own_ranks names (get_or parts i part))
       ∙ ap (λ t. start ++ t) (sym (flat-more (own_ranks names) parts i part l));
-  size = put.size ∙ h.size;
+  size = put.most (length names) h.size below;
   there = points-more parts part (i, l, sym is) names old new put i part l (sym is) h.there;
 }
 

@@ -1,7 +1,8 @@
 -- All parts of a sheet joined: its cells, and where each of its points comes from.
-use Rattle.std.proofs.Common.{◌≡◌, ℕ, List, [], ◌∷◌, ◌++◌, length, get_or, map, refl, subst, sym, ap, ap₂, ◌∙◌, arith}
+use Rattle.std.proofs.Common.{◌≡◌, ℕ, ◌-◌, ◌<◌, ◌≤◌, inl, inr, List, [], ◌∷◌, ◌++◌, length, get_or, map, refl, subst, sym, ap, ap₂, ◌∙◌, arith}
 use Rattle.std.specs.List.{All, Contains, flat_map}
-use Rattle.std.proofs.lemmas.List.{get_or_default, length-append, map-append}
+use Rattle.std.proofs.lemmas.Bool.{cases_lt}
+use Rattle.std.proofs.lemmas.List.{get_or_default, map-append}
 use Rattle.std.proofs.lemmas.List.Elements.{All-nil, All-head, All-tail, All-append, All-contains, Contains-get_or}
 use Rattle.viz_fraction.specs.Points.{Point}
 use Rattle.viz_parts.specs.Parts.{PartSheetData}
@@ -15,13 +16,6 @@ use Rattle.viz_piece_stitch.proofs.RankLemmas.{cells-back, cells-held, cells-ran
 
 abbrev pub IsPartSheet : PartSheetData → Type 0
 IsPartSheet part = IsSheet part.sheet
-
--- as many points as names
-pub as_many : (parts : List PartSheetData) → All IsPartSheet parts → length (flat_map (λ p. p.sheet.points) parts) ≡ length (flat_map (λ p. p.sheet.names) parts)
-as_many [] h = refl
-as_many (p ∷ ps) h =
-    let first = All-head IsPartSheet p ps h in
-    omega (arith, length-append p.sheet.points (flat_map (λ q. q.sheet.points) ps), length-append p.sheet.names (flat_map (λ q. q.sheet.names) ps), first.matched, as_many ps (All-tail IsPartSheet p ps h))
 
 -- all names have those of each part
 pub all-held : (names : List (List ℕ)) (parts : List PartSheetData) → All IsPartSheet parts → ((n : List ℕ) → Contains (flat_map (λ p. p.sheet.names) parts) n → Contains names n) → All (IsHeld names) parts
@@ -60,6 +54,27 @@ module _ (names : List (List ℕ)) (s : AreAscending names) where
       All-append (IsCell (length names)) (own_ranks names p) (flat_map (own_ranks names) ps)
       (own-cells p (All-head (IsHeld names) p ps h)) (joined-all ps (All-tail (IsHeld names) p ps h))
 
+  -- at each rank stands the point of a name of one of the parts
+  point-at : (parts : List PartSheetData) (points : List Point) → ((n : List ℕ) → Contains names n → Contains (flat_map (λ p. p.sheet.names) parts) n)
+      → All (HasPoints parts names points) parts → (r : ℕ) → r < length names → IsPointAt parts names points r
+  point-at parts points adds all r l =
+      let name = get_or names r [] in
+      let m = from_flat_map (λ (p : PartSheetData). p.sheet.names) parts name (adds name (Contains-get_or names r [] l)) in
+      let at : get_or m.0.sheet.names m.2.0 [] ≡ name = get_or_default m.0.sheet.names m.2.0 [] name m.2.1 ∙ m.2.2 in
+      let rank : rank_of names (get_or m.0.sheet.names m.2.0 []) ≡ r = ap (rank_of names) at ∙ rank-at names r s l in
+      let has : HasPoints parts names points m.0 = All-contains (HasPoints parts names points) parts m.0 all m.1 in
+      subst (λ q. IsPointAt parts names points q) rank (has m.2.0 m.2.1)
+
+  -- so there are as many points as names
+  pub all-there : (parts : List PartSheetData) (points : List Point) → ((n : List ℕ) → Contains names n → Contains (flat_map (λ p. p.sheet.names) parts) n)
+      → All (HasPoints parts names points) parts → length points ≤ length names → length points ≡ length names
+  all-there parts points adds all most = elim (cases_lt 0 (length names)) [
+    | inl some ↦
+        let last : IsPointAt parts names points (length names - 1) = point-at parts points adds all (length names - 1) (omega (arith, some)) in
+        omega (arith, some, most, last.5)
+    | inr none ↦ omega (arith, none, most)
+  ]
+
   -- each name that is left has its point from a part
   pub joined-points : (parts : List PartSheetData) (points : List Point) (whole : SheetData) → All (IsHeld names) parts → ((n : List ℕ) → Contains names n → Contains (flat_map (λ p. p.sheet.names) parts) n)
       → All (HasPoints parts names points) parts → KeepPoints whole.names whole.points names points → HavePoints parts whole
@@ -67,14 +82,10 @@ module _ (names : List (List ℕ)) (s : AreAscending names) where
       let kept = keep k d l in
       let r = kept.0 in
       let name = get_or names r [] in
-      let m = from_flat_map (λ (p : PartSheetData). p.sheet.names) parts name (adds name (Contains-get_or names r [] kept.1)) in
-      let at : get_or m.0.sheet.names m.2.0 [] ≡ name = get_or_default m.0.sheet.names m.2.0 [] name m.2.1 ∙ m.2.2 in
-      let rank : rank_of names (get_or m.0.sheet.names m.2.0 []) ≡ r = ap (rank_of names) at ∙ rank-at names r s kept.1 in
-      let has : HasPoints parts names points m.0 = All-contains (HasPoints parts names points) parts m.0 all m.1 in
-      let from : IsPointAt parts names points r = subst (λ q. IsPointAt parts names points q) rank (has m.2.0 m.2.1) in
+      let from : IsPointAt parts names points r = point-at parts points adds all r kept.1 in
       let part = from.0 in
       let other = get_or part.sheet.names from.2 [] in
       let its : IsHeld names part = All-contains (IsHeld names) parts part held from.1 in
       let there : Contains names other = its.held from.2 [] from.3 in
       let same : name ≡ other = sym (ap (λ q. get_or names q []) from.4) ∙ name-at_rank names other s there in
-      (part, from.1, from.2, from.3, kept.2 ∙ same, kept.3 ∙ from.5 d)
+      (part, from.1, from.2, from.3, kept.2 ∙ same, kept.3 ∙ from.6 d)

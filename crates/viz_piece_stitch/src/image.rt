@@ -7,7 +7,7 @@ ghost use Rattle.viz_piece_stitch.specs.Steps.Slabs.{HasKind, IsImageAt, IsPictu
 ghost use Rattle.viz_piece_stitch.specs.Steps.Wholes.{AreSlabs};
 
 use std::alloc::{AllocError, Global};
-use viz_column::{Column, Lent, Number};
+use viz_column::{Column, Kind8, Number};
 use viz_dataset::Image;
 use viz_extent::Extent;
 use viz_parts::Part;
@@ -21,7 +21,7 @@ pub(crate) fn stitched_image(alloc: Global, parts: Vec<Part>) -> Result<Image, A
     if parts.len() == 1 {
         return Ok(only_image(parts));
     }
-    let image = joined_image(alloc, &parts)?;
+    let image = joined_image(alloc, parts)?;
     Ok(image)
 }
 
@@ -38,15 +38,18 @@ fn only_image(parts: Vec<Part>) -> Image
     }
 }
 
-/// The image of several slabs.
-fn joined_image(alloc: Global, parts: &[Part]) -> Result<Image, AllocError>
-    requires { AreSlabs parts.now }
-    ensures { IfOk result (λ image. (whole : _) → AreSlabsOf whole parts.now → image ≡ whole) }
+/// The image of several slabs, each of which is given up as soon as its numbers are joined.
+fn joined_image(alloc: Global, parts: Vec<Part>) -> Result<Image, AllocError>
+    requires { AreSlabs parts.items }
+    ensures { IfOk result (λ image. (whole : _) → AreSlabsOf whole parts.items → image ≡ whole) }
 {
-    let first = first_image(parts);
-    let extent = joined_extent(first, last_image(parts));
-    let column = joined_column(alloc, first.column(), parts)?;
-    Ok(Image::new(extent, first.origin(), first.spacing(), column))
+    let first = first_image(&parts);
+    let extent = joined_extent(first, last_image(&parts));
+    let origin = first.origin();
+    let spacing = first.spacing();
+    let kind = first.column().kind();
+    let column = joined_column(alloc, kind, parts)?;
+    Ok(Image::new(extent, origin, spacing, column))
 }
 
 /// The image of the first part.
@@ -86,39 +89,39 @@ fn joined_extent(first: &Image, last: &Image) -> Extent
     }
 }
 
-/// The numbers of all parts, one after the other, of the type of these.
-fn joined_column(alloc: Global, like: &Column, parts: &[Part]) -> Result<Column, AllocError>
-    requires { All (HasKind like.now.kind) parts.now }
+/// The numbers of all parts, which are of this type, one after the other.
+fn joined_column(alloc: Global, kind: Kind8, parts: Vec<Part>) -> Result<Column, AllocError>
+    requires { All (HasKind kind) parts.items }
     ensures { IfOk result (λ c.
-        c ≡ record { kind = like.now.kind; items = flat_map values_in parts.now }) }
+        c ≡ record { kind = kind; items = flat_map values_in parts.items }) }
 {
-    match like.slice() {
-        Lent::I8(_) => column_of::<i8>(alloc, parts),
-        Lent::U8(_) => column_of::<u8>(alloc, parts),
-        Lent::I16(_) => column_of::<i16>(alloc, parts),
-        Lent::U16(_) => column_of::<u16>(alloc, parts),
-        Lent::I32(_) => column_of::<i32>(alloc, parts),
-        Lent::U32(_) => column_of::<u32>(alloc, parts),
-        Lent::I64(_) => column_of::<i64>(alloc, parts),
-        Lent::U64(_) => column_of::<u64>(alloc, parts),
+    match kind {
+        Kind8::I8 => column_of::<i8>(alloc, parts),
+        Kind8::U8 => column_of::<u8>(alloc, parts),
+        Kind8::I16 => column_of::<i16>(alloc, parts),
+        Kind8::U16 => column_of::<u16>(alloc, parts),
+        Kind8::I32 => column_of::<i32>(alloc, parts),
+        Kind8::U32 => column_of::<u32>(alloc, parts),
+        Kind8::I64 => column_of::<i64>(alloc, parts),
+        Kind8::U64 => column_of::<u64>(alloc, parts),
     }
 }
 
 /// The same of one type.
-fn column_of<T: Number>(alloc: Global, parts: &[Part]) -> Result<Column, AllocError>
-    requires { All (HasKind T.kind) parts.now }
+fn column_of<T: Number>(alloc: Global, parts: Vec<Part>) -> Result<Column, AllocError>
+    requires { All (HasKind T.kind) parts.items }
     ensures { IfOk result (λ c.
-        c ≡ record { kind = T.kind; items = flat_map values_in parts.now }) }
+        c ≡ record { kind = T.kind; items = flat_map values_in parts.items }) }
 {
     Ok(Column::of(joined_numbers::<T>(alloc, parts)?))
 }
 
 /// The numbers of all parts, one after the other.
-fn joined_numbers<T: Number>(alloc: Global, parts: &[Part]) -> Result<Vec<T>, AllocError>
-    requires { All (HasKind T.kind) parts.now }
-    ensures { IfOk result (λ v. map T.value v.items ≡ flat_map values_in parts.now) }
+fn joined_numbers<T: Number>(alloc: Global, parts: Vec<Part>) -> Result<Vec<T>, AllocError>
+    requires { All (HasKind T.kind) parts.items }
+    ensures { IfOk result (λ v. map T.value v.items ≡ flat_map values_in parts.items) }
 {
-    let mut numbers = Vec::with_capacity(alloc, number_count(parts))?;
+    let mut numbers = Vec::with_capacity(alloc, number_count(&parts))?;
     for part in parts {
         add_numbers(&mut numbers, part)?;
     }
@@ -136,13 +139,13 @@ fn number_count(parts: &[Part]) -> usize {
     count
 }
 
-/// Adds the numbers of a part.
-fn add_numbers<T: Number>(numbers: &mut Vec<T>, part: &Part) -> Result<(), AllocError>
-    requires { HasKind T.kind part.now }
+/// Adds the numbers of a part, which is given up.
+fn add_numbers<T: Number>(numbers: &mut Vec<T>, part: Part) -> Result<(), AllocError>
+    requires { HasKind T.kind part }
     ensures { IfOk result (λ _.
-        map T.value numbers.new.items ≡ map T.value numbers.old.items ++ values_in part.now) }
+        map T.value numbers.new.items ≡ map T.value numbers.old.items ++ values_in part) }
 {
-    match part {
+    match &part {
         Part::Image(image) => add_column(numbers, image.column()),
         Part::Mesh(_) => unreachable!(),
     }

@@ -30,7 +30,7 @@ fn with_part(
 ) -> Result<Joined, AllocError>
     requires ascending { AreAscending (names_in names.now) }
     requires few { length (names_in names.now) ≤ 2 ^ 32 }
-    requires matched { length (points_in joined.places) ≡ length (names_in names.now) }
+    requires within { length (points_in joined.places) ≤ length (names_in names.now) }
     requires held { IsHeld (names_in names.now) part.now }
     ensures cells { IfOk result (λ j.
         ranks_in j.ranks ≡ ranks_in joined.ranks ++ own_ranks (names_in names.now) part.now) }
@@ -42,7 +42,7 @@ fn with_part(
     sheet.known();
     let numbers = ranks_among(alloc, names, sheet.leaves())?;
     let Joined { places, ranks } = joined;
-    let places = put_points(alloc, places, &numbers, sheet.places())?;
+    let places = put_points(alloc, places, names.len(), &numbers, sheet.places())?;
     let ranks = with_own(alloc, ranks, &numbers, sheet.ranks(), part)?;
     Ok(Joined { places, ranks })
 }
@@ -56,7 +56,7 @@ fn with_given(
 ) -> Result<Joined, AllocError>
     requires ascending { AreAscending (names_in names.now) }
     requires few { length (names_in names.now) ≤ 2 ^ 32 }
-    requires matched { length (points_in joined.places) ≡ length (names_in names.now) }
+    requires within { length (points_in joined.places) ≤ length (names_in names.now) }
     requires held { IsHeld (names_in names.now) part }
     ensures cells { IfOk result (λ j.
         ranks_in j.ranks ≡ ranks_in joined.ranks ++ own_ranks (names_in names.now) part) }
@@ -76,7 +76,7 @@ pub(crate) fn with_parts(
 ) -> Result<Joined, AllocError>
     requires ascending { AreAscending (names_in names.now) }
     requires few { length (names_in names.now) ≤ 2 ^ 32 }
-    requires matched { length (points_in joined.places) ≡ length (names_in names.now) }
+    requires within { length (points_in joined.places) ≤ length (names_in names.now) }
     requires held { All (IsHeld (names_in names.now)) parts.items }
     ensures { IfOk result (λ j. AreJoined parts.items (names_in names.now) (ranks_in joined.ranks)
         (length parts.items) (ranks_in j.ranks) (points_in j.places)) }

@@ -7,10 +7,9 @@ ghost use Rattle.viz_piece_stitch.specs.Steps.Columns.{IsJoinedSheet};
 use crate::cells::no_cells;
 use crate::joining::{Joined, with_parts};
 use crate::names::all_names;
-use crate::places::some_points;
 use std::alloc::{AllocError, Global};
 use viz_parts::PartSheet;
-use viz_sheet::{Sheet, sheet_of};
+use viz_sheet::{Places, Sheet, sheet_of};
 
 /// The own cells of all parts, in order, with the points of their names. A part is given up as soon
 /// as it is joined.
@@ -19,7 +18,7 @@ pub(crate) fn joined_sheet(alloc: Global, parts: Vec<PartSheet>) -> Result<Sheet
     ensures { IfOk result (IsJoinedSheet parts.items) }
 {
     let names = all_names(alloc, &parts)?;
-    let places = some_points(alloc, names.len(), &parts)?;
+    let places = Places::Small(Vec::new(alloc));
     let ranks = no_cells(alloc, &parts)?;
     let joined = with_parts(alloc, &names, Joined { places, ranks }, parts)?;
     let Joined { places, ranks } = joined;

@@ -1,5 +1,5 @@
 -- Parts of a sheet joined one after the other.
-use Rattle.std.specs.Prelude.{◌≡◌, ℕ, ◌<◌, List, [], ◌++◌, length, map, take, All, Contains}
+use Rattle.std.specs.Prelude.{◌≡◌, ℕ, ◌<◌, ◌≤◌, List, [], ◌++◌, length, map, take, All, Contains}
 use Rattle.std.specs.Prelude.{slice_index_or}
 use Rattle.std.specs.List.{flat_map}
 use Rattle.viz_fraction.specs.Points.{Point}
@@ -21,7 +21,7 @@ pub record IsHeld (names : List (List ℕ)) (part : PartSheetData) : Type 0 wher
 abbrev pub IsPointAt : List PartSheetData → List (List ℕ) → List Point → ℕ → Type 0
 IsPointAt parts names points r =
     (part : PartSheetData) × Contains parts part × (j : ℕ) × (j < length part.sheet.names)
-    × (rank_of names (slice_index_or part.sheet.names j []) ≡ r)
+    × (rank_of names (slice_index_or part.sheet.names j []) ≡ r) × (r < length points)
     × ((d : Point) → slice_index_or points r d ≡ slice_index_or part.sheet.points j d)
 
 -- the points of a part's names are there
@@ -35,7 +35,7 @@ HasPoints parts names points part =
 pub record AreJoined (parts : List PartSheetData) (names : List (List ℕ)) (start : List (List ℕ))
     (count : ℕ) (cells : List (List ℕ)) (points : List Point) : Type 0 where
   pub all_cells : cells ≡ start ++ flat_map (own_ranks names) (take count parts)
-  pub size : length points ≡ length names
+  pub size : length points ≤ length names
   pub there : All (HasPoints parts names points) (take count parts)
 
 -- each name of a sheet has the point that it has in one of the parts

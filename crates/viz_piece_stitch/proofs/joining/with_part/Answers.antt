@@ -22,15 +22,6 @@ ranks_among-requires c =
       held = All-weaker (Contains names) (λ n. rank_of names n < length names) (λ n h. rank-below names n c.requires.ascending h) part c.requires.held.held;
     })
 
-pub put_points-requires-clause-below : goal.put_points-requires-clause-below
-put_points-requires-clause-below c =
-    let names = names_in c.args.names.now in
-    let part = c.args.part.now.sheet.names in
-    let is : names_in c.leaves.result.now ≡ part = search rules in
-    let numbers : c.deref.result.now ≡ map (rank_of names) part = c.deref.ensures.value ∙ c.in_ok-numbers.ensures ∙ ap (map (rank_of names)) is in
-    subst (λ (rs : List ℕ). All (λ r. r < length (points_in c.args.joined.places)) rs) (sym numbers)
-    (subst (λ (k : ℕ). All (λ r. r < k) (map (rank_of names) part)) (sym c.requires.matched) (ranks-below names part c.requires.ascending c.requires.held.held))
-
 pub returns-clause-cells : goal.returns-clause-cells
 returns-clause-cells c =
     let names = names_in c.args.names.now in

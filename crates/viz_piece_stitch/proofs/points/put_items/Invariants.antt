@@ -3,4 +3,4 @@ use Rattle.viz_piece_stitch.specs.Steps.Put.{IsPut}
 use Rattle.viz_piece_stitch.proofs.points.put_items.Given as goal
 
 abbrev pub invariant-loop-i : goal.invariant-loop-i
-invariant-loop-i g l = IsPut l.initial.points (take l.i l.ranks) l.piece l.points
+invariant-loop-i g l = IsPut l.initial.points.items (take l.i l.ranks) l.piece l.points.items

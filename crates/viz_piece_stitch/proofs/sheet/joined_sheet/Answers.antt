@@ -1,24 +1,12 @@
-use Rattle.std.proofs.Common.{◌≡◌, ◌≤◌, All, List, length, take, ap, sym, subst, ◌∙◌, arith}
+use Rattle.std.proofs.Common.{All, List, length, ap, sym, subst, ◌∙◌}
 use Rattle.std.specs.List.{flat_map}
-use Rattle.std.proofs.lemmas.List.{length-take-le}
 use Rattle.viz_parts.specs.Parts.{PartSheetData}
 use Rattle.viz_sheet.specs.Arrays.{names_in, points_in, ranks_in}
 use Rattle.viz_sheet.specs.Ranked.{IsCell, by_names}
 use Rattle.viz_piece_stitch.specs.Steps.Walk.{AreUnited}
 use Rattle.viz_piece_stitch.proofs.JoinLemmas.{all-cells, all-points}
-use Rattle.viz_piece_stitch.proofs.SheetLemmas.{all-held, as_many, joined-all, joined-cells, joined-points}
+use Rattle.viz_piece_stitch.proofs.SheetLemmas.{all-held, all-there, joined-all, joined-cells, joined-points}
 use Rattle.viz_piece_stitch.proofs.sheet.joined_sheet.Goals as goal
-
-pub with_parts-requires-clause-matched : goal.with_parts-requires-clause-matched
-with_parts-requires-clause-matched c =
-    let parts = c.args.parts.items in
-    let names = names_in c.in_ok-names.names in
-    let u : AreUnited (flat_map (λ p. p.sheet.names) parts) names =
-    subst (λ (ps : List PartSheetData). AreUnited (flat_map (λ p. p.sheet.names) ps) names) c.deref.ensures.value c.in_ok-names.ensures.united in
-    let points : points_in c.in_ok-places.places ≡ take c.len.result (flat_map (λ p. p.sheet.points) parts) =
-    c.in_ok-places.ensures ∙ ap (λ (ps : List PartSheetData). take c.len.result (flat_map (λ p. p.sheet.points) ps)) c.deref-2.ensures.value in
-    let enough : c.len.result ≤ length (flat_map (λ p. p.sheet.points) parts) = omega (arith, u.fewer, as_many parts c.requires.sheets, c.len.ensures.value) in
-    ap length points ∙ length-take-le c.len.result (flat_map (λ p. p.sheet.points) parts) enough ∙ c.len.ensures.value
 
 pub with_parts-requires-clause-held : goal.with_parts-requires-clause-held
 with_parts-requires-clause-held c =
@@ -37,10 +25,11 @@ sheet_of-requires c =
     subst (λ (ps : List PartSheetData). AreUnited (flat_map (λ p. p.sheet.names) ps) names) c.deref.ensures.value c.in_ok-names.ensures.united in
     let held = all-held names parts c.requires.sheets u.keeps in
     let cells = all-cells parts names (ranks_in c.in_ok-ranks.ranks) (ranks_in joined.ranks) (points_in joined.places) c.in_ok-joined.ensures c.in_ok-ranks.ensures in
+    let all = all-points parts names (ranks_in c.in_ok-ranks.ranks) (ranks_in joined.ranks) (points_in joined.places) c.in_ok-joined.ensures in
     record {
       cells = record {
         ascending = u.ascending;
-        matched = c.in_ok-joined.ensures.size;
+        matched = all-there names u.ascending parts (points_in joined.places) u.adds_none all c.in_ok-joined.ensures.size;
         few = c.in_ok-names.ensures.few;
         each = subst (All (IsCell (length names))) (sym cells) (joined-all names u.ascending parts held);
       };
