@@ -20,6 +20,3 @@ mod wholes;
 pub use piece::piece_of;
 pub use restriction::{restrict, restrict_shared};
 pub use wholes::{whole_image, whole_mesh};
-
-#[cfg(test)]
-mod tests;

@@ -3,4 +3,5 @@
 mod images;
 mod meshes;
 mod plain;
+mod restricted;
 mod sheets;

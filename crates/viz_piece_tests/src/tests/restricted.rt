@@ -1,9 +1,8 @@
-//! Parts cut from images and from strips of few cells, counted by hand.
+//! Parts cut from an image and from a strip of few cells, counted by hand, and shared parts.
 
 ghost use Rattle.std.specs.Prelude.{IfOk};
 ghost use Rattle.viz_piece_restrict.specs.Restricting.{IsOneOfMany, IsSomeAnswer};
 
-use crate::{restrict, restrict_shared, whole_image, whole_mesh};
 use std::alloc::Global;
 use std::process::Abort;
 use std::test::Fail;
@@ -13,9 +12,10 @@ use viz_dataset::{Image, is_origin, is_spacing};
 use viz_extent::Extent;
 use viz_fraction::point;
 use viz_parts::{Part, PartSheet, Request, covers};
-use viz_sheet::{Leaves, Mesh, Mixed, Places, Ranks, Sheet, are_cells, sheet_of};
+use viz_piece_restrict::{restrict, restrict_shared, whole_image, whole_mesh};
+use viz_sheet::{Leaves, Mesh, Places, Ranks, Sheet, are_cells, sheet_of};
 
-/// How many cells each strip has.
+/// How many cells the strip has.
 const CELLS: u32 = 10;
 
 /// All of a mesh.
@@ -90,61 +90,13 @@ fn a_block_has_the_same_numbers(rt: HostRuntime) -> Result<(), Fail> {
     Ok(())
 }
 
-// The cells of a strip: cell i has so many points, from point i on; with 0, three in the array of
-// cells of any size.
-fn strip_ranks(alloc: Global, size: u32) -> Result<Ranks, Fail> {
-    match size {
-        0 => mixed(alloc),
-        1 => vertices(alloc),
-        2 => lines(alloc),
-        3 => triangles(alloc),
-        _ => tetrahedra(alloc),
-    }
-}
-
-// Cells of any size.
-fn mixed(alloc: Global) -> Result<Ranks, Fail> {
-    let mut cells = Vec::new(alloc);
-    for i in 0..CELLS {
-        cells.push(Mixed::new(3, [i, i + 1, i + 2, 0]))?;
-    }
-    Ok(Ranks::Any(cells))
-}
-
-// Cells of one point.
-fn vertices(alloc: Global) -> Result<Ranks, Fail> {
-    let mut cells = Vec::new(alloc);
-    for i in 0..CELLS {
-        cells.push([i])?;
-    }
-    Ok(Ranks::Vertices(cells))
-}
-
-// Cells of two points.
-fn lines(alloc: Global) -> Result<Ranks, Fail> {
-    let mut cells = Vec::new(alloc);
-    for i in 0..CELLS {
-        cells.push([i, i + 1])?;
-    }
-    Ok(Ranks::Lines(cells))
-}
-
-// Cells of three points.
+// The cells of a strip: cell i has points i to i + 2.
 fn triangles(alloc: Global) -> Result<Ranks, Fail> {
     let mut cells = Vec::new(alloc);
     for i in 0..CELLS {
         cells.push([i, i + 1, i + 2])?;
     }
     Ok(Ranks::Triangles(cells))
-}
-
-// Cells of four points.
-fn tetrahedra(alloc: Global) -> Result<Ranks, Fail> {
-    let mut cells = Vec::new(alloc);
-    for i in 0..CELLS {
-        cells.push([i, i + 1, i + 2, i + 3])?;
-    }
-    Ok(Ranks::Tetrahedra(cells))
 }
 
 // So many points along x.
@@ -159,12 +111,12 @@ fn points(alloc: Global, count: u32) -> Result<Places, Fail> {
     Ok(Places::Wide(points))
 }
 
-// The strip of cells of one size.
-fn strip(alloc: Global, size: u32) -> Result<Sheet, Fail> {
-    let count = CELLS + 3;
+// The strip.
+fn strip(alloc: Global) -> Result<Sheet, Fail> {
+    let count = CELLS + 2;
     let leaves = Leaves::of_points(alloc, count)?;
     let places = points(alloc, count)?;
-    let ranks = strip_ranks(alloc, size)?;
+    let ranks = triangles(alloc)?;
     if !are_cells(&leaves, &places, &ranks) {
         return Err("cells of ascending names")?;
     }
@@ -173,22 +125,22 @@ fn strip(alloc: Global, size: u32) -> Result<Sheet, Fail> {
 }
 
 // All of the mesh that is a strip.
-fn whole_strip(alloc: Global, size: u32) -> Result<Part, Fail>
+fn whole_strip(alloc: Global) -> Result<Part, Fail>
     ensures { IfOk result (IsSomeAnswer (Request.Piece 0 1 0)) }
 {
-    let sheet = strip(alloc, size)?;
+    let sheet = strip(alloc)?;
     let whole = whole_mesh(alloc, Mesh::new(vec![in alloc; sheet]?))?;
     Ok(whole)
 }
 
 // Piece `p` of `n` of a strip, where p is below n.
-fn piece(alloc: Global, size: u32, p: u32, n: u32, ghosts: u32) -> Result<Part, Fail>
+fn piece(alloc: Global, p: u32, n: u32, ghosts: u32) -> Result<Part, Fail>
     ensures { IfOk result (IsSomeAnswer (Request.Piece p n ghosts)) }
 {
     if p >= n {
         return Err("a piece of so many")?;
     }
-    let whole = whole_strip(alloc, size)?;
+    let whole = whole_strip(alloc)?;
     cut(alloc, &whole, &WHOLE, &Request::Piece { p, n, ghosts })
 }
 
@@ -260,34 +212,7 @@ fn a_strip_is_cut_into_three(rt: HostRuntime) -> Result<(), Fail> {
         // Growth ends with the last cell, however many levels are wanted.
         (1, u32::MAX, 0, [2, 1, 1, 0, 0, 0, 1, 1, 2, 2].as_slice()),
     ] {
-        shows_piece(&rt, &piece(rt.alloc(), 3, p, 3, ghosts)?, first, levels);
-    }
-    Ok(())
-}
-
-#[test]
-fn a_strip_of_each_kind_is_cut(rt: HostRuntime) -> Result<(), Fail> {
-    for (size, ghosts, first, levels) in [
-        // Vertices meet none, lines one on either side, tetrahedra three.
-        (1, 2, 3, [0, 0, 0].as_slice()),
-        (2, 2, 1, [2, 1, 0, 0, 0, 1, 2].as_slice()),
-        (4, 1, 0, [1, 1, 1, 0, 0, 0, 1, 1, 1].as_slice()),
-        (0, 1, 1, [1, 1, 0, 0, 0, 1, 1].as_slice()),
-    ] {
-        shows_piece(&rt, &piece(rt.alloc(), size, 1, 3, ghosts)?, first, levels);
-    }
-    Ok(())
-}
-
-#[test]
-fn a_piece_may_have_no_cells(rt: HostRuntime) -> Result<(), Fail> {
-    for (p, ghosts, first, levels) in [
-        (0, 3, 0, [].as_slice()),
-        (1, 1, 0, [0, 1, 1].as_slice()),
-        (6, 2, 0, [].as_slice()),
-        (11, 0, 9, [0].as_slice()),
-    ] {
-        shows_piece(&rt, &piece(rt.alloc(), 3, p, 12, ghosts)?, first, levels);
+        shows_piece(&rt, &piece(rt.alloc(), p, 3, ghosts)?, first, levels);
     }
     Ok(())
 }
@@ -299,7 +224,7 @@ fn fewer(alloc: Global, ghosts: u32) -> Result<Part, Fail> {
         n: 3,
         ghosts: 2,
     };
-    let part = piece(alloc, 3, 1, 3, 2)?;
+    let part = piece(alloc, 1, 3, 2)?;
     cut(alloc, &part, &kept, &Request::Piece { p: 1, n: 3, ghosts })
 }
 
@@ -319,7 +244,7 @@ fn a_piece_has_fewer_ghosts(rt: HostRuntime) -> Result<(), Fail> {
 fn is_shared(alloc: Global, wanted: &Request) -> Result<bool, Fail>
     requires { IsOneOfMany wanted.now }
 {
-    let whole = Shared::new(alloc, whole_strip(alloc, 3)?)?;
+    let whole = Shared::new(alloc, whole_strip(alloc)?)?;
     if !covers(&WHOLE, wanted) {
         return Err("a covered request")?;
     }
