@@ -1,0 +1,3 @@
+pub mod UpstreamLemmas
+pub mod ServingLemmas
+pub mod ShapesLemmas
