@@ -50,23 +50,23 @@ module _ {R : Type 0} where
   levels_lose_none k [] u = subst (λ l. IsPermutation [] l) (none_by k) (IsPermutation-refl [])
   levels_lose_none k (x ∷ t) u = IsPermutation-trans _ _ _ (IsPermutation-cons x t (by_level k t) (levels_lose_none k t u.1)) (level_in k x t u.0)
 
-  AllUnder-more : (k j : ℕ) (t : Tasks R) → k ≤ j → AllUnder k t → AllUnder j t
+  pub AllUnder-more : (k j : ℕ) (t : Tasks R) → k ≤ j → AllUnder k t → AllUnder j t
   AllUnder-more k j [] l u = tt
   AllUnder-more k j (x ∷ t) l u = (let h = u.0 in omega (arith, l, h), AllUnder-more k j t l u.1)
 
-  AllUnder-snoc : (k : ℕ) (x : (ℕ × R) × ℕ) (t : Tasks R) → AllUnder k t → x.1 < k → AllUnder k (t ++ x ∷ [])
+  pub AllUnder-snoc : (k : ℕ) (x : (ℕ × R) × ℕ) (t : Tasks R) → AllUnder k t → x.1 < k → AllUnder k (t ++ x ∷ [])
   AllUnder-snoc k x [] u l = (l, tt)
   AllUnder-snoc k x (y ∷ t) u l = (u.0, AllUnder-snoc k x t u.1 l)
 
 module _ {R P : Type 0} (serves : R → R → Bool) (kept : ℕ → R → Option (R × P)) (widen asks : ℕ → R → R) (inputs : ℕ → List (Option ℕ)) where
   abbrev first : Tasks R → ℕ → R → ℕ
-  first t n w = above_first serves kept widen asks inputs t n w
+  first t n w = above_first serves t n w
 
   abbrev highest : Tasks R → R → List (Option ℕ) → ℕ
-  highest t r is = above_inputs serves kept widen asks inputs t r is
+  highest t r is = above_inputs serves kept widen t r is
 
   abbrev entry : Option (R × P) → ℕ → ℕ
-  entry o k = above_entry serves kept widen asks inputs o k
+  entry o k = above_entry o k
 
   abbrev levels : Tasks R → List (ℕ × R) → Tasks R
   levels t xs = with_levels serves kept widen asks inputs t xs

@@ -1,0 +1,5 @@
+pub mod RequestLemmas
+pub mod WalkLemmas
+pub mod SourceLemmas
+pub mod TaskLemmas
+pub mod LeveledLemmas
