@@ -1,0 +1,5 @@
+pub mod Divisions
+pub mod Pieces
+pub mod Narrow
+pub mod Shares
+pub mod Answers
