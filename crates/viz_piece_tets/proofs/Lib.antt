@@ -1,0 +1,4 @@
+pub mod PlaneLemmas
+pub mod NoneLemmas
+pub mod TetsLemmas
+pub mod MoveLemmas

@@ -1,0 +1,3 @@
+pub mod Tets
+pub mod Asked
+pub mod Layers
