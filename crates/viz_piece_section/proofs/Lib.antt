@@ -1,0 +1,5 @@
+pub mod ShiftLemmas
+pub mod FirstLemmas
+pub mod LeastLemmas
+pub mod LevelLemmas
+pub mod SectionLemmas
