@@ -10,6 +10,9 @@ use viz_parts::Request;
 // An image of 7 planes, so of 6 layers.
 const WHOLE: [u32; 6] = [0, 9, 0, 4, 2, 8];
 
+// The bounds of a kept block.
+const KEPT: [u32; 6] = [0, 4, 0, 4, 2, 6];
+
 // A block, or piece 9 of 0, which no row has, where the bounds are none.
 fn block(bounds: [u32; 6]) -> Request {
     match Extent::new(bounds) {
@@ -22,46 +25,51 @@ fn piece(p: u32, n: u32, ghosts: u32) -> Request {
     Request::Piece { p, n, ghosts }
 }
 
+// A node's parameters by its kind: a sample and a smooth have some of their own.
+fn settings_of(kind: Kind) -> Settings {
+    match kind {
+        Kind::Sample => Settings::Sample { x: 2, y: 3, z: 1 },
+        Kind::Smooth => Settings::Smooth { radius: 2 },
+        _ => Settings::new(kind),
+    }
+}
+
 #[test]
 fn images_are_asked_for_blocks(rt: HostRuntime) {
     let whole = Extent::new(WHOLE);
-    let sample = Settings::Sample { x: 2, y: 3, z: 1 };
-    let smooth = Settings::Smooth { radius: 2 };
-    let crop = Settings::new(Kind::Crop);
-    let contour = Settings::new(Kind::Contour);
-    for (settings, request, want) in [
+    for (kind, request, want) in [
         (
-            sample,
+            Kind::Sample,
             block([1, 2, 0, 1, 3, 4]),
             Some(block([2, 4, 0, 3, 3, 4])),
         ),
         // A mean asks for what lies round it, as far as the whole reaches.
         (
-            smooth,
+            Kind::Smooth,
             block([3, 4, 0, 1, 2, 3]),
             Some(block([1, 6, 0, 3, 2, 5])),
         ),
         (
-            crop,
+            Kind::Crop,
             block([3, 4, 0, 1, 2, 3]),
             Some(block([3, 4, 0, 1, 2, 3])),
         ),
         // Layers 2 and 3 touch planes 4 to 6.
-        (contour, piece(1, 3, 0), Some(block([0, 9, 0, 4, 4, 6]))),
-        (contour, piece(1, 3, 1), Some(block([0, 9, 0, 4, 3, 7]))),
-        (contour, piece(1, 3, 9), Some(block(WHOLE))),
+        (Kind::Contour, piece(1, 3, 0), Some(block([0, 9, 0, 4, 4, 6]))),
+        (Kind::Contour, piece(1, 3, 1), Some(block([0, 9, 0, 4, 3, 7]))),
+        (Kind::Contour, piece(1, 3, 9), Some(block(WHOLE))),
         // Piece 0 of 7 has none of 6 layers.
-        (contour, piece(0, 7, 2), Some(block([0, 9, 0, 4, 2, 2]))),
+        (Kind::Contour, piece(0, 7, 2), Some(block([0, 9, 0, 4, 2, 2]))),
         // What isn't there can't be asked for.
-        (sample, block([1, 5, 0, 1, 3, 4]), None),
-        (smooth, block([3, 10, 0, 1, 2, 3]), None),
-        (contour, piece(3, 3, 0), None),
-        (contour, block(WHOLE), None),
+        (Kind::Sample, block([1, 5, 0, 1, 3, 4]), None),
+        (Kind::Smooth, block([3, 10, 0, 1, 2, 3]), None),
+        (Kind::Contour, piece(3, 3, 0), None),
+        (Kind::Contour, block(WHOLE), None),
     ] {
         assert_eq!(rt;
-            asked(&settings, &whole, &request),
+            asked(&settings_of(kind), &whole, &request),
             want,
-            "{settings:?} {request:?}"
+            "{kind:?} {request:?}"
         );
     }
 }
@@ -103,13 +111,12 @@ fn files_and_merges_make_all(rt: HostRuntime) {
 
 #[test]
 fn what_is_kept_serves(rt: HostRuntime) {
-    let kept = block([0, 4, 0, 4, 2, 6]);
     for (kept, wanted, want) in [
-        (kept, block([1, 2, 0, 0, 3, 3]), true),
-        (kept, kept, true),
-        (kept, block([0, 4, 0, 4, 1, 6]), false),
-        (kept, block([0, 4, 0, 5, 2, 6]), false),
-        (kept, piece(0, 1, 0), false),
+        (block(KEPT), block([1, 2, 0, 0, 3, 3]), true),
+        (block(KEPT), block(KEPT), true),
+        (block(KEPT), block([0, 4, 0, 4, 1, 6]), false),
+        (block(KEPT), block([0, 4, 0, 5, 2, 6]), false),
+        (block(KEPT), piece(0, 1, 0), false),
         (piece(1, 3, 1), piece(1, 3, 0), true),
         (piece(1, 3, 1), piece(1, 3, 2), false),
         (piece(1, 3, 1), piece(2, 3, 0), false),
