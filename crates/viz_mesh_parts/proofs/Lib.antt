@@ -1,0 +1,4 @@
+pub mod MatchLemmas
+pub mod HandedLemmas
+pub mod MadeLemmas
+pub mod AnswerLemmas
