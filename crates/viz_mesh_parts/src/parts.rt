@@ -13,8 +13,8 @@ use viz_fraction::Form;
 use viz_meaning::WorkStop;
 use viz_parts::{Part, PartSheet};
 
-/// The selection of a part: of its cells those all of whose corners have a scalar from `lo` to `hi`,
-/// or any of them, with their ghost levels.
+/// The selection of a part: of its cells those all of whose corners have a scalar from `lo` to
+/// `hi`, or any of them, with their ghost levels.
 ///
 /// Of a piece of a mesh, with any number of ghost levels, it is that piece of the mesh's selection.
 pub fn select_part(

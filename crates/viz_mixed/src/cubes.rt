@@ -46,7 +46,8 @@ fn push_layer(
     requires room { length words.now ≡ length flags.now / 64 + 2 }
     requires z { HasNext whole.now.z0 whole.now.z1 k }
     ensures { OnOk result (out.new ≡ out.old
-        ++ map (λ at. is_mixed (corner_flags whole.now flags.now at)) (lowest_in_layer whole.now k)) }
+        ++ map (λ at. is_mixed (corner_flags whole.now flags.now at))
+        (lowest_in_layer whole.now k)) }
 {
     let [_, _, y0, y1, _, _] = whole.bounds();
     for j in y0..y1 {
@@ -70,7 +71,8 @@ fn push_row(
     requires y { HasNext whole.now.y0 whole.now.y1 j }
     requires z { HasNext whole.now.z0 whole.now.z1 k }
     ensures { OnOk result (out.new ≡ out.old
-        ++ map (λ at. is_mixed (corner_flags whole.now flags.now at)) (lowest_in_row whole.now j k)) }
+        ++ map (λ at. is_mixed (corner_flags whole.now flags.now at))
+        (lowest_in_row whole.now j k)) }
 {
     let [x0, x1, y0, y1, _, _] = whole.bounds();
     let row = (x1 - x0) as usize + 1;

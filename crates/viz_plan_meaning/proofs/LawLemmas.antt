@@ -55,7 +55,7 @@ pub orders_produce : ServesItself → ServesOn → (k : Known) (restrict : Reque
     (IsTrue : ℕ → Request → Part → Type 0) (Faults : ℕ → Fault → Type 0) → IsSound k restrict run IsTrue Faults → OrdersProduce k restrict run IsTrue Faults
 orders_produce itself on k restrict run IsTrue Faults sound tasks rs is ready met =
     by (evaluation k restrict run tasks)
-        (evaluated_comes serves itself on (kept_at k) (widened_at k) (asked_at k) (inputs_of k.net) (HasTasks k.net) restrict run IsTrue Faults sound.cut kept_true sound.made [] tasks tt ready)
+    (evaluated_comes serves itself on (kept_at k) (widened_at k) (asked_at k) (inputs_of k.net) (HasTasks k.net) restrict run IsTrue Faults sound.cut kept_true sound.made [] tasks tt ready)
   where
     kept_true : (n : ℕ) (w : Request) (e : Request × Part) → kept_at k n w ≡ Some e → IsTrue n e.0 e.1 × (serves e.0 w ≡ true)
     kept_true n w e q = (sound.kept n w e q, kept_serves k n w e q)
@@ -67,7 +67,7 @@ orders_produce itself on k restrict run IsTrue Faults sound tasks rs is ready me
       h.1,
       h.0,
       all_fed serves itself on (kept_at k) (widened_at k) (asked_at k) (inputs_of k.net) (HasTasks k.net) restrict run IsTrue Faults sound.cut kept_true sound.made u rs is h.0
-      (subst (λ l. AllAsked serves (kept_at k) (widened_at k) (asked_at k) (inputs_of k.net) (HasTasks k.net) l rs is) (sym h.1) met),
+          (subst (λ l. AllAsked serves (kept_at k) (widened_at k) (asked_at k) (inputs_of k.net) (HasTasks k.net) l rs is) (sym h.1) met),
     )
     by (Err e) h = h
 
@@ -82,5 +82,5 @@ pub no_fault_hides : ServesItself → ServesOn → (k : Known) (restrict : Reque
     → IsSound k restrict run IsTrue Faults → IsSpoiling k Spoilt Stems → NoFaultHides k IsTrue Spoilt Stems
 no_fault_hides itself on k restrict run IsTrue Faults Spoilt Stems sound spoiling sink rs made all same n leads =
     shown_all serves itself on (kept_at k) (widened_at k) (asked_at k) (inputs_of k.net) (HasTasks k.net) restrict run IsTrue Faults sound.cut
-        (λ n w e q. (sound.kept n w e q, kept_serves k n w e q))
-        Spoilt spoiling.unkept Stems spoiling.root spoiling.widened spoiling.asked spoiling.served (ways_to k.net sink) rs made all same n leads
+    (λ n w e q. (sound.kept n w e q, kept_serves k n w e q))
+    Spoilt spoiling.unkept Stems spoiling.root spoiling.widened spoiling.asked spoiling.served (ways_to k.net sink) rs made all same n leads

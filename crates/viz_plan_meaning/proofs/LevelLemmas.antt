@@ -119,8 +119,7 @@ module _ {R P : Type 0} (serves : R → R → Bool) (kept : ℕ → R → Option
       let h : l ≤ length t = highest_under (length t) t (asks x.0 x.1) (inputs x.0) u in
       let grown : length (t ++ y ∷ []) ≡ suc (length t) = longer t y in
       let v : AllUnder (suc (length t)) (t ++ y ∷ []) = AllUnder-snoc (suc (length t)) y t (AllUnder-more (length t) (suc (length t)) t (omega arith) u) (omega (arith, h)) in
-      let whole : length (t ++ y ∷ []) + length xs ≡ length t + suc (length xs) = omega (arith, grown) in
-      (
+      let whole : length (t ++ y ∷ []) + length xs ≡ length t + suc (length xs) = omega (arith, grown) in (
         omega (arith, h),
         subst (λ k. AllUnder k (levels (t ++ y ∷ []) xs)) whole (levels_under (t ++ y ∷ []) xs (subst (λ k. AllUnder k (t ++ y ∷ [])) (sym grown) v)),
       )
@@ -161,11 +160,10 @@ module _ {R P : Type 0} (serves : R → R → Bool) (kept : ℕ → R → Option
     levels_are t (x ∷ xs) m =
         let l = highest t (asks x.0 x.1) (inputs x.0) in
         let y : (ℕ × R) × ℕ = (x, l) in
-        let rest = levels (t ++ y ∷ []) xs in
-        (
+        let rest = levels (t ++ y ∷ []) xs in (
           sym (highest_stays t (y ∷ rest) (asks x.0 x.1) (inputs x.0) m.1),
           subst (λ a. AreLevels serves kept widen asks inputs a rest) (append_assoc t (y ∷ []) rest)
-          (levels_are (t ++ y ∷ []) xs (subst (λ f. Fine f xs) (sym (needs_of-append t (y ∷ []))) m.2)),
+              (levels_are (t ++ y ∷ []) xs (subst (λ f. Fine f xs) (sym (needs_of-append t (y ∷ []))) m.2)),
         )
 
     -- the tasks that an input uses are of lower levels
@@ -288,8 +286,8 @@ module _ {R P : Type 0} (serves : R → R → Bool) (kept : ℕ → R → Option
     -- tasks that each find what they ask for before themselves have levels as defined, each uses tasks of lower levels, level by level none is lost, and each finds what it asks for
     pub levels_stand : (xs : List (ℕ × R)) → Fine [] xs
         → (needs_of (levels [] xs) ≡ xs) × AreLevels serves kept widen asks inputs (levels [] xs) (levels [] xs)
-          × IsLevelled serves kept widen asks inputs (levels [] xs) (levels [] xs)
-          × IsPermutation (levels [] xs) (by_level (length xs) (levels [] xs)) × Fine [] (needs_of (by_level (length xs) (levels [] xs)))
+        × IsLevelled serves kept widen asks inputs (levels [] xs) (levels [] xs)
+        × IsPermutation (levels [] xs) (by_level (length xs) (levels [] xs)) × Fine [] (needs_of (by_level (length xs) (levels [] xs)))
     levels_stand xs m =
         let t = levels [] xs in
         let e = levels_of [] xs in
@@ -314,10 +312,10 @@ module _ {R P : Type 0} (serves : R → R → Bool) (kept : ℕ → R → Option
         let p = heads y.0 x (needs_of t) xs e in
         let l = highest front (asks x.0 x.1) (inputs x.0) in
         let same : y.1 ≡ l =
-            a.0 ∙ ap (λ z. highest (front ++ y ∷ t) (asks z.0 z.1) (inputs z.0)) p.0 ∙ highest_stays front (y ∷ t) (asks x.0 x.1) (inputs x.0) m.1 in
+        a.0 ∙ ap (λ z. highest (front ++ y ∷ t) (asks z.0 z.1) (inputs z.0)) p.0 ∙ highest_stays front (y ∷ t) (asks x.0 x.1) (inputs x.0) m.1 in
         let whole : y ≡ (x, l) = ap (λ z. (z, y.1)) p.0 ∙ ap (λ k. (x, k)) same in
         let ready : Fine (needs_of (front ++ y ∷ [])) xs =
-            subst (λ f. Fine f xs) (sym (needs_of-append front (y ∷ []))) (subst (λ z. Fine (needs_of front ++ z ∷ []) xs) (sym p.0) m.2) in
+        subst (λ f. Fine f xs) (sym (needs_of-append front (y ∷ []))) (subst (λ z. Fine (needs_of front ++ z ∷ []) xs) (sym p.0) m.2) in
         let rest : t ≡ levels (front ++ y ∷ []) xs = levels_one (front ++ y ∷ []) t xs ready p.1 (subst (λ f. AreLevels serves kept widen asks inputs f t) (sym (append_assoc front (y ∷ []) t)) a.1) in
         ap (λ u. y ∷ u) rest ∙ ap (λ z. z ∷ levels (front ++ z ∷ []) xs) whole
 

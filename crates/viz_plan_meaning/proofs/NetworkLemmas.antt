@@ -63,9 +63,9 @@ module _ (net : Network) (steps : List Step) (are : AreSteps net steps) (Good : 
       let s = step_at steps j x f.1 in
       let st = are.each j s.0 s.1 in
       fed_stands st.node j x (grow (cone_of net) inputs) f.1
-          (subst (λ y. node_of net y.0 ≡ Some st.node) s.2 st.there)
-          (subst (λ y. cone_of net y.0 ≡ Some (st.node, grow (cone_of net) st.node.inputs)) s.2 st.cone)
-          (below j x f.0 f.1) (ports_stand k inputs places f.2 below)
+      (subst (λ y. node_of net y.0 ≡ Some st.node) s.2 st.there)
+      (subst (λ y. cone_of net y.0 ≡ Some (st.node, grow (cone_of net) st.node.inputs)) s.2 st.cone)
+      (below j x f.0 f.1) (ports_stand k inputs places f.2 below)
   ports_stand k [] (p ∷ places) f below = absurd f
   ports_stand k (None ∷ inputs) [] f below = absurd f
   ports_stand k (None ∷ inputs) (Some j ∷ places) f below = absurd f
@@ -90,6 +90,6 @@ module _ (net : Network) (steps : List Step) (are : AreSteps net steps) (Good : 
       let s = step_at steps k x at in
       let st = are.each k s.0 s.1 in
       fed_stands st.node k x none at
-          (subst (λ y. node_of net y.0 ≡ Some st.node) s.2 st.there)
-          (subst (λ y. cone_of net y.0 ≡ Some (st.node, grow (cone_of net) st.node.inputs)) s.2 st.cone)
-          (node_stands k x at) (tt, tt)
+      (subst (λ y. node_of net y.0 ≡ Some st.node) s.2 st.there)
+      (subst (λ y. cone_of net y.0 ≡ Some (st.node, grow (cone_of net) st.node.inputs)) s.2 st.cone)
+      (node_stands k x at) (tt, tt)

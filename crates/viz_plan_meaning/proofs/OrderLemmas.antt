@@ -33,10 +33,10 @@ module _ {R P : Type 0} (serves : R → R → Bool) (again : (r : R) → serves 
   -- the plan with its levels: they are as defined, none is lost level by level, and in that order each task finds what it asks for, and the requests are met
   pub plan_levels : (c : Upstream) (rs : List R) → IsOne cone c → AllOf Good c
       → (needs_of (levelled c rs) ≡ plan serves kept widen asks c rs) × AreLevels serves kept widen asks fed_by (levelled c rs) (levelled c rs)
-        × IsLevelled serves kept widen asks fed_by (levelled c rs) (levelled c rs)
-        × IsPermutation (levelled c rs) (by_level (length (plan serves kept widen asks c rs)) (levelled c rs))
-        × Ready serves kept widen asks fed_by Good [] (in_order c rs)
-        × AllAsked serves again through kept widen asks fed_by Good (in_order c rs) rs (heads c)
+      × IsLevelled serves kept widen asks fed_by (levelled c rs) (levelled c rs)
+      × IsPermutation (levelled c rs) (by_level (length (plan serves kept widen asks c rs)) (levelled c rs))
+      × Ready serves kept widen asks fed_by Good [] (in_order c rs)
+      × AllAsked serves again through kept widen asks fed_by Good (in_order c rs) rs (heads c)
   plan_levels c rs o g =
       let xs = plan serves kept widen asks c rs in
       let r = plan_ready serves again through kept widen asks fed_by Good (heads c) c rs (fits_one serves kept widen asks cone Good c o g) in
@@ -44,24 +44,24 @@ module _ {R P : Type 0} (serves : R → R → Bool) (again : (r : R) → serves 
       let plain : 0 + length xs ≡ length xs = omega arith in
       let under : AllUnder (length xs) (levelled c rs) = subst (λ k. AllUnder k (levelled c rs)) plain (levels_under serves kept widen asks fed_by [] xs tt) in
       let more : (n : ℕ) (w : R) → served serves xs n w ≡ true → served serves (in_order c rs) n w ≡ true =
-          (λ n w e. below_serves serves kept widen asks fed_by Good (length xs) (levelled c rs) n w
-            (served_below (length xs) (levelled c rs) n w under (subst (λ l. served serves l n w ≡ true) (sym s.0) e))) in
+      (λ n w e. below_serves serves kept widen asks fed_by Good (length xs) (levelled c rs) n w
+      (served_below (length xs) (levelled c rs) n w under (subst (λ l. served serves l n w ≡ true) (sym s.0) e))) in
       (s.0, s.1, s.2, s.3, s.4, AllAsked-more serves again through kept widen asks fed_by Good xs (in_order c rs) more rs (heads c) r.1)
 
   module _ {F : Type 0} (restrict : R × P → R → P) (run : ℕ → R → List (Option P) → Result P F) (IsTrue : ℕ → R → P → Type 0) (Faults : ℕ → F → Type 0)
       (restricts : (n : ℕ) (k r : R) (p : P) → IsTrue n k p → serves k (widen n r) ≡ true → IsTrue n r (restrict (k, p) r))
       (kept_true : (n : ℕ) (w : R) (e : R × P) → kept n w ≡ Some e → IsTrue n e.0 e.1 × (serves e.0 w ≡ true))
       (law : (n : ℕ) (w : R) (ps : List (Option P)) → Good n
-        → IsFed serves again through kept widen asks fed_by Good restrict run IsTrue Faults restricts kept_true (asks n w) (fed_by n) ps
-        → Gives serves again through kept widen asks fed_by Good restrict run IsTrue Faults restricts kept_true n w (run n w ps)) where
+      → IsFed serves again through kept widen asks fed_by Good restrict run IsTrue Faults restricts kept_true (asks n w) (fed_by n) ps
+      → Gives serves again through kept widen asks fed_by Good restrict run IsTrue Faults restricts kept_true n w (run n w ps)) where
     -- evaluated level by level, the plan gives true parts for all requests, or a fault of a node
     pub levels_produce : (c : Upstream) (rs : List R) → IsOne cone c → AllOf Good c
         → Produces serves again through kept widen asks fed_by Good restrict run IsTrue Faults restricts kept_true law (in_order c rs) rs (heads c)
-            (evaluated serves kept widen asks fed_by restrict run [] (in_order c rs))
+        (evaluated serves kept widen asks fed_by restrict run [] (in_order c rs))
     levels_produce c rs o g =
         let p = plan_levels c rs o g in
         by (evaluated serves kept widen asks fed_by restrict run [] (in_order c rs))
-            (evaluated_comes serves again through kept widen asks fed_by Good restrict run IsTrue Faults restricts kept_true law [] (in_order c rs) tt p.4) p.5
+        (evaluated_comes serves again through kept widen asks fed_by Good restrict run IsTrue Faults restricts kept_true law [] (in_order c rs) tt p.4) p.5
       where
         by : (s : Result (List ((ℕ × R) × P)) F)
             → Comes serves again through kept widen asks fed_by Good restrict run IsTrue Faults restricts kept_true [] (in_order c rs) s
@@ -71,6 +71,6 @@ module _ {R P : Type 0} (serves : R → R → Bool) (again : (r : R) → serves 
           h.1,
           h.0,
           all_fed serves again through kept widen asks fed_by Good restrict run IsTrue Faults restricts kept_true law u rs (heads c) h.0
-          (subst (λ l. AllAsked serves again through kept widen asks fed_by Good l rs (heads c)) (sym h.1) m),
+              (subst (λ l. AllAsked serves again through kept widen asks fed_by Good l rs (heads c)) (sym h.1) m),
         )
         by (Err e) h m = h

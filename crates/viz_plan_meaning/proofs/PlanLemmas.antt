@@ -152,8 +152,7 @@ module _ {R : Type 0} (serves : R → R → Bool) where
               let whole : (front ++ mine) ++ all c r ≡ front ++ (mine ++ all c r) = append_assoc front mine (all c r) in
               let mineReady : Ready front mine = Ready-append front (all own (asks n w)) ((n, w) ∷ []) u.0 (f.1, u.1, tt) in
               let here : served serves mine n w ≡ true = served-right (all own (asks n w)) ((n, w) ∷ []) n w (served-self n w []) in
-              let there : IsMet (front ++ (mine ++ all c r)) n r = inr (served-right front (mine ++ all c r) n w (served-left mine (all c r) n w here)) in
-              (
+              let there : IsMet (front ++ (mine ++ all c r)) n r = inr (served-right front (mine ++ all c r) n w (served-left mine (all c r) n w here)) in (
                 Ready-append front mine (all c r) mineReady t.0,
                 (subst (λ m. IsMet (front ++ (mine ++ all c r)) m r) (sym f.0) there, subst (λ l. AllMet l r is) whole t.1),
               )
@@ -178,8 +177,7 @@ module _ {R : Type 0} (serves : R → R → Bool) where
           let mine : List (ℕ × R) = all c r in
           let more : List (ℕ × R) = all_needs kept widen asks c rs in
           let a = needs_ready front is c r f in
-          let b = all_ready (front ++ mine) is c rs f in
-          (
+          let b = all_ready (front ++ mine) is c rs f in (
             Ready-append front mine more a.0 b.0,
             (
               AllMet-more (front ++ mine) (front ++ (mine ++ more)) (λ n w e. subst (λ l. served serves l n w ≡ true) (append_assoc front mine more) (served-left (front ++ mine) more n w e)) r is a.1,
@@ -267,7 +265,7 @@ module _ {R : Type 0} (serves : R → R → Bool) where
           evaluated_comes t [] a m = (a, sym (append-nil (keys t)))
           evaluated_comes t (x ∷ xs) a m =
               by (run x.0 x.1 (gathers t (asks x.0 x.1) (inputs x.0))) (law x.0 x.1 _ m.0 (gathered_true t (asks x.0 x.1) (inputs x.0) a m.1))
-                  (λ p h. evaluated_comes (t ++ (x, p) ∷ []) xs (AllTrue-snoc t (x, p) a h) (subst (λ f. Ready f xs) (sym (keys-snoc t (x, p))) m.2))
+              (λ p h. evaluated_comes (t ++ (x, p) ∷ []) xs (AllTrue-snoc t (x, p) a h) (subst (λ f. Ready f xs) (sym (keys-snoc t (x, p))) m.2))
             where
               next : P → Result (List ((ℕ × R) × P)) F
               next p = evaluated serves kept widen asks inputs restrict run (t ++ (x, p) ∷ []) xs
@@ -329,12 +327,11 @@ module _ {R : Type 0} (serves : R → R → Bool) where
               by (Some v) e (inl k) up beside = absurd (unkept m (widen m q) v k.0 e)
               by None e (inl (sp, inl same)) up beside =
                   let w = widen m q in
-                  let mine : List (ℕ × R) = all own (asks m w) ++ (m, w) ∷ [] in
-                  (
+                  let mine : List (ℕ × R) = all own (asks m w) ++ (m, w) ∷ [] in (
                     w,
                     stems_widened r q m s,
                     subst (λ i. served serves (mine ++ all c q) i w ≡ true) same
-                    (served-left mine (all c q) m w (served-right (all own (asks m w)) ((m, w) ∷ []) m w (served-self m w []))),
+                        (served-left mine (all c q) m w (served-right (all own (asks m w)) ((m, w) ∷ []) m w (served-self m w []))),
                   )
               by None e (inl (sp, inr k)) up beside =
                   let w = widen m q in
@@ -350,8 +347,7 @@ module _ {R : Type 0} (serves : R → R → Bool) where
           shown u n c [] a l h = tt
           shown u n c (r ∷ rs) a l h =
               let d = needed n c r r l (root r) in
-              let f = found u n d.0 a (h n d.0 (served-left (all c r) (all_needs kept widen asks c rs) n d.0 d.2)) in
-              (
+              let f = found u n d.0 a (h n d.0 (served-left (all c r) (all_needs kept widen asks c rs) n d.0 d.2)) in (
                 (f.0.0, f.0.1, stems_served r f.0.0 d.0 d.1 f.3, f.2),
                 shown u n c rs a l (λ m w e. h m w (served-right (all c r) (all_needs kept widen asks c rs) m w e)),
               )

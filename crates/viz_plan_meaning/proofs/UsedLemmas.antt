@@ -47,41 +47,40 @@ module _ {R : Type 0} (same : R → R → Bool) (alike : (a b : R) → same a b 
 
         by : (e : Option (R × P)) (b : Bool) → has same s n (widen n r) ≡ b
             → (visit_used same kept widen asks own (asks n (widen n r)) s u ≡ nub same u (entries same kept widen asks own (asks n (widen n r))))
-              × Known (visit same kept widen asks own (asks n (widen n r)) s) (visit_used same kept widen asks own (asks n (widen n r)) s u)
+            × Known (visit same kept widen asks own (asks n (widen n r)) s) (visit_used same kept widen asks own (asks n (widen n r)) s u)
             → ((t v : List (ℕ × R)) → Known t v → (visit_used same kept widen asks c r t v ≡ nub same v (entries same kept widen asks c r)) × Known (visit same kept widen asks c r t) (visit_used same kept widen asks c r t v))
             → (visit_used same kept widen asks c r (enter same kept widen asks e n (widen n r) (visit same kept widen asks own (asks n (widen n r))) s)
-                  (enter_used same kept widen asks e n (widen n r) (visit_used same kept widen asks own (asks n (widen n r)) s u) s u)
-                ≡ nub same u (met_entry same kept widen asks e n (entries same kept widen asks own (asks n (widen n r))) ++ entries same kept widen asks c r))
-              × Known (visit same kept widen asks c r (enter same kept widen asks e n (widen n r) (visit same kept widen asks own (asks n (widen n r))) s))
-                  (visit_used same kept widen asks c r (enter same kept widen asks e n (widen n r) (visit same kept widen asks own (asks n (widen n r))) s)
-                  (enter_used same kept widen asks e n (widen n r) (visit_used same kept widen asks own (asks n (widen n r)) s u) s u))
+            (enter_used same kept widen asks e n (widen n r) (visit_used same kept widen asks own (asks n (widen n r)) s u) s u)
+            ≡ nub same u (met_entry same kept widen asks e n (entries same kept widen asks own (asks n (widen n r))) ++ entries same kept widen asks c r))
+            × Known (visit same kept widen asks c r (enter same kept widen asks e n (widen n r) (visit same kept widen asks own (asks n (widen n r))) s))
+            (visit_used same kept widen asks c r (enter same kept widen asks e n (widen n r) (visit same kept widen asks own (asks n (widen n r))) s)
+            (enter_used same kept widen asks e n (widen n r) (visit_used same kept widen asks own (asks n (widen n r)) s u) s u))
         by (Some e) b q below rest = rest s (add same u n e.0) (λ m v k. grown u (entries same kept widen asks (cone m) (asks m v)) ((n, e.0) ∷ []) (h m v k))
         by None true q below rest =
             let a : All u (entries same kept widen asks own (asks n (widen n r))) = subst (λ d. All u (entries same kept widen asks d (asks n (widen n r)))) (sym o.0) (h n (widen n r) q) in
             let s_is : enter same kept widen asks None n (widen n r) (visit same kept widen asks own (asks n (widen n r))) s ≡ s =
-                ap (λ b. cond b s (add same (visit same kept widen asks own (asks n (widen n r)) s) n (widen n r))) q in
+            ap (λ b. cond b s (add same (visit same kept widen asks own (asks n (widen n r)) s) n (widen n r))) q in
             let u_is : enter_used same kept widen asks None n (widen n r) (visit_used same kept widen asks own (asks n (widen n r)) s u) s u ≡ u =
-                ap (λ b. cond b u (visit_used same kept widen asks own (asks n (widen n r)) s u)) q in
+            ap (λ b. cond b u (visit_used same kept widen asks own (asks n (widen n r)) s u)) q in
             let t = rest s u h in
             let e1 = ap (λ l. visit_used same kept widen asks c r l (enter_used same kept widen asks None n (widen n r) (visit_used same kept widen asks own (asks n (widen n r)) s u) s u)) s_is
-                ∙ ap (λ l. visit_used same kept widen asks c r s l) u_is in
-            (
+            ∙ ap (λ l. visit_used same kept widen asks c r s l) u_is in (
               e1 ∙ t.0
-              ∙ sym (nub-append same alike itself u (entries same kept widen asks own (asks n (widen n r))) (entries same kept widen asks c r)
-                ∙ ap (λ l. nub same l (entries same kept widen asks c r)) (nub_in same alike itself u (entries same kept widen asks own (asks n (widen n r))) a)),
+                  ∙ sym (nub-append same alike itself u (entries same kept widen asks own (asks n (widen n r))) (entries same kept widen asks c r)
+                  ∙ ap (λ l. nub same l (entries same kept widen asks c r)) (nub_in same alike itself u (entries same kept widen asks own (asks n (widen n r))) a)),
               subst (λ l. Known (visit same kept widen asks c r (enter same kept widen asks None n (widen n r) (visit same kept widen asks own (asks n (widen n r))) s)) l) (sym e1)
-              (subst (λ l. Known (visit same kept widen asks c r l) (visit_used same kept widen asks c r s u)) (sym s_is) t.1),
+                  (subst (λ l. Known (visit same kept widen asks c r l) (visit_used same kept widen asks c r s u)) (sym s_is) t.1),
             )
         by None false q below rest =
             let s1 = visit same kept widen asks own (asks n (widen n r)) s in
             let u1 = visit_used same kept widen asks own (asks n (widen n r)) s u in
             let s2 = add same s1 n (widen n r) in
             let s_is : enter same kept widen asks None n (widen n r) (visit same kept widen asks own (asks n (widen n r))) s ≡ s2 =
-                ap (λ b. cond b s (add same (visit same kept widen asks own (asks n (widen n r)) s) n (widen n r))) q in
+            ap (λ b. cond b s (add same (visit same kept widen asks own (asks n (widen n r)) s) n (widen n r))) q in
             let u_is : enter_used same kept widen asks None n (widen n r) (visit_used same kept widen asks own (asks n (widen n r)) s u) s u ≡ u1 =
-                ap (λ b. cond b u (visit_used same kept widen asks own (asks n (widen n r)) s u)) q in
+            ap (λ b. cond b u (visit_used same kept widen asks own (asks n (widen n r)) s u)) q in
             let in1 : All u1 (entries same kept widen asks own (asks n (widen n r))) =
-                subst (λ l. All l (entries same kept widen asks own (asks n (widen n r)))) (sym below.0) (nub_all same alike itself u (entries same kept widen asks own (asks n (widen n r)))) in
+            subst (λ l. All l (entries same kept widen asks own (asks n (widen n r)))) (sym below.0) (nub_all same alike itself u (entries same kept widen asks own (asks n (widen n r)))) in
             let known : Known s2 u1 = (λ m v e. elim (add_only same alike itself s1 n (widen n r) m v e) [
               | inl a ↦ below.1 m v a
               | inr p ↦ subst (λ i. All u1 (entries same kept widen asks (cone i) (asks i v))) p.0
@@ -90,13 +89,12 @@ module _ {R : Type 0} (same : R → R → Bool) (alike : (a b : R) → same a b 
             ]) in
             let t = rest s2 u1 known in
             let e1 = ap (λ l. visit_used same kept widen asks c r l (enter_used same kept widen asks None n (widen n r) (visit_used same kept widen asks own (asks n (widen n r)) s u) s u)) s_is
-                ∙ ap (λ l. visit_used same kept widen asks c r s2 l) u_is in
-            (
+            ∙ ap (λ l. visit_used same kept widen asks c r s2 l) u_is in (
               e1 ∙ t.0
-              ∙ sym (nub-append same alike itself u (entries same kept widen asks own (asks n (widen n r))) (entries same kept widen asks c r)
-                ∙ ap (λ l. nub same l (entries same kept widen asks c r)) (sym below.0)),
+                  ∙ sym (nub-append same alike itself u (entries same kept widen asks own (asks n (widen n r))) (entries same kept widen asks c r)
+                  ∙ ap (λ l. nub same l (entries same kept widen asks c r)) (sym below.0)),
               subst (λ l. Known (visit same kept widen asks c r (enter same kept widen asks None n (widen n r) (visit same kept widen asks own (asks n (widen n r))) s)) l) (sym e1)
-              (subst (λ l. Known (visit same kept widen asks c r l) (visit_used same kept widen asks c r s2 u1)) (sym s_is) t.1),
+                  (subst (λ l. Known (visit same kept widen asks c r l) (visit_used same kept widen asks c r s2 u1)) (sym s_is) t.1),
             )
 
     -- several requests

@@ -81,19 +81,18 @@ module _ {R : Type 0} (same : R → R → Bool) (alike : (a b : R) → same a b 
             → (visit same kept widen asks own (asks n (widen n r)) s ≡ nub same s (needs kept widen asks own (asks n (widen n r)))) × Closed (visit same kept widen asks own (asks n (widen n r)) s)
             → ((t : List (ℕ × R)) → Closed t → (visit same kept widen asks c r t ≡ nub same t (needs kept widen asks c r)) × Closed (visit same kept widen asks c r t))
             → (visit same kept widen asks c r (enter same kept widen asks e n (widen n r) (visit same kept widen asks own (asks n (widen n r))) s)
-                ≡ nub same s (met kept widen asks e n (widen n r) (needs kept widen asks own) ++ needs kept widen asks c r))
-              × Closed (visit same kept widen asks c r (enter same kept widen asks e n (widen n r) (visit same kept widen asks own (asks n (widen n r))) s))
+            ≡ nub same s (met kept widen asks e n (widen n r) (needs kept widen asks own) ++ needs kept widen asks c r))
+            × Closed (visit same kept widen asks c r (enter same kept widen asks e n (widen n r) (visit same kept widen asks own (asks n (widen n r))) s))
         by (Some e) b q u rest = rest s h
         by None true q u rest =
             let w = widen n r in
             let mine = needs kept widen asks own (asks n w) in
             let a : AllIn s mine = subst (λ d. AllIn s (needs kept widen asks d (asks n w))) (sym o.0) (h n w q) in
             let same_list : enter same kept widen asks None n w (visit same kept widen asks own (asks n w)) s ≡ s = ap (λ b. cond b s (add same (visit same kept widen asks own (asks n w) s) n w)) q in
-            let t = rest s h in
-            (
+            let t = rest s h in (
               ap (visit same kept widen asks c r) same_list ∙ t.0
-              ∙ sym (nub-append s (mine ++ (n, w) ∷ []) (needs kept widen asks c r)
-                ∙ ap (λ l. nub same l (needs kept widen asks c r)) (nub_in s (mine ++ (n, w) ∷ []) (AllIn-append s mine ((n, w) ∷ []) a (q, tt)))),
+                  ∙ sym (nub-append s (mine ++ (n, w) ∷ []) (needs kept widen asks c r)
+                  ∙ ap (λ l. nub same l (needs kept widen asks c r)) (nub_in s (mine ++ (n, w) ∷ []) (AllIn-append s mine ((n, w) ∷ []) a (q, tt)))),
               subst (λ l. Closed (visit same kept widen asks c r l)) (sym same_list) t.1,
             )
         by None false q u rest =
@@ -110,11 +109,10 @@ module _ {R : Type 0} (same : R → R → Bool) (alike : (a b : R) → same a b 
                   (subst (λ y. AllIn s2 (needs kept widen asks (cone n) (asks n y))) p.1
                   (subst (λ d. AllIn s2 (needs kept widen asks d (asks n w))) o.0 (AllIn-more s1 s2 mine grows in1)))
             ]) in
-            let t = rest s2 closed in
-            (
+            let t = rest s2 closed in (
               ap (visit same kept widen asks c r) step ∙ t.0
-              ∙ sym (nub-append s (mine ++ (n, w) ∷ []) (needs kept widen asks c r)
-                ∙ ap (λ l. nub same l (needs kept widen asks c r)) (nub-append s mine ((n, w) ∷ []) ∙ ap (λ l. add same l n w) (sym u.0))),
+                  ∙ sym (nub-append s (mine ++ (n, w) ∷ []) (needs kept widen asks c r)
+                  ∙ ap (λ l. nub same l (needs kept widen asks c r)) (nub-append s mine ((n, w) ∷ []) ∙ ap (λ l. add same l n w) (sym u.0))),
               subst (λ l. Closed (visit same kept widen asks c r l)) (sym step) t.1,
             )
 
@@ -148,8 +146,8 @@ module _ {R : Type 0} (same : R → R → Bool) (alike : (a b : R) → same a b 
     thin_nub f s [] a b = ([], sym (append-nil s), refl)
     thin_nub f s (x ∷ xs) a b =
         by (has same s x.0 x.1) refl
-            (λ e. thin_nub (f ++ x ∷ []) s xs (Serves-dropped serves again through f s x a (b x.0 x.1 (has_served s x.0 x.1 e))) (λ n w k. served-left serves f (x ∷ []) n w (b n w k)))
-            (thin_nub (f ++ x ∷ []) (s ++ x ∷ []) xs (Serves-more serves again through f s (x ∷ []) a) (Serves-more serves again through s f (x ∷ []) b))
+        (λ e. thin_nub (f ++ x ∷ []) s xs (Serves-dropped serves again through f s x a (b x.0 x.1 (has_served s x.0 x.1 e))) (λ n w k. served-left serves f (x ∷ []) n w (b n w k)))
+        (thin_nub (f ++ x ∷ []) (s ++ x ∷ []) xs (Serves-more serves again through f s (x ∷ []) a) (Serves-more serves again through s f (x ∷ []) b))
       where
         by : (c : Bool) → has same s x.0 x.1 ≡ c
             → (has same s x.0 x.1 ≡ true → (t : List (ℕ × R)) × (nub same s xs ≡ s ++ t) × (thin serves (f ++ x ∷ []) t ≡ thin serves (f ++ x ∷ []) xs))
@@ -157,12 +155,11 @@ module _ {R : Type 0} (same : R → R → Bool) (alike : (a b : R) → same a b 
             → (t : List (ℕ × R)) × (nub same (cond c s (s ++ x ∷ [])) xs ≡ s ++ t) × (thin serves f t ≡ cond (served serves f x.0 x.1) (thin serves (f ++ x ∷ []) xs) (x ∷ thin serves (f ++ x ∷ []) xs))
         by true e old new =
             let r = old e in
-            let there : served serves f x.0 x.1 ≡ true = b x.0 x.1 (has_served s x.0 x.1 e) in
-            (
+            let there : served serves f x.0 x.1 ≡ true = b x.0 x.1 (has_served s x.0 x.1 e) in (
               r.0,
               r.1,
               thin_alike f (f ++ x ∷ []) r.0 (λ n w k. served-left serves f (x ∷ []) n w k) (Serves-dropped serves again through f f x (λ n w k. k) there)
-              ∙ r.2 ∙ sym (ap (λ c. cond c (thin serves (f ++ x ∷ []) xs) (x ∷ thin serves (f ++ x ∷ []) xs)) there),
+                  ∙ r.2 ∙ sym (ap (λ c. cond c (thin serves (f ++ x ∷ []) xs) (x ∷ thin serves (f ++ x ∷ []) xs)) there),
             )
         by false e old new = (
           x ∷ new.0,

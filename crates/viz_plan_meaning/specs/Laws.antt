@@ -91,7 +91,7 @@ abbrev pub PlansProduce : Known → (Request × Part → Request → Part) → (
 PlansProduce k restrict run IsTrue Faults =
     (sink : ℕ) (requests : List Request) → IsPlaced k.net sink
     → Produces serves (kept_at k) (widened_at k) (asked_at k) (inputs_of k.net) restrict run IsTrue (HasTasks k.net) Faults
-        (needs_of (in_levels k sink requests)) requests (heads (ways_to k.net sink)) (evaluation k restrict run (needs_of (in_levels k sink requests)))
+    (needs_of (in_levels k sink requests)) requests (heads (ways_to k.net sink)) (evaluation k restrict run (needs_of (in_levels k sink requests)))
 
 -- ---- faults
 

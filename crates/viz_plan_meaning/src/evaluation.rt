@@ -14,11 +14,17 @@ use viz_requests::serving_is_an_order;
 /// and which fault is one of a node. A node may be spoilt, and a request stem from another.
 pub trait Evaluation {
     ghost known: { Known };
+
     ghost restrict: { Request × Part → Request → Part };
+
     ghost run: { ℕ → Request → List (Option Part) → Result Part Fault };
+
     ghost is_true: { ℕ → Request → Part → Type 0 };
+
     ghost faults: { ℕ → Fault → Type 0 };
+
     ghost spoilt: { ℕ → Type 0 };
+
     ghost stems: { Request → Request → Type 0 };
 }
 

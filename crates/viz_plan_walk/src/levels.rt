@@ -106,8 +106,10 @@ fn level_in<A: Asking>(
     table: &[Levelled],
     need: &Need,
 ) -> Option<usize>
-    requires tasks { AreTasks net.now (A.order asking.now) tasks.now.steps.items tasks.now.sources.items }
-    ensures { IfSome result (λ l. l ≡ above_inputs serves (A.kept asking.now) (A.widened asking.now) (levelled table.now)
+    requires tasks { AreTasks net.now
+        (A.order asking.now) tasks.now.steps.items tasks.now.sources.items }
+    ensures { IfSome result (λ l. l ≡ above_inputs serves (A.kept asking.now)
+        (A.widened asking.now) (levelled table.now)
         (A.asked asking.now need.now.node.0 need.now.request) (inputs_of net.now need.now.node.0)) }
 {
     level_of(asking, &tasks.steps, table, need)
@@ -123,8 +125,10 @@ pub fn with_levels<A: Asking>(
     tasks: &Tasks,
     plan: &[Need],
 ) -> Result<Vec<Levelled>, AllocError>
-    requires tasks { AreTasks net.now (A.order asking.now) tasks.now.steps.items tasks.now.sources.items }
-    ensures { IfOk result (λ t. levelled t.items ≡ with_levels serves (A.kept asking.now) (A.widened asking.now)
+    requires tasks { AreTasks net.now
+        (A.order asking.now) tasks.now.steps.items tasks.now.sources.items }
+    ensures { IfOk result (λ t. levelled t.items ≡ with_levels serves (A.kept asking.now)
+        (A.widened asking.now)
         (A.asked asking.now) (inputs_of net.now) [] (named plan.now)) }
 {
     let mut table = Vec::with_capacity(alloc, plan.len())?;
@@ -158,7 +162,8 @@ fn count_of(table: &[Levelled]) -> Option<usize>
 
 // The tasks of a level, in the plan's order.
 fn at_level(alloc: Global, table: &[Levelled], level: usize) -> Result<Vec<Need>, AllocError>
-    ensures { IfOk result (λ all. named all.items ≡ needs_of (at_level level (levelled table.now))) }
+    ensures { IfOk result (λ all. named all.items ≡ needs_of (at_level level
+        (levelled table.now))) }
 {
     let mut all = Vec::new(alloc);
     for task in table {
@@ -172,7 +177,8 @@ fn at_level(alloc: Global, table: &[Levelled], level: usize) -> Result<Vec<Need>
 /// The tasks level by level, in each in the plan's order.
 pub fn by_levels(alloc: Global, table: &[Levelled]) -> Result<Vec<Vec<Need>>, AllocError>
     ensures each { IfOk result (λ all. map (λ v. named v.items) all.items
-        ≡ map (λ k. needs_of (at_level k (levelled table.now))) (range_with_len 0 (length all.items))) }
+        ≡ map (λ k. needs_of (at_level k (levelled table.now))) (range_with_len 0
+        (length all.items))) }
     ensures under { IfOk result (λ all. AllUnder (length all.items) (levelled table.now)) }
 {
     let Some(count) = count_of(table) else {

@@ -35,8 +35,10 @@ fn plan_of<A: Asking>(
 ) -> Result<Plan, AllocError>
     requires one { (cone : ℕ → Upstream) × IsOne cone (to_step 256 steps.now place) }
     requires order { A.order asking.now ≡ nodes_of steps.now }
-    ensures tasks { IfOk result (λ p. named p.tasks.items ≡ plan serves (A.kept asking.now) (A.widened asking.now) (A.asked asking.now) (to_step 256 steps.now place) requests.now) }
-    ensures used { IfOk result (λ p. named p.used.items ≡ used same_request (A.kept asking.now) (A.widened asking.now) (A.asked asking.now) (to_step 256 steps.now place) requests.now) }
+    ensures tasks { IfOk result (λ p. named p.tasks.items ≡ plan serves (A.kept asking.now)
+        (A.widened asking.now) (A.asked asking.now) (to_step 256 steps.now place) requests.now) }
+    ensures used { IfOk result (λ p. named p.used.items ≡ used same_request (A.kept asking.now)
+        (A.widened asking.now) (A.asked asking.now) (to_step 256 steps.now place) requests.now) }
 {
     let mut walk = Walk {
         needs: Vec::new(alloc),
@@ -76,11 +78,14 @@ pub fn plan_to<A: Asking>(
     requests: &[Request],
 ) -> Result<Plan, AllocError>
     requires steps { AreSteps net.now steps.now }
-    requires tasks { AreTasks net.now (nodes_of steps.now) tasks.now.steps.items tasks.now.sources.items }
+    requires tasks { AreTasks net.now
+        (nodes_of steps.now) tasks.now.steps.items tasks.now.sources.items }
     requires at { slice_get (nodes_of steps.now) place ≡ Some sink }
     requires order { A.order asking.now ≡ nodes_of steps.now }
-    ensures tasks { IfOk result (λ p. named p.tasks.items ≡ plan serves (A.kept asking.now) (A.widened asking.now) (A.asked asking.now) (ways_to net.now sink.0) requests.now) }
-    ensures used { IfOk result (λ p. named p.used.items ≡ used same_request (A.kept asking.now) (A.widened asking.now) (A.asked asking.now) (ways_to net.now sink.0) requests.now) }
+    ensures tasks { IfOk result (λ p. named p.tasks.items ≡ plan serves (A.kept asking.now)
+        (A.widened asking.now) (A.asked asking.now) (ways_to net.now sink.0) requests.now) }
+    ensures used { IfOk result (λ p. named p.used.items ≡ used same_request (A.kept asking.now)
+        (A.widened asking.now) (A.asked asking.now) (ways_to net.now sink.0) requests.now) }
 {
     match source_at(tasks, place) {
         Some(Some(source)) => plan_of(alloc, asking, &tasks.steps, source, requests),

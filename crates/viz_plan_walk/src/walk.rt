@@ -55,7 +55,8 @@ pub trait Asking {
     /// The first kept request that serves.
     fn find(&self, place: usize, node: NodeId, request: &Request) -> Option<Request>
         requires at { slice_get (order self.now) place ≡ Some node }
-        ensures some { IfSome result (λ r. (p : Part) × (kept self.now node.0 request.now ≡ Some (r, p))) }
+        ensures some { IfSome result (λ r. (p : Part) × (kept self.now node.0 request.now ≡ Some
+            (r, p))) }
         ensures none { result ≡ None → kept self.now node.0 request.now ≡ None };
 }
 
@@ -78,7 +79,8 @@ fn add(
     node: NodeId,
     request: &Request,
 ) -> Result<(), AllocError>
-    ensures { OnOk result (named list.new.items ≡ add_need same_request (named list.old.items) node.0 request.now) }
+    ensures { OnOk result (named list.new.items ≡ add_need same_request
+        (named list.old.items) node.0 request.now) }
 {
     if !has(list, node, request) {
         list.push(Need {
@@ -107,10 +109,13 @@ pub fn enter<A: Asking>(
     walk: &mut Walk,
 ) -> Result<(), AllocError>
     requires order { A.order asking.now ≡ nodes_of steps.now }
-    ensures needs { OnOk result (named walk.new.needs.items ≡ visit same_request (A.kept asking.now) (A.widened asking.now) (A.asked asking.now)
+    ensures needs { OnOk result (named walk.new.needs.items ≡ visit same_request
+        (A.kept asking.now) (A.widened asking.now) (A.asked asking.now)
         (to_step fuel steps.now place) request.now (named walk.old.needs.items)) }
-    ensures used { OnOk result (named walk.new.used.items ≡ visit_used same_request (A.kept asking.now) (A.widened asking.now) (A.asked asking.now)
-        (to_step fuel steps.now place) request.now (named walk.old.needs.items) (named walk.old.used.items)) }
+    ensures used { OnOk result (named walk.new.used.items ≡ visit_used same_request
+        (A.kept asking.now) (A.widened asking.now) (A.asked asking.now)
+        (to_step fuel steps.now place) request.now (named walk.old.needs.items)
+        (named walk.old.used.items)) }
 {
     if fuel == 0 {
         return Ok(());

@@ -55,11 +55,23 @@ fn images_are_asked_for_blocks(rt: HostRuntime) {
             Some(block([3, 4, 0, 1, 2, 3])),
         ),
         // Layers 2 and 3 touch planes 4 to 6.
-        (Kind::Contour, piece(1, 3, 0), Some(block([0, 9, 0, 4, 4, 6]))),
-        (Kind::Contour, piece(1, 3, 1), Some(block([0, 9, 0, 4, 3, 7]))),
+        (
+            Kind::Contour,
+            piece(1, 3, 0),
+            Some(block([0, 9, 0, 4, 4, 6])),
+        ),
+        (
+            Kind::Contour,
+            piece(1, 3, 1),
+            Some(block([0, 9, 0, 4, 3, 7])),
+        ),
         (Kind::Contour, piece(1, 3, 9), Some(block(WHOLE))),
         // Piece 0 of 7 has none of 6 layers.
-        (Kind::Contour, piece(0, 7, 2), Some(block([0, 9, 0, 4, 2, 2]))),
+        (
+            Kind::Contour,
+            piece(0, 7, 2),
+            Some(block([0, 9, 0, 4, 2, 2])),
+        ),
         // What isn't there can't be asked for.
         (Kind::Sample, block([1, 5, 0, 1, 3, 4]), None),
         (Kind::Smooth, block([3, 10, 0, 1, 2, 3]), None),

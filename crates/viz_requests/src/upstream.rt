@@ -76,7 +76,8 @@ fn spread_request(rate: [u32; 3], whole: &Option<Extent>, request: &Request) -> 
 }
 
 fn grown_request(radius: u32, whole: &Option<Extent>, request: &Request) -> Option<Request>
-    ensures value { IfSome result (λ r. r ≡ grown_request (mean_radius radius) whole.now request.now) }
+    ensures value { IfSome result (λ r. r ≡ grown_request
+        (mean_radius radius) whole.now request.now) }
     ensures some { IsSome result ↔ Fits whole.now request.now }
     ensures fits { IfSome result (Fits whole.now) }
 {
@@ -143,7 +144,9 @@ pub fn asked(settings: &Settings, whole: &Option<Extent>, request: &Request) -> 
     match settings {
         Settings::Sample { x, y, z } => spread_request(sample_rate(*x, *y, *z), whole, request),
         Settings::Smooth { radius } => grown_request(*radius, whole, request),
-        Settings::Tets | Settings::Contour { .. } | Settings::Cut { .. } => layers_request(whole, request),
+        Settings::Tets | Settings::Contour { .. } | Settings::Cut { .. } => {
+            layers_request(whole, request)
+        }
         Settings::Boundary => more_within(whole, request),
         Settings::Merge => Some(all_of(whole)),
         _ => same(whole, request),

@@ -23,7 +23,7 @@ module _ {R : Type 0} (same : R → R → Bool) {P : Type 0} (kept : ℕ → R �
   visit_used (empty others) r s u = visit_used others r s u
   visit_used (fed n own others) r s u =
       visit_used others r (enter (kept n (widen n r)) n (widen n r) (visit own (asks n (widen n r))) s)
-          (enter_used (kept n (widen n r)) n (widen n r) (visit_used own (asks n (widen n r)) s u) s u)
+      (enter_used (kept n (widen n r)) n (widen n r) (visit_used own (asks n (widen n r)) s u) s u)
 
   -- several requests, one after the other
   abbrev pub visit_all : Upstream → List R → List (ℕ × R) → List (ℕ × R)
