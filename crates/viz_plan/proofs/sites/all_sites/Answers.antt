@@ -1,0 +1,10 @@
+use Rattle.viz_network.specs.Step.{nodes_of}
+use Rattle.viz_plan.specs.Told.{known_with}
+use Rattle.viz_plan.proofs.SiteLemmas.{more_sites}
+use Rattle.viz_plan.proofs.sites.all_sites.Goals as goal
+
+pub loop-place-preserved : goal.loop-place-preserved
+loop-place-preserved c = record {
+  begun = more_sites (known_with c.args.net.now c.args.told.now c.args.entries.now) (nodes_of c.args.steps.now) c.loop-place.place c.loop-place.sites.items _ c.in_ok-site.site
+      c.loop-place.invariant.begun c.in_ok-site.ensures c.in_ok-push.ensures.items;
+}
