@@ -48,9 +48,11 @@ fn leveled(
     sink: NodeId,
     requests: &[Request],
 ) -> Result<(Vec<Vec<Need>>, Vec<Need>), AllocError>
-    ensures levels { IfOk result (λ p. AreLevelsOf (known_with net.now told.now entries.now) sink.0 requests.now
+    ensures levels { IfOk result (λ p. AreLevelsOf
+        (known_with net.now told.now entries.now) sink.0 requests.now
         (map (λ v. named v.items) p.0.items)) }
-    ensures used { IfOk result (λ p. named p.1.items ≡ used_of (known_with net.now told.now entries.now) sink.0 requests.now) }
+    ensures used { IfOk result (λ p. named p.1.items ≡ used_of
+        (known_with net.now told.now entries.now) sink.0 requests.now) }
 {
     let steps = net.steps(alloc)?;
     let Some(place) = place_of(&steps, sink) else {
@@ -81,9 +83,11 @@ pub fn demand(
     ensures levels { IfOk result (λ p. AreLevelsOf (known_with net.now told.now entries.now) sink.0
         (requests_of (extent_told told.now sink.0) shape.now.pieces)
         (map (λ keys. needs_in keys.items) p.levels.items)) }
-    ensures used { IfOk result (λ p. needs_in p.used.items ≡ used_of (known_with net.now told.now entries.now) sink.0
+    ensures used { IfOk result (λ p. needs_in p.used.items ≡ used_of
+        (known_with net.now told.now entries.now) sink.0
         (requests_of (extent_told told.now sink.0) shape.now.pieces)) }
-    ensures stamps { IfOk result (λ p. All (λ keys. All (HasStamp net.now) keys.items) p.levels.items) }
+    ensures stamps { IfOk result (λ p. All (λ keys. All
+        (HasStamp net.now) keys.items) p.levels.items) }
     ensures used_stamps { IfOk result (λ p. All (HasStamp net.now) p.used.items) }
 {
     let requests = requests_of(alloc, &extent_told(told, sink), shape.pieces)?;

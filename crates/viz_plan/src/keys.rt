@@ -38,7 +38,8 @@ pub fn all_keyed(
 ) -> Result<Vec<Vec<Key>>, AllocError>
     ensures needs { IfOk result (λ all. map (λ keys. needs_in keys.items) all.items
         ≡ map (λ needs. named needs.items) levels.now) }
-    ensures stamps { IfOk result (λ all. All (λ keys. All (HasStamp stamps.now) keys.items) all.items) }
+    ensures stamps { IfOk result (λ all. All (λ keys. All
+        (HasStamp stamps.now) keys.items) all.items) }
 {
     let mut all = Vec::with_capacity(alloc, levels.len())?;
     for level in levels {

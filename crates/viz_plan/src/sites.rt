@@ -163,7 +163,8 @@ fn all_sites(
     steps: &[Step],
 ) -> Result<Vec<Site>, AllocError>
     requires steps { AreSteps net.now steps.now }
-    ensures { IfOk result (λ sites. AreSites (known_with net.now told.now entries.now) (nodes_of steps.now) sites.items) }
+    ensures { IfOk result (λ sites. AreSites (known_with net.now told.now entries.now)
+        (nodes_of steps.now) sites.items) }
 {
     let stamps = net.stamps();
     let mut sites = Vec::with_capacity(alloc, steps.len())?;
