@@ -43,8 +43,7 @@ common_part whole box block part =
     }
 
 pub can_ask : (s : Settings) (whole : Option Bounds) (r : Request) → Fits (extent_made s whole) r → HasRoom r → CanAsk s whole r
-can_ask (settings.File array unit) None r f h = f
-can_ask (settings.File array unit) (Some w) r f h = f
+can_ask (settings.File array unit) whole r f h = tt
 can_ask (settings.Crop x0 x1 y0 y1 z0 z1) None r f h = f
 can_ask (settings.Crop x0 x1 y0 y1 z0 z1) (Some w) (Block b) f h = common_part w (record { x0 = x0; x1 = x1; y0 = y0; y1 = y1; z0 = z0; z1 = z1 }) b f
 can_ask (settings.Crop x0 x1 y0 y1 z0 z1) (Some w) (Piece p n g) f h = absurd f

@@ -83,7 +83,7 @@ abbrev pub more_ghosts : Request → Request
 more_ghosts (Piece p n ghosts) = Piece p n (ghosts + 1)
 more_ghosts (Block block) = Block block
 
--- what a node asks its inputs for, which have this extent
+-- what a node asks its inputs for, which have this extent; a file has none, and asks nobody
 abbrev pub asked : Settings → Option Bounds → Request → Request
 asked (settings.Sample x y z) whole request = spread_request (sample_rate x y z) request
 asked (settings.Smooth radius) whole request = grown_request (mean_radius radius) whole request
@@ -92,6 +92,7 @@ asked (settings.Contour count levels) whole request = layers_request whole reque
 asked (settings.Cut a b c r) whole request = layers_request whole request
 asked settings.Boundary whole request = more_ghosts request
 asked settings.Merge whole request = all_of whole
+asked (settings.File array unit) whole request = all_of whole
 asked _ whole request = request
 
 -- ---- what can be asked
@@ -115,6 +116,7 @@ CanAsk (settings.Contour count levels) whole request = Fits None request
 CanAsk (settings.Cut a b c r) whole request = Fits None request
 CanAsk settings.Boundary whole request = Fits whole request × HasRoom request
 CanAsk settings.Merge whole request = Unit {0}
+CanAsk (settings.File array unit) whole request = Unit {0}
 CanAsk _ whole request = Fits whole request
 
 -- what fits the dataset that a node makes can be asked of its inputs

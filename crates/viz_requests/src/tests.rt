@@ -117,6 +117,8 @@ fn files_and_merges_make_all(rt: HostRuntime) {
     assert_eq!(rt; widened(&file, &None, &piece(1, 3, 2)), piece(0, 1, 0));
     let merge = Settings::new(Kind::Merge);
     assert_eq!(rt; widened(&merge, &None, &piece(1, 3, 2)), piece(0, 1, 0));
+    // A file asks nobody, so it can always ask.
+    assert_eq!(rt; asked(&file, &None, &block(WHOLE)), Some(piece(0, 1, 0)));
     let smooth = Settings::new(Kind::Smooth);
     assert_eq!(rt; widened(&smooth, &whole, &one), one);
 }

@@ -148,7 +148,7 @@ pub fn asked(settings: &Settings, whole: &Option<Extent>, request: &Request) -> 
             layers_request(whole, request)
         }
         Settings::Boundary => more_within(whole, request),
-        Settings::Merge => Some(all_of(whole)),
+        Settings::File { .. } | Settings::Merge => Some(all_of(whole)),
         _ => same(whole, request),
     }
 }
