@@ -1,0 +1,5 @@
+//! Plans of networks built by hand, against rows by hand: tests alone.
+#![tactic(auto)]
+
+#[cfg(test)]
+mod tests;
