@@ -159,6 +159,9 @@ fn demanded(
     let told = told(alloc, &story, images)?;
     let entries = stored(alloc, &story, kept)?;
     let sink = story.node(sink)?;
+    if pieces == 0 || pieces > 64 {
+        return Err("a number of pieces")?;
+    }
     let shape = Shape { pieces, workers: 1 };
     Ok(counts(&demand(alloc, &story.net, &told, &entries, sink, &shape)?))
 }
