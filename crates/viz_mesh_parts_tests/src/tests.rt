@@ -88,17 +88,22 @@ fn own_in(sheet: &PartSheet) -> u32 {
     own
 }
 
+// The same of its selection.
+fn selected(alloc: Global, lo: i64, hi: i64, all: bool) -> Result<(usize, u32), Fail> {
+    let part = part(alloc)?;
+    let made = select_part(alloc, &part, lo, hi, all)?;
+    Ok(counts(&made))
+}
+
 #[test]
 fn a_selection_keeps_levels(rt: HostRuntime) -> Result<(), Fail> {
-    let part = part(rt.alloc())?;
     for (lo, hi, all, want) in [
         (0, 3, true, (2, 1)),
         (3, 3, false, (3, 2)),
         (0, 5, true, (4, 2)),
         (6, 9, false, (0, 0)),
     ] {
-        let made = select_part(rt.alloc(), &part, lo, hi, all)?;
-        assert_eq!(rt; counts(&made), want, "{lo} {hi}");
+        assert_eq!(rt; selected(rt.alloc(), lo, hi, all)?, want, "{lo} {hi}");
     }
     Ok(())
 }
