@@ -25,10 +25,3 @@ pub use laws::{
 pub use passed::pass_field;
 pub use stop::AttrStop;
 pub use types::{Stored, type_word};
-
-#[cfg(test)]
-mod tests;
-#[cfg(test)]
-mod tests_faults;
-#[cfg(test)]
-mod tests_texts;

@@ -42,6 +42,3 @@ pub use shared::Shared;
 pub use std_out::StdOut;
 pub use steps::Steps;
 pub use word::Word;
-
-#[cfg(test)]
-mod tests;

@@ -10,6 +10,3 @@ mod laws;
 
 pub use cache::Cache;
 pub use laws::same_keys_are_equal;
-
-#[cfg(test)]
-mod tests;

@@ -20,6 +20,3 @@ pub use kind::Kind8;
 pub use laws::{blocks_are_read_again, blocks_are_written_again};
 pub use lent::Lent;
 pub use number::Number;
-
-#[cfg(test)]
-mod tests;

@@ -14,6 +14,3 @@ mod rule;
 pub use dataset::{Dataset, Info};
 pub use image::Image;
 pub use rule::{has_point, is_origin, is_spacing};
-
-#[cfg(test)]
-mod tests;

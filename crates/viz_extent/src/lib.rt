@@ -15,10 +15,3 @@ mod slabs;
 pub use bounds::Extent;
 pub use laws::{rows_follow, x_is_fastest};
 pub use slabs::shares_are_the_whole;
-
-#[cfg(test)]
-mod part_tests;
-#[cfg(test)]
-mod slab_tests;
-#[cfg(test)]
-mod tests;

@@ -37,10 +37,3 @@ pub use places::{place, within};
 pub use points::{Point5, TooWide, point};
 pub use short_crossings::small_crossing;
 pub use small_points::{SmallPoint, small};
-
-#[cfg(test)]
-mod border_tests;
-#[cfg(test)]
-mod case_tests;
-#[cfg(test)]
-mod tests;

@@ -16,6 +16,3 @@ pub use kind::Kind;
 pub use param::{Param, Value};
 pub use range::{Range, allows, range_of};
 pub use settings::{Op, Settings};
-
-#[cfg(test)]
-mod tests;

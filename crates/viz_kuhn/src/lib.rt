@@ -14,6 +14,3 @@ pub use laws::{
     paths_are_followed, sixths_are_positive,
 };
 pub use tetrahedra::{cubes, even, tet};
-
-#[cfg(test)]
-mod tests;

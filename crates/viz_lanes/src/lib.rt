@@ -27,6 +27,3 @@ pub use keep_within::{
 pub use within::{
     within_i8, within_i16, within_i32, within_i64, within_u8, within_u16, within_u32, within_u64,
 };
-
-#[cfg(test)]
-mod tests;

@@ -40,12 +40,3 @@ pub use rule_laws::{
 pub use span::Span;
 pub use steps::{is_word, keyword_fault};
 pub use written::put_decimal;
-
-#[cfg(test)]
-mod tests;
-#[cfg(test)]
-mod tests_decimal;
-#[cfg(test)]
-mod tests_pass;
-#[cfg(test)]
-mod tests_steps;

@@ -17,6 +17,3 @@ pub use covering::covers;
 pub use part_sheet::PartSheet;
 pub use request::{Part, Request};
 pub use stored::{Key, Stored};
-
-#[cfg(test)]
-mod tests;

@@ -14,6 +14,3 @@ mod upstream;
 pub use serving::{serves, serving_is_an_order};
 pub use shapes::requests_of;
 pub use upstream::{asked, fits, fitting_can_be_asked, widened};
-
-#[cfg(test)]
-mod tests;

@@ -27,6 +27,3 @@ pub use ranks::Ranks;
 pub use rule::{are_cells, is_cell};
 pub use sheet::Sheet;
 pub use sheet_laws::{cells_determine_names, marked_names_compact, pairs_are_names};
-
-#[cfg(test)]
-mod tests;

@@ -16,6 +16,3 @@ pub use report::tell;
 pub use status::Status;
 pub use tells::Tells;
 pub use text::Text;
-
-#[cfg(test)]
-mod tests;

@@ -1,6 +1,6 @@
 //! Points, values, crossings and decimals reckoned by hand, up to the widest numbers.
-use crate::{Form, Point5, TooWide, crossing, fixed, is_inside, point, small, value};
 use std::test::Fail;
+use viz_fraction::{Form, Point5, TooWide, crossing, fixed, is_inside, point, small, value};
 
 /// The widest number, 2^120.
 const T: i128 = 1 << 120;

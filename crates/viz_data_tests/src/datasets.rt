@@ -3,11 +3,11 @@
 ghost use Rattle.std.specs.Prelude.{◌↔◌, IsTrue};
 ghost use Rattle.viz_extent.specs.Parts.{IsPart};
 
-use crate::{Dataset, Image, Info, has_point, is_origin, is_spacing};
 use std::alloc::{AllocError, Global};
 use std::process::Abort;
 use std::test::Fail;
 use viz_column::{Column, Number};
+use viz_dataset::{Dataset, Image, Info, has_point, is_origin, is_spacing};
 use viz_extent::Extent;
 use viz_fraction::Point5;
 

@@ -1,8 +1,8 @@
 //! The table of docs/FORMATS.md, "Kinds of node", typed in again by hand.
 
-use crate::{Kind, Param, Settings, Value, allows, range_of, release_with};
 use std::test::Fail;
 use viz_base::Word;
+use viz_kinds::{Kind, Param, Settings, Value, allows, range_of, release_with};
 
 const KINDS: [(Kind, u8); 14] = [
     (Kind::File, 0),

@@ -1,7 +1,7 @@
 //! Decimals whose values were counted by hand, read and written.
 
-use super::*;
 use std::test::Fail;
+use viz_lex::*;
 
 /// 1, in billionths.
 const ONE: i128 = 1_000_000_000;

@@ -1,15 +1,15 @@
 //! Values counted by hand, and a real folder.
 
-use crate::{
-    Bytes, DirPort, FailAt, FileEntry, Gate, Items, MemoryOut, MemoryPort, NeverFails, OpenGate,
-    Out, Port, Shape, Shared, StdOut, Steps, Word,
-};
 use std::alloc::Global;
 use std::cmp::Ordering;
 use std::collections::HashMap;
 use std::fs;
 use std::process::Abort;
 use std::test::Fail;
+use viz_base::{
+    Bytes, DirPort, FailAt, FileEntry, Gate, Items, MemoryOut, MemoryPort, NeverFails, OpenGate,
+    Out, Port, Shape, Shared, StdOut, Steps, Word,
+};
 
 const FAILED: &str = "[the read failed]";
 

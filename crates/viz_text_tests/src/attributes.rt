@@ -1,10 +1,10 @@
 //! Picked arrays of texts that were written by hand, in both forms.
 
-use crate::tests_texts::{BLOCKS, FLOAT_BEHIND, FLOAT_IN_FRONT, TWICE, WORDS};
-use crate::{AttrStop, Stored, attributes, pass_field, type_word};
+use crate::attribute_texts::{BLOCKS, FLOAT_BEHIND, FLOAT_IN_FRONT, TWICE, WORDS};
 use std::alloc::Global;
 use std::process::Abort;
 use std::test::Fail;
+use viz_attr::{AttrStop, Stored, attributes, pass_field, type_word};
 use viz_base::{Pick, Word};
 use viz_column::Kind8;
 use viz_lex::{FileFault, FileKind, Lexer};

@@ -1,7 +1,7 @@
 //! Cubes and tetrahedra numbered by hand.
-use crate::{cubes, even, tet};
 use std::test::Fail;
 use viz_extent::Extent;
+use viz_kuhn::{cubes, even, tet};
 
 #[test]
 fn cubes_lie_between_points(rt: HostRuntime) -> Result<(), Fail> {

@@ -1,6 +1,6 @@
 //! Steps of reading over short texts, whose places were counted by hand.
 
-use super::*;
+use viz_lex::*;
 
 const fn fault(kind: FileKind, place: u64) -> FileFault {
     FileFault { kind, place }

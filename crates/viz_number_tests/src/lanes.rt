@@ -1,14 +1,14 @@
 //! Planes by hand: the indices of their true bits.
 
-use crate::{
+use std::alloc::{AllocError, Global};
+use std::process::Abort;
+use std::test::Fail;
+use viz_lanes::{
     Bits, at_least_i8, at_least_i16, at_least_i32, at_least_i64, at_least_u8, at_least_u16,
     at_least_u32, at_least_u64, keep_within_i8, keep_within_i16, keep_within_i32, keep_within_i64,
     keep_within_u8, keep_within_u16, keep_within_u32, keep_within_u64, within_i8, within_i16,
     within_i32, within_i64, within_u8, within_u16, within_u32, within_u64,
 };
-use std::alloc::{AllocError, Global};
-use std::process::Abort;
-use std::test::Fail;
 
 // How many bits are true.
 fn trues(bits: &Bits) -> u64 {

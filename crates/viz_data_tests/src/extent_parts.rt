@@ -2,8 +2,8 @@
 ghost use Rattle.std.specs.Prelude.{◌↔◌, IsTrue};
 ghost use Rattle.viz_extent.specs.Parts.{rate_of, IsAxisRate, IsRate};
 
-use crate::Extent;
 use std::test::Fail;
+use viz_extent::Extent;
 
 // The bounds of the part that is grown by so many within the whole, where the whole has it.
 fn grown(extent: [u32; 6], by: u32, whole: [u32; 6]) -> Option<[u32; 6]> {

@@ -1,10 +1,12 @@
 //! Sheets of few cells, by hand.
 
-use crate::{Leaves, Mesh, Mixed, Places, Ranks, Sheet, are_cells, compacted, is_cell, sheet_of};
 use std::alloc::Global;
 use std::process::Abort;
 use std::test::Fail;
 use viz_fraction::{Point5, point, small};
+use viz_sheet::{
+    Leaves, Mesh, Mixed, Places, Ranks, Sheet, are_cells, compacted, is_cell, sheet_of,
+};
 
 // The point (i, 0, 0) with the scalar 7.
 fn point_at(i: u32) -> Result<Point5, Fail> {

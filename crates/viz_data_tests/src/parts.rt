@@ -1,10 +1,10 @@
 //! A part of two vertices, by hand.
 
-use crate::{Part, PartSheet, Request, covers};
 use std::alloc::Global;
 use std::test::Fail;
 use viz_extent::Extent;
 use viz_fraction::point;
+use viz_parts::{Part, PartSheet, Request, covers};
 use viz_sheet::{Leaves, Places, Ranks, Sheet, are_cells, sheet_of};
 
 // Two vertices, at 0 and at 1.

@@ -1,10 +1,10 @@
 //! Keys that differ in one part, and the entries of a small cache after each call, by hand.
 
-use crate::Cache;
 use std::alloc::Global;
 use std::process::Abort;
 use std::test::Fail;
 use viz_base::{NodeId, Shared};
+use viz_cache::Cache;
 use viz_column::Column;
 use viz_dataset::{Image, is_origin, is_spacing};
 use viz_extent::Extent;

@@ -1,6 +1,6 @@
 //! Points counted and numbered by hand.
-use crate::Extent;
 use std::test::Fail;
+use viz_extent::Extent;
 
 #[test]
 fn an_extent_has_its_bounds_and_points(rt: HostRuntime) -> Result<(), Fail> {

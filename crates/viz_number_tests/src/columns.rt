@@ -3,10 +3,10 @@
 ghost use Rattle.std.specs.Prelude.{◌≡◌};
 ghost use Rattle.viz_column.specs.Bytes.{IsBlock};
 
-use crate::{Column, Kind8, Lent, Number};
 use std::alloc::Global;
 use std::process::Abort;
 use std::test::Fail;
+use viz_column::{Column, Kind8, Lent, Number};
 
 // The last numbers inside a type, which are kept, and the first ones outside.
 fn ends<T: Number>(rt: &impl Abort, kind: Kind8, inside: [i128; 2], outside: [i128; 2]) {

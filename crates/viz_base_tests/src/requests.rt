@@ -1,11 +1,11 @@
 //! Requests, reckoned by hand.
 
-use crate::{asked, requests_of, serves, widened};
 use std::test::Fail;
 use viz_base::Pick;
 use viz_extent::Extent;
 use viz_kinds::{Kind, Settings};
 use viz_parts::Request;
+use viz_requests::{asked, requests_of, serves, widened};
 
 // An image of 7 planes, so of 6 layers.
 const WHOLE: [u32; 6] = [0, 9, 0, 4, 2, 8];

@@ -1,5 +1,5 @@
 //! The rows of the table by hand.
-use crate::{Case, cells_of};
+use viz_fraction::{Case, cells_of};
 
 const NIL: [u8; 2] = [0, 0];
 

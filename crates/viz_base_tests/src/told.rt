@@ -1,10 +1,10 @@
 //! Toy outcomes of each status, told to outputs that take the text, that fail, and that have no room.
 
-use crate::{Status, Tells, Text, tell, usage_line};
 use std::alloc::{AllocError, Global};
 use std::process::Abort;
 use std::test::Fail;
 use viz_base::{Bytes, MemoryOut, Out, WriteRefusal};
+use viz_told::{Status, Tells, Text, tell, usage_line};
 
 // An outcome whose text is the same each time.
 #[derive(Clone, Copy, Debug)]

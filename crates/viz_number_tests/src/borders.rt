@@ -1,6 +1,8 @@
 //! Numbers that just fit the ways in 64 bits and that just don't, reckoned by a plain program.
-use crate::{Point5, SmallPoint, crossing, fixed, place, point, small, small_crossing, within};
 use std::test::Fail;
+use viz_fraction::{
+    Point5, SmallPoint, crossing, fixed, place, point, small, small_crossing, within,
+};
 
 /// The widest number, 2^120.
 const T: i128 = 1 << 120;

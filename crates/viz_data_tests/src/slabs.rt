@@ -1,6 +1,6 @@
 //! Slabs and layers counted by hand, and all of them in turn.
-use crate::Extent;
 use std::test::Fail;
+use viz_extent::Extent;
 
 // The first and the last plane of a slab of so many planes, which begin with plane 5.
 fn slab(count: u32, p: u32, n: u32) -> Option<(u32, u32)> {

@@ -1,7 +1,7 @@
 //! Blocks, words and lines that are passed over, counted by hand.
 
-use super::*;
 use std::test::Fail;
+use viz_lex::*;
 
 const fn truncated(place: u64) -> FileFault {
     FileFault {

@@ -1,6 +1,6 @@
 //! Faults and their places: the texts by hand, the places counted in them by Python.
 
-use crate::tests::told;
+use crate::attributes::told;
 use std::test::Fail;
 use viz_base::Pick;
 use viz_lex::{FileFault, FileKind};
