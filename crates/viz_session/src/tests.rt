@@ -1,11 +1,8 @@
-//! Worked rows over files in memory: scripts, reports and journals, and prefixes of journals.
+//! Runs over files in memory: a script and its journal, calls that fail, gates that wait.
 
 mod actors;
 mod during;
 mod failing;
-mod meshes;
-mod rough;
-mod rows;
 mod scratch;
 mod volumes;
 
@@ -32,34 +29,6 @@ LOOKUP_TABLE default
 METADATA
 INFORMATION 0
 
-";
-
-/// The same image, the last point of which is 5.
-const TIE: &str = "# vtk DataFile Version 3.0
-t
-ASCII
-DATASET STRUCTURED_POINTS
-DIMENSIONS 2 2 2
-ORIGIN 0 0 0
-SPACING 1 1 1
-POINT_DATA 8
-SCALARS s int
-LOOKUP_TABLE default
-0 0 0 0 0 0 0 5
-";
-
-/// The same image, the last point of which is 2^64 less 1.
-const WIDE: &str = "# vtk DataFile Version 3.0
-t
-ASCII
-DATASET STRUCTURED_POINTS
-DIMENSIONS 2 2 2
-ORIGIN 0 0 0
-SPACING 1 1 1
-POINT_DATA 8
-SCALARS s unsigned_long
-LOOKUP_TABLE default
-0 0 0 0 0 0 0 18446744073709551615
 ";
 
 /// A mesh without points.
@@ -216,260 +185,20 @@ fn replayed<R: Threads + Wait + Sync + Abort>(
     Ok(())
 }
 
-/// A cycle is refused, and the update behind it answers as without it.
-const CYCLE: &str = "1 add crop a
-1 add crop b
-1 connect a b 1
-phase
-1 connect b a 1
-1 update b o.vtk 1 1
-";
-
-const CYCLE_REPORT: &str = "edit 1 1 at 1
-edit 1 2 at 2
-edit 1 3 at 3
-refused 1 4 WouldCycle at 3
-refused 1 5 fault:a:Unconnected(1) at 3
-";
-
-const CYCLE_JOURNAL: &str = "vizrun journal 1
-1 1 add crop a
-1 2 add crop b
-1 3 connect a b 1
-end 3
-";
-
-const EMPTY_JOURNAL: &str = "vizrun journal 1\nend 0\n";
-
-// Runs the script over a port that reads so many bytes, and compares report, status and journal.
-fn refused_so<R: Threads + Wait + Sync + Abort>(
-    rt: &R,
-    alloc: Global,
-    script: &str,
-    limit: u64,
-    status: Status,
-    report: &str,
-    journal: Option<&str>,
-) -> Result<(), Fail> {
-    let first = port(alloc, "a.vtk", CORNER.as_bytes(), limit, Vec::new(alloc))?;
-    let left = run_over(rt, alloc, "run s j", script.as_bytes(), first)?;
-    assert_eq!(rt; left.text.as_str(), report);
-    assert!(rt; left.status == status, "{report}");
-    let written = left.desk.file("j").map(|j| j.list());
-    assert!(rt; written == journal.map(|j| j.as_bytes()), "{report}");
-    Ok(())
-}
-
 #[test]
-fn refusals_have_their_lines(rt: HostRuntime) -> Result<(), Fail> {
+fn a_file_past_the_limit_is_too_long(rt: HostRuntime) -> Result<(), Fail> {
+    // the long file of usage-and-long-file: it has 214 bytes
     let alloc = rt.alloc();
-    let (script, refused, empty) = (Status::Script, Status::Refused, Some(EMPTY_JOURNAL));
-    for (text, limit, status, report, journal) in [
-        // script-refused, and the empty script
-        (
-            "\n\n1 blend a\n",
-            FILE_LIMIT,
-            script,
-            "script line 3 Word\n",
-            None,
-        ),
-        (
-            "2 remove a\n",
-            FILE_LIMIT,
-            script,
-            "script line 1 ActorRange\n",
-            None,
-        ),
-        ("", FILE_LIMIT, Status::Done, "", empty),
-        // a long file of usage-and-long-file
-        (
-            "1 add file src\n1 load src a.vtk\n",
-            100,
-            refused,
-            "edit 1 1 at 1\nrefused 1 2 TooLong at 1\n",
-            Some("vizrun journal 1\n1 1 add file src\nend 1\n"),
-        ),
-        // cycle-refused
-        (CYCLE, 100, refused, CYCLE_REPORT, Some(CYCLE_JOURNAL)),
-        (
-            "1 load src b.vtk\n",
-            9,
-            Status::Fault,
-            "fault 1 1 read\n",
-            empty,
-        ),
+    for (limit, status, line) in [
+        (213, Status::Refused, "refused 1 2 TooLong at 1\n"),
+        (214, Status::Done, "edit 1 2 at 2\n"),
     ] {
-        refused_so(&rt, alloc, text, limit, status, report, journal)?;
-    }
-    Ok(())
-}
-
-#[test]
-fn the_first_refusal_of_a_text_is_told(rt: HostRuntime) -> Result<(), Fail> {
-    let alloc = rt.alloc();
-    for (line, text, want) in [
-        ("run s j", "1 add crop\n", "script line 1 Arity\n"),
-        ("run s j", "1 add crop a.b\n", "script line 1 Name\n"),
-        (
-            "run s j",
-            "phase\n1 connect a b 256\n",
-            "script line 2 Number\n",
-        ),
-        // a journal that is read, one that counts from 2, and one that adds a node twice
-        (
-            "scratch s 9 a o",
-            "vizrun journal 1\n2 1 add crop a\nend 1\n",
-            "refused fault:a:Unconnected(1) at 1\n",
-        ),
-        (
-            "scratch s 9 a o",
-            "vizrun journal 1\n2 2 add crop a\nend 1\n",
-            "script line 2 Number\n",
-        ),
-        (
-            "scratch s 9 a o",
-            "vizrun journal 1\n1 1 add crop a\n1 2 add crop a\nend 2\n",
-            "script line 3 Edit\n",
-        ),
-    ] {
-        let first = corner(alloc, Vec::new(alloc))?;
-        let left = run_over(&rt, alloc, line, text.as_bytes(), first)?;
-        assert_eq!(rt; left.text.as_str(), want);
-        assert_eq!(rt; left.status == Status::Script, want.starts_with("script"));
-        assert!(rt; left.desk.file("j").is_none());
-    }
-    Ok(())
-}
-
-const SURFACE: &str = "1 add file src
-1 load src a.vtk
-1 add contour iso
-1 connect src iso 1
-1 set iso levels 5
-";
-
-const SURFACE_REPORT: &str = "edit 1 1 at 1
-edit 1 2 at 2
-edit 1 3 at 3
-edit 1 4 at 4
-edit 1 5 at 5
-";
-
-#[test]
-fn audits_count_the_sides_of_a_surface(rt: HostRuntime) -> Result<(), Fail> {
-    let alloc = rt.alloc();
-    for (image, script, want) in [
-        // corner-contour and audit-line
-        (
-            CORNER,
-            "1 audit iso 1 1\n1 audit src 1 1\n1 audit none 1 1\n",
-            "audit 1 6 at 5 sides 12 two 6 open 6 border 6\n\
-             refused 1 7 fault:src:WrongInput(1) at 5\nrefused 1 8 Unknown at 5\n",
-        ),
-        // tie-at-corner
-        (
-            TIE,
-            "1 audit iso 3 2\n",
-            "audit 1 6 at 5 sides 12 two 6 open 6 border 6\n",
-        ),
-        // two levels, a contour of the surface, and one behind a writer of the image
-        (
-            CORNER,
-            "1 set iso levels 5 1\n1 audit iso 1 1\n1 add contour c\n1 audit c 1 1\n\
-             1 connect iso c 1\n1 audit c 1 1\n1 disconnect c 1\n1 add writer w\n\
-             1 connect src w 1\n1 connect w c 1\n1 set c levels 5\n1 audit c 1 1\n",
-            "edit 1 6 at 6\naudit 1 7 at 6 sides 24 two 12 open 12 border 12\nedit 1 8 at 7\n\
-             refused 1 9 fault:c:Unconnected(1) at 7\nedit 1 10 at 8\n\
-             refused 1 11 fault:c:WrongInput(1) at 8\nedit 1 12 at 9\nedit 1 13 at 10\n\
-             edit 1 14 at 11\nedit 1 15 at 12\nedit 1 16 at 13\n\
-             audit 1 17 at 13 sides 12 two 6 open 6 border 6\n",
-        ),
-    ] {
-        audited(&rt, alloc, image, script, want)?;
-    }
-    Ok(())
-}
-
-#[test]
-fn audits_tell_faults_in_front_of_wrong_inputs(rt: HostRuntime) -> Result<(), Fail> {
-    let alloc = rt.alloc();
-    for (image, script, want) in [
-        // no contour, but there is no file yet
-        (
-            CORNER,
-            "1 add file late\n1 audit late 1 1\n",
-            "edit 1 6 at 6\nrefused 1 7 fault:late:NoFile at 6\n",
-        ),
-        // a cut on the image
-        (
-            CORNER,
-            "1 add cut c\n1 connect src c 1\n1 audit c 1 1\n",
-            "edit 1 6 at 6\nedit 1 7 at 7\nrefused 1 8 fault:c:WrongInput(1) at 7\n",
-        ),
-        // a crossing of 2^57 times 2^64 less 2^57
-        (
-            WIDE,
-            "1 set iso levels 144115188075855872\n1 audit iso 1 1\n",
-            "edit 1 6 at 6\nrefused 1 7 fault:iso:TooWide at 6\n",
-        ),
-    ] {
-        audited(&rt, alloc, image, script, want)?;
-    }
-    Ok(())
-}
-
-// A script behind the first five commands, over this image.
-fn audited<R: Threads + Wait + Sync + Abort>(
-    rt: &R,
-    alloc: Global,
-    image: &str,
-    script: &str,
-    want: &str,
-) -> Result<(), Fail> {
-    let first = port(
-        alloc,
-        "a.vtk",
-        image.as_bytes(),
-        FILE_LIMIT,
-        Vec::new(alloc),
-    )?;
-    let script = format!(in alloc; "{SURFACE}{script}")?;
-    let left = run_over(rt, alloc, "run s j", script.as_bytes(), first)?;
-    let want = format!(in alloc; "{SURFACE_REPORT}{want}")?;
-    assert_eq!(rt; left.text.as_str(), want.as_str());
-    Ok(())
-}
-
-#[test]
-fn other_words_are_usage(rt: HostRuntime) -> Result<(), Fail> {
-    let alloc = rt.alloc();
-    for (line, status, want) in [
-        ("", Status::Usage, "vizrun: usage\n"),
-        ("Run s j", Status::Usage, "vizrun: usage\n"),
-        ("run s", Status::Usage, "vizrun: usage\n"),
-        ("run s j k", Status::Usage, "vizrun: usage\n"),
-        ("run .s j", Status::Usage, "vizrun: usage\n"),
-        ("scratch s 65537 a o", Status::Usage, "vizrun: usage\n"),
-        ("scratch s 1 a.b o", Status::Usage, "vizrun: usage\n"),
-        (
-            "Once a.vtk o.vtk contour 2",
-            Status::Usage,
-            "vizrun: usage\n",
-        ),
-        ("once a.vtk o.vtk contour", Status::Usage, "vizrun: usage\n"),
-        ("run t j", Status::Fault, "fault read\n"),
-        ("scratch t 1 a o", Status::Fault, "fault read\n"),
-        ("scratch s 1 a o", Status::Script, "script line 1 Word\n"),
-        (
-            "once a.vtk o.vtk contour 10",
-            Status::Done,
-            "file cells 0 points 0\n",
-        ),
-    ] {
-        let first = corner(alloc, Vec::new(alloc))?;
-        let left = run_over(&rt, alloc, line, b"no journal", first)?;
-        assert_eq!(rt; left.text.as_str(), want, "{line}");
-        assert!(rt; left.status == status, "{line}");
+        let script = b"1 add file src\n1 load src a.vtk\n";
+        let first = port(alloc, "a.vtk", CORNER.as_bytes(), limit, Vec::new(alloc))?;
+        let left = run_over(&rt, alloc, "run s j", script, first)?;
+        let want = format!(in alloc; "edit 1 1 at 1\n{line}")?;
+        assert_eq!(rt; left.text.as_str(), want.as_str());
+        assert!(rt; left.status == status, "{limit}");
     }
     Ok(())
 }

@@ -1,39 +1,6 @@
 //! Scripts of several actors, each of whom edits in phases of its own.
 
-use super::failing::ONE;
 use super::*;
-
-const TURNS: &str = "2 add file b
-phase
-1 add file a
-1 add file b
-phase
-2 update b o.vtk 1 1
-2 add crop c
-phase
-3 update c o.vtk 1 1
-phase
-1 remove a
-";
-
-// By phase, then by actor; an actor's commands are counted through all phases.
-const TURNS_REPORT: &str = "edit 2 1 at 1
-edit 1 1 at 2
-refused 1 2 Exists at 2
-refused 2 2 fault:b:NoFile at 2
-edit 2 3 at 3
-refused 3 1 fault:c:Unconnected(1) at 3
-edit 1 3 at 4
-";
-
-// An actor's entries are counted by themselves.
-const TURNS_JOURNAL: &str = "vizrun journal 1
-2 1 add file b
-1 1 add file a
-2 2 add crop c
-1 2 remove a
-end 4
-";
 
 /// A call that no port comes to.
 const NEVER: FailAt = FailAt { call: 0, kept: 0 };
@@ -80,17 +47,6 @@ fn files<'a>(ports: &'a [MemoryPort], name: &str) -> [Option<&'a [u8]>; 3] {
     }
 }
 
-#[test]
-fn entries_and_commands_are_counted_by_actor(rt: HostRuntime) -> Result<(), Fail> {
-    let alloc = rt.alloc();
-    let left = run_three(&rt, alloc, TURNS, NEVER)?;
-    assert!(rt; left.status == Status::Refused, "{}", left.text);
-    assert_eq!(rt; left.text.as_str(), TURNS_REPORT);
-    let journal = left.desk.file("j").ok_or("no journal")?.list();
-    assert!(rt; journal == TURNS_JOURNAL.as_bytes());
-    Ok(())
-}
-
 const IMAGE: &str = "# vtk DataFile Version 3.0
 vizrun image
 ASCII
@@ -106,38 +62,6 @@ LOOKUP_TABLE default
 0 0
 0 9
 ";
-
-#[test]
-fn a_later_phase_sees_all_earlier_ones(rt: HostRuntime) -> Result<(), Fail> {
-    // second-phase-update
-    let alloc = rt.alloc();
-    let script = "1 add file src\n1 load src a.vtk\nphase\n2 update src o.vtk 1 1\n";
-    let left = run_three(&rt, alloc, script, NEVER)?;
-    assert!(rt; left.status == Status::Done, "{}", left.text);
-    let want = "edit 1 1 at 1\nedit 1 2 at 2\nfile 2 1 at 2 cells 1 points 8 ran 1\n";
-    assert_eq!(rt; left.text.as_str(), want);
-    assert!(rt; files(&left.ports, "o.vtk") == [None, Some(IMAGE.as_bytes()), None]);
-    Ok(())
-}
-
-#[test]
-fn phases_are_64_at_most(rt: HostRuntime) -> Result<(), Fail> {
-    let alloc = rt.alloc();
-    let mut script = String::from_str(alloc, "1 add file src\n1 load src a.vtk\n")?;
-    for _ in 0..63 {
-        script.push_str("phase\n")?;
-    }
-    let last = format!(in alloc; "{script}2 update src o.vtk 1 1\n")?;
-    let left = run_three(&rt, alloc, &last, NEVER)?;
-    let want = "edit 1 1 at 1\nedit 1 2 at 2\nfile 2 1 at 2 cells 1 points 8 ran 1\n";
-    assert_eq!(rt; left.text.as_str(), want);
-    assert!(rt; files(&left.ports, "o.vtk") == [None, Some(IMAGE.as_bytes()), None]);
-    let past = format!(in alloc; "{script}phase\n")?;
-    let left = run_three(&rt, alloc, &past, NEVER)?;
-    assert_eq!(rt; left.text.as_str(), "script line 66 Phase\n");
-    assert!(rt; left.status == Status::Script);
-    Ok(())
-}
 
 const BESIDE: &str = "1 add file src
 1 load src a.vtk
@@ -222,41 +146,5 @@ fn an_actor_has_a_port(rt: HostRuntime) -> Result<(), Fail> {
     assert!(rt; left.status == Status::Script, "{}", left.text);
     assert_eq!(rt; left.text.as_str(), "script line 2 ActorRange\n");
     assert!(rt; left.desk.file("j").is_none());
-    Ok(())
-}
-
-const TWO: &str = "1 add file src
-1 load src a.vtk
-1 add contour iso
-1 connect src iso 1
-1 set iso levels 5
-phase
-1 update iso low.vtk 1 1
-2 audit iso 1 1
-phase
-2 set iso levels 8
-2 update iso high.vtk 1 1
-";
-
-const TWO_REPORT: &str = "edit 1 1 at 1
-edit 1 2 at 2
-edit 1 3 at 3
-edit 1 4 at 4
-edit 1 5 at 5
-file 1 6 at 5 cells 6 points 7 ran 2
-audit 2 1 at 5 sides 12 two 6 open 6 border 6
-edit 2 2 at 6
-file 2 3 at 6 cells 6 points 7 ran 2
-";
-
-#[test]
-fn two_actors_share_a_network(rt: HostRuntime) -> Result<(), Fail> {
-    let alloc = rt.alloc();
-    let left = run_three(&rt, alloc, TWO, NEVER)?;
-    assert_eq!(rt; left.text.as_str(), TWO_REPORT);
-    assert!(rt; left.status == Status::Done);
-    assert!(rt; files(&left.ports, "low.vtk") == [Some(ONE.as_bytes()), None, None]);
-    let [first, high, third] = files(&left.ports, "high.vtk");
-    assert!(rt; first.is_none() && high.is_some() && third.is_none());
     Ok(())
 }

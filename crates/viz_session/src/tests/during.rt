@@ -7,6 +7,20 @@ use std::sync::atomic::{AtomicU64, Ordering};
 use std::thread;
 use viz_base::{ACTORS, Gate, Port, ReadRefusal, WriteRefusal};
 
+const SURFACE: &str = "1 add file src
+1 load src a.vtk
+1 add contour iso
+1 connect src iso 1
+1 set iso levels 5
+";
+
+const SURFACE_REPORT: &str = "edit 1 1 at 1
+edit 1 2 at 2
+edit 1 3 at 3
+edit 1 4 at 4
+edit 1 5 at 5
+";
+
 /// How often a task or a read looks for what it waits for.
 const TURNS: u32 = 10_000_000;
 
