@@ -11,6 +11,3 @@ mod points;
 mod surfaces;
 
 pub use surfaces::contour;
-
-#[cfg(test)]
-mod tests;

@@ -19,6 +19,3 @@ mod starts;
 
 pub use flag_laws::flags_are_edges;
 pub use sections::{Ranked, ranked_section};
-
-#[cfg(test)]
-mod tests;

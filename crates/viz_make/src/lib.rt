@@ -19,6 +19,3 @@ pub use laws::volumes_are_narrow;
 pub use run::run_make;
 pub use serving::Make;
 pub use size::volume_extent;
-
-#[cfg(test)]
-mod volume_tests;

@@ -11,7 +11,7 @@ use viz_extent::Extent;
 /// grid, or all at its upper end.
 ///
 /// An axis with one index has both ends there, so that every facet of that grid lies on it.
-pub(crate) fn facet_on_boundary(whole: &Extent, corners: [u64; 3]) -> bool
+pub fn facet_on_boundary(whole: &Extent, corners: [u64; 3]) -> bool
     requires below { All (λ leaf. leaf < count_of whole.now) corners }
     ensures value { result ≡ is_on_boundary whole.now corners }
 {

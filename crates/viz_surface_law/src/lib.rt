@@ -17,14 +17,8 @@ mod passes;
 mod surfaces;
 
 pub use audits::{Counts, audit};
+pub use facets::facet_on_boundary;
 pub use laws::{
     contours_are_closed, facets_are_shared, form_sections_are_closed, sections_are_closed,
 };
 pub use surfaces::is_surface;
-
-#[cfg(test)]
-mod contour_tests;
-#[cfg(test)]
-mod facet_tests;
-#[cfg(test)]
-mod tests;

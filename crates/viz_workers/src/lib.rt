@@ -12,6 +12,3 @@ mod working;
 
 pub use job::Job;
 pub use level::run_level;
-
-#[cfg(test)]
-mod tests;

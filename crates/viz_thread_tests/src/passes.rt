@@ -3,12 +3,12 @@
 ghost use Rattle.std.specs.Prelude.{◌≡◌, [], All, IfOk, IfSome};
 ghost use Rattle.viz_turn.specs.Passes.{IsPassOf};
 
-use crate::{Story, Turn, TurnPass};
 use std::alloc::Global;
 use std::sync::Wait;
 use std::test::Fail;
 use std::thread;
 use std::thread::Threads;
+use viz_turn::{Story, Turn, TurnPass};
 
 // The number of its pass, and how many that pass had made before.
 #[derive(Clone, Copy)]

@@ -2,7 +2,6 @@
 
 ghost use Rattle.std.specs.Prelude.{◌≡◌, ◌+◌, IfOk};
 
-use crate::{Counts, audit, contours_are_closed};
 use std::alloc::Global;
 use std::test::Fail;
 use viz_column::Column;
@@ -10,6 +9,7 @@ use viz_contour::contour;
 use viz_dataset::{Image, is_origin, is_spacing};
 use viz_extent::Extent;
 use viz_meaning::WorkStop;
+use viz_surface_law::{Counts, audit, contours_are_closed};
 
 // The counts of a contour. The law says that an audit takes it, and what the counts have in common.
 fn audited(alloc: Global, level: &i64, image: &Image) -> Result<Counts, WorkStop>

@@ -2,11 +2,11 @@
 
 ghost use Rattle.std.specs.Prelude.{◌≡◌, ◌+◌, ◌<◌, ◌^◌};
 
-use crate::{Job, run_level};
 use std::alloc::{AllocError, Global};
 use std::sync::atomic::{AtomicU64, Ordering};
 use std::thread;
 use viz_base::{Gate, OpenGate};
+use viz_workers::{Job, run_level};
 
 // The most turns that a task waits for another.
 const TURNS: u64 = 10_000_000;

@@ -1,8 +1,8 @@
 //! Facets of small grids, by hand.
 
-use crate::facets::facet_on_boundary;
 use std::test::Fail;
 use viz_extent::Extent;
+use viz_surface_law::facet_on_boundary;
 
 #[test]
 fn facets_of_a_cube(rt: HostRuntime) -> Result<(), Fail> {

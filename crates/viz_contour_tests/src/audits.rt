@@ -1,11 +1,11 @@
 //! Audits of small sheets, by hand.
 
-use crate::{Counts, audit, is_surface};
 use std::alloc::Global;
 use std::test::Fail;
 use viz_extent::Extent;
 use viz_fraction::{Point5, point};
 use viz_sheet::{Leaves, Places, Ranks, Sheet, are_cells, compacted};
+use viz_surface_law::{Counts, audit, is_surface};
 
 /// The edges from the lowest corner of a cube, with x fastest.
 const SPOKES: [[u32; 2]; 7] = [[0, 1], [0, 2], [0, 3], [0, 4], [0, 5], [0, 6], [0, 7]];

@@ -1,10 +1,9 @@
 //! Contours of one cube of points, reckoned by hand.
-use crate::contour;
-use crate::levels::insides;
 use std::alloc::Global;
 use std::process::Abort;
 use std::test::Fail;
 use viz_column::{Column, Number};
+use viz_contour::contour;
 use viz_dataset::{Image, is_origin, is_spacing};
 use viz_extent::Extent;
 use viz_fraction::Point5;
@@ -258,26 +257,14 @@ fn a_wide_crossing_is_refused(rt: HostRuntime) -> Result<(), Fail> {
 
 #[test]
 fn a_value_equal_to_the_level_is_inside(rt: HostRuntime) -> Result<(), Fail> {
-    let values = [4, 5, 6, -1, i32::MIN, i32::MAX];
-    for (level, want) in [
-        (5, [false, true, true, false, false, true]),
-        // Levels that 32 bits can't hold.
-        (i64::MIN, [true; 6]),
-        (i64::MAX, [false; 6]),
-    ] {
-        let inside = insides(rt.alloc(), &level, &values)?;
-        assert_eq!(rt; inside.as_slice(), want.as_slice(), "{level}");
-    }
-    // Values that no level reaches, and one that the highest one is.
-    let values = [0, 9_223_372_036_854_775_807, 1 << 63, u64::MAX];
-    for (level, want) in [
-        (i64::MIN, [true; 4]),
-        (-1, [true; 4]),
-        (1, [false, true, true, true]),
-        (i64::MAX, [false, true, true, true]),
-    ] {
-        let inside = insides(rt.alloc(), &level, &values)?;
-        assert_eq!(rt; inside.as_slice(), want.as_slice(), "{level}");
-    }
-    Ok(())
+    let alloc = rt.alloc();
+    let unit = [ONE; 3];
+    // Levels that no value reaches, and that all do.
+    let last = [0, 0, 0, 0, 0, 0, 0, 2_147_483_647];
+    shows::<i32>(&rt, alloc, &i64::MAX, unit, last, &[], &[])?;
+    shows::<i32>(&rt, alloc, &i64::MIN, unit, last, &[], &[])?;
+    // The highest level, on the last point itself.
+    let highest = [0, 0, 0, 0, 0, 0, 0, 9_223_372_036_854_775_807];
+    let points = far(1, 1, 9_223_372_036_854_775_807);
+    shows::<u64>(&rt, alloc, &i64::MAX, unit, highest, &points, &LAST)
 }

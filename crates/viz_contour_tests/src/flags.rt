@@ -1,10 +1,10 @@
 //! Sections of small grids, counted by hand from the tables of docs/FORMATS.md.
 
-use crate::{Ranked, ranked_section};
 use std::alloc::{AllocError, Global};
 use std::process::Abort;
 use std::test::Fail;
 use viz_extent::Extent;
+use viz_flags::{Ranked, ranked_section};
 
 /// The points of a single cube.
 const CUBE: [u32; 6] = [0, 1, 0, 1, 0, 1];

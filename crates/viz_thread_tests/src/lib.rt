@@ -1,0 +1,7 @@
+//! Passes and tasks on threads: tests alone.
+#![tactic(auto)]
+
+#[cfg(test)]
+mod passes;
+#[cfg(test)]
+mod workers;
