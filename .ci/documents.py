@@ -231,15 +231,17 @@ def check_contour():
 
 
 def check_scripts():
-    """The scripts of two levels and of two actors: rows of tests, whose file has another name."""
+    """The script of two levels, a row of tests whose file has another name, and that of two actors,
+    a worked row."""
     tests = "crates/viz_session/src/tests"
-    pages = [text(tests + end) for end in (".rt", "/failing.rt", "/scratch.rt", "/actors.rt")]
-    levels, whole, again, two, report = (
-        constant(page, name) for page, name in
-        zip(pages + pages[3:], ("LEVELS", "WHOLE", "AGAIN", "TWO", "TWO_REPORT")))
+    pages = [text(tests + end) for end in (".rt", "/failing.rt", "/scratch.rt")]
+    levels, whole, again = (constant(page, name) for page, name in
+                            zip(pages, ("LEVELS", "WHOLE", "AGAIN")))
+    row = ".ci/rows/two-actors-share-a-network/"
     shown([levels.replace("a.vtk", "c.vtk"), typed("run levels.script levels.journal", whole),
            typed("scratch levels.journal 5 iso again.vtk", again),
-           two.replace("a.vtk", "c.vtk"), typed("run two.script two.journal", report)],
+           text(row + "s.script").replace("a.vtk", "c.vtk"),
+           typed("run two.script two.journal", text(row + "want/stdout"))],
           "the script of a test")
 
 
