@@ -18,7 +18,7 @@ use Rattle.viz_network.specs.declared.steps.Step.{Step}
 use Rattle.viz_network.specs.Network.{Network, node_of}
 use Rattle.viz_network.specs.Cone.{has_node, cone_of}
 use Rattle.viz_network.specs.Step.{nodes_of}
-use Rattle.viz_account.specs.Written.{is_writer, Runs, IsRan}
+use Rattle.viz_account.specs.Written.{is_writer, Runs, HasRan}
 use Rattle.viz_account.specs.Steps.Above.{IsAt, IsLeft, AreMarks, works, added, all_added}
 
 works_node : (net : Network) (x : ℕ) → works net x ≡ true → (n : Node) × (node_of net x ≡ Some n) × (is_writer n.settings ≡ false)
@@ -82,7 +82,7 @@ module _ (net : Network) (steps : List Step) (place : ℕ) (sink : NodeId) (mark
       by (j, m, inr w) = let bad : ⊥ = omega (arith, w.0) in absurd bad
 
   -- what is left of the marked nodes that work after a sort and a `dedup`
-  pub ran_is : (ids sorted left : List ℕ) → ids ≡ all_added net steps marks → IsPermutation ids sorted → IsSorted nat_cmp sorted → IsFiltered (DiffersFromLast nat_eq) [] sorted left → IsRan net sink.0 (length left)
+  pub ran_is : (ids sorted left : List ℕ) → ids ≡ all_added net steps marks → IsPermutation ids sorted → IsSorted nat_cmp sorted → IsFiltered (DiffersFromLast nat_eq) [] sorted left → HasRan net sink.0 (length left)
   ran_is ids sorted left is moved rises kept =
       let e : left ≡ dedup nat_eq sorted = dedup_is nat_eq sorted left kept in
       record {

@@ -23,7 +23,7 @@ pub record Runs (net : Network) (sink x : ℕ) : Type 0 where
   pub works : is_writer node.settings ≡ false
 
 -- how many nodes work for an update of the sink, each counted once
-pub record IsRan (net : Network) (sink ran : ℕ) : Type 0 where
+pub record HasRan (net : Network) (sink ran : ℕ) : Type 0 where
   pub ids : List ℕ
   pub once : IsStrictlySortedBy nat_cmp ids
   pub all : (x : ℕ) → Contains ids x ↔ Runs net sink x
@@ -33,4 +33,4 @@ pub record IsRan (net : Network) (sink ran : ℕ) : Type 0 where
 pub record IsWritten (net : Network) (id : ℕ) (text : List ℕ) (cells points ran : ℕ) : Type 0 where
   pub file : IsFileOf net id (Ok text)
   pub counts : HasCounts net id cells points
-  pub worked : IsRan net id ran
+  pub worked : HasRan net id ran

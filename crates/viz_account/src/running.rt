@@ -2,7 +2,7 @@
 
 ghost use Rattle.std.specs.Prelude.{◌≡◌, ◌+◌, ◌<◌, ◌++◌, length, slice_get, Some, IfOk, IfSome, OnOk};
 ghost use Rattle.viz_network.specs.Step.{AreSteps, nodes_of};
-ghost use Rattle.viz_account.specs.Written.{IsRan};
+ghost use Rattle.viz_account.specs.Written.{HasRan};
 ghost use Rattle.viz_account.specs.Steps.Above.{marked, all_marked, AreBelow, AreMarks, works, added, all_added};
 
 use std::alloc::{AllocError, Global};
@@ -120,7 +120,7 @@ fn count_above(
 ) -> Result<u32, AllocError>
     requires steps { AreSteps net.now steps.now }
     requires at { slice_get (nodes_of steps.now) place ≡ Some sink }
-    ensures { IfOk result (IsRan net.now sink.0) }
+    ensures { IfOk result (HasRan net.now sink.0) }
 {
     let marks = marks_above(alloc, net, steps, place)?;
     let mut ids = marked_nodes(alloc, net, steps, &marks)?;
@@ -136,7 +136,7 @@ fn count_above(
 /// How many nodes work for an update of the sink: the sink and all nodes upstream of it, but for
 /// writers, each counted once.
 pub fn ran(alloc: Global, net: &Net, sink: NodeId) -> Result<u32, AllocError>
-    ensures { IfOk result (IsRan net.now sink.0) }
+    ensures { IfOk result (HasRan net.now sink.0) }
 {
     let steps = net.steps(alloc)?;
     match place_of(&steps, sink) {

@@ -18,7 +18,7 @@ use Rattle.viz_report.specs.Report.{rows_from, phase_rows}
 use Rattle.viz_actor.specs.Serving.{commands_of}
 use Rattle.viz_actor.proofs.ServeLemmas.{served_length}
 use Rattle.viz_actor.specs.declared.places.Place.{Place}
-use Rattle.viz_actor.specs.Places.{HasRoom, HaveRoom, work, Splits, Joins, EachServed, HasPass, without, new_rows, all_new_rows, untold, collected, IsTold, ActorsServed, counts_of, IsPhase}
+use Rattle.viz_actor.specs.Places.{HasRoom, HaveRoom, work, Splits, Joins, EachServed, HasPass, without, new_rows, all_new_rows, untold, collected, IsPlaceTold, ActorsServed, counts_of, IsPhase}
 use Rattle.viz_actor.proofs.PhaseLemmas.{given, split_root, split_length, split_born, split_once, given_fresh, OneDid, Did, did}
 
 abbrev pub known_or : PassKnown → Option PassKnown → PassKnown
@@ -97,7 +97,7 @@ module _ {P : Type 0} (m : port.Ghosts P) (limit : ℕ) (steps : List Step) wher
 
   pub told_rows : (hub : Identity) (before : List Entry) (actor : ℕ) (ks : List ℕ) (lines : List (List Line)) (old new : List (Place P)) → HaveRoom steps actor old
       → Did m limit steps hub before actor ks lines old new
-      → (all_new_rows (map without new) ≡ phase_rows actor (counts_of old) lines) × (untold (map without new) ≡ work steps actor (length old)) × All IsTold (map without new)
+      → (all_new_rows (map without new) ≡ phase_rows actor (counts_of old) lines) × (untold (map without new) ≡ work steps actor (length old)) × All IsPlaceTold (map without new)
   told_rows hub before actor [] [] [] [] room d = (refl, refl, λ k x b. absurd (omega (arith, b)))
   told_rows hub before actor [] [] [] (n ∷ ns) room d = absurd d
   told_rows hub before actor [] [] (s ∷ ss) new room d = absurd d
@@ -110,7 +110,7 @@ module _ {P : Type 0} (m : port.Ghosts P) (limit : ℕ) (steps : List Step) wher
       let o = new_of_one hub before k actor ls s n room.0 d.0 in (
         ap₂ (λ (a b : List Row). a ++ b) (rows_of_one hub before k actor ls s n room.0 d.0) r.0,
         ap₂ (λ (a b : ℕ). a + b) o.0 r.1,
-        All-cons IsTold (without n) (map without ns) o.1 r.2,
+        All-cons IsPlaceTold (without n) (map without ns) o.1 r.2,
       )
 
   -- ---- the whole

@@ -28,8 +28,8 @@ use Rattle.viz_account.proofs.AccountLemmas.{rose_by}
 use Rattle.viz_actor.specs.declared.ran.Ran.{Ran}
 use Rattle.viz_actor.specs.declared.ran.Ran.TheVariants as ran
 use Rattle.viz_actor.specs.Groups.{actors_over}
-use Rattle.viz_actor.specs.Deeds.{Deed, Nothing, Asked, Kept, IsAccounted, IsServed, IsEndOfScript, IsRan, calls_of, is_written}
-use Rattle.viz_actor.specs.Told.{text_of, is_fault, has_memory, has_fault, has_refused, served_status, status_of, telling_of}
+use Rattle.viz_actor.specs.Deeds.{Deed, Nothing, Asked, Kept, IsAccounted, IsServed, IsEndOfScript, IsScriptRun, calls_of, is_written}
+use Rattle.viz_actor.specs.Told.{ran_text, is_fault, has_memory, has_fault, has_refused, served_status, status_of, telling_of}
 use Rattle.viz_told.specs.declared.status.Status.{Status}
 use Rattle.viz_told.specs.declared.status.Status.TheVariants as status
 use Rattle.viz_told.specs.Calls.{IsCalled}
@@ -220,7 +220,7 @@ module _ {P : Type 0} (m : port.Ghosts P) (limit : ℕ) (h : List Entry) (ends :
 -- ---- the promises
 
 module _ {P O : Type 0} (m : port.Ghosts P) (o : out.Ghosts O) (script journal : List ℕ) (desk new_desk : P) (old new : List P) (before after : O) (ended : Status)
-    (found : Ran) (came : IsRan m script journal found desk new_desk old new) (told : IsTold o (telling_of found) ended before after) where
+    (found : Ran) (came : IsScriptRun m script journal found desk new_desk old new) (told : IsTold o (telling_of found) ended before after) where
   deed_is : (deed : Deed) → came.0 ≡ deed → IsCalled m (calls_of script journal deed) desk new_desk
   deed_is deed is = subst (λ (d : Deed). IsCalled m (calls_of script journal d) desk new_desk) is came.2
 
@@ -234,12 +234,12 @@ module _ {P O : Type 0} (m : port.Ghosts P) (o : out.Ghosts O) (script journal :
       (d.2, (d.0, d.1, d.4, deed_is (Kept d.0 d.1 d.2) d.3), d.5)
 
   -- what was found and put, by a status that is known
-  at : (known : Status) → ended ≡ known → (status.Memory ≡ known → ⊥) → (a : Answer) × ToldBy found a known × IsPut o (text_of found) a before after
+  at : (known : Status) → ended ≡ known → (status.Memory ≡ known → ⊥) → (a : Answer) × ToldBy found a known × IsPut o (ran_text found) a before after
   at known is apart = told_at o before after ended (telling_of found) (ToldBy found) (told_by found) known told is apart
 
-  text_put : (r : Ran) (known : Status) → found ≡ r → ended ≡ known → (status.Memory ≡ known → ⊥) → (status.Usage ≡ known → ⊥) → PutsOrBreaks o (text_of r) before after
+  text_put : (r : Ran) (known : Status) → found ≡ r → ended ≡ known → (status.Memory ≡ known → ⊥) → (status.Usage ≡ known → ⊥) → PutsOrBreaks o (ran_text r) before after
   text_put r known same is apart other =
-      subst (λ (x : Ran). PutsOrBreaks o (text_of x) before after) same (puts_at o before after ended (telling_of found) known told is apart other)
+      subst (λ (x : Ran). PutsOrBreaks o (ran_text x) before after) same (puts_at o before after ended (telling_of found) known told is apart other)
 
   reported : (known : Status) → ended ≡ known → (status.Memory ≡ known → ⊥)
       → ((a : Answer) → ToldBy found a known → (rows : List Row) × (found ≡ ran.Served rows true) × (served_status rows true ≡ known) × (a ≡ Ok tt))
@@ -251,7 +251,7 @@ module _ {P O : Type 0} (m : port.Ghosts P) (o : out.Ghosts O) (script journal :
         t.0,
         subst (λ (answer : WriteAnswer). IsServedBy m script journal t.0 answer desk new_desk old new) (written_is s.0 s.2) s.1,
         t.2,
-        gains o (rows_text t.0) before after w.0 t.3 (subst (λ (x : Ran). IsPut o (text_of x) w.0 before after) t.1 w.2),
+        gains o (rows_text t.0) before after w.0 t.3 (subst (λ (x : Ran). IsPut o (ran_text x) w.0 before after) t.1 w.2),
       )
 
   pub done : ended ≡ status.Done → IsReported m o script journal status.Done desk new_desk old new before after
@@ -278,7 +278,7 @@ module _ {P O : Type 0} (m : port.Ghosts P) (o : out.Ghosts O) (script journal :
       let d = unread_deed m old new came.0 (ends_in ran.Unread same) in
       (deed_is (Asked read.Failed) d.0, d.1, text_put ran.Unread status.Fault same is is_no_fault usage_is_no_fault)
 
-  why : (rows : List Row) (kept : Bool) (answer : WriteAnswer) (a : Answer) → kept ≡ is_written answer → IsPut o (text_of found) a before after
+  why : (rows : List Row) (kept : Bool) (answer : WriteAnswer) (a : Answer) → kept ≡ is_written answer → IsPut o (ran_text found) a before after
       → (((has_fault rows || not kept) ≡ true) × (a ≡ Ok tt)) ⊎ (a ≡ Err writing.Failed)
       → (has_fault rows ≡ true) ⊎ ((answer ≡ write.Failed) ⊎ Rose (o.faults before) (o.faults after))
   why rows kept answer a is put (inl t) =

@@ -82,6 +82,6 @@ IsEndOfScript m (Kept bytes text answer) (ran.Served rows kept) old new =
 IsEndOfScript m deed came old new = ⊥
 
 -- a run of a script over a desk and ports
-abbrev pub IsRan : {P : Type 0} → port.Ghosts P → List ℕ → List ℕ → Ran → P → P → List P → List P → Type 0
-IsRan m script journal came desk new_desk old new =
+abbrev pub IsScriptRun : {P : Type 0} → port.Ghosts P → List ℕ → List ℕ → Ran → P → P → List P → List P → Type 0
+IsScriptRun m script journal came desk new_desk old new =
     (deed : Deed) × IsEndOfScript m deed came old new × IsCalled m (calls_of script journal deed) desk new_desk

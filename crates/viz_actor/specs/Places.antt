@@ -106,8 +106,8 @@ abbrev pub collected : {P : Type 0} → Place P → Place P
 collected s = record { actor = s.actor; pass = s.pass; port = s.port; lines = s.lines; told = length s.lines.items }
 
 -- no more lines are rows than there are
-abbrev pub IsTold : {P : Type 0} → Place P → Type 0
-IsTold s = s.told ≤ length s.lines.items
+abbrev pub IsPlaceTold : {P : Type 0} → Place P → Type 0
+IsPlaceTold s = s.told ≤ length s.lines.items
 
 -- ---- the whole phase
 

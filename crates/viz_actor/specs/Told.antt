@@ -16,11 +16,11 @@ use Rattle.viz_actor.specs.declared.ran.Ran.TheVariants as ran
 -- ---- the text
 
 -- the text of a run
-abbrev pub text_of : Ran → List ℕ
-text_of ran.Unread = read_fault_line
-text_of (ran.Refused line r) = refused_script line r
-text_of (ran.Served rows kept) = rows_text rows
-text_of ran.Memory = memory_line
+abbrev pub ran_text : Ran → List ℕ
+ran_text ran.Unread = read_fault_line
+ran_text (ran.Refused line r) = refused_script line r
+ran_text (ran.Served rows kept) = rows_text rows
+ran_text ran.Memory = memory_line
 
 -- ---- the status
 
@@ -68,4 +68,4 @@ is_made r = false
 
 -- what is told of a run
 abbrev pub telling_of : Ran → Telling
-telling_of r = record { text = text_of r; status = status_of r; is_made = is_made r }
+telling_of r = record { text = ran_text r; status = status_of r; is_made = is_made r }

@@ -2,7 +2,7 @@
 
 ghost use Rattle.std.specs.Prelude.{◌≡◌};
 ghost use Rattle.viz_actor.specs.Groups.{actors_over};
-ghost use Rattle.viz_actor.specs.Deeds.{IsRan};
+ghost use Rattle.viz_actor.specs.Deeds.{IsScriptRun};
 ghost use Rattle.viz_actor.specs.DeskServing.{IsKept, IsRanBehind};
 
 use crate::journal::journal_entries;
@@ -91,7 +91,7 @@ pub fn serve<R: Threads + Wait + Sync, P: Port + Send + Drop, G: Gate + Sync>(
     ports: &mut Vec<P>,
     gate: &G,
 ) -> Ran
-    ensures { IsRan P.Port script.now journal.now result desk.old desk.new ports.old.items
+    ensures { IsScriptRun P.Port script.now journal.now result desk.old desk.new ports.old.items
         ports.new.items }
 {
     let bytes = match desk.read(alloc, script) {

@@ -2,7 +2,7 @@
 
 ghost use Rattle.std.specs.Prelude.{◌≡◌, ◌+◌, ◌<◌, ◌≤◌, ◌^◌, ◌++◌, All, length, map, drop, vec_capacity};
 ghost use Rattle.viz_report.specs.Report.{rows_from};
-ghost use Rattle.viz_actor.specs.Places.{new_rows, all_new_rows, untold, collected, IsTold};
+ghost use Rattle.viz_actor.specs.Places.{new_rows, all_new_rows, untold, collected, IsPlaceTold};
 
 use crate::places::Place;
 use viz_report::{Line, Row};
@@ -25,7 +25,7 @@ fn put_rows(rows: &mut Vec<Row>, actor: u32, told: usize, lines: &[Line])
 
 // Adds the rows of a place's new lines.
 fn collect<P>(place: &mut Place<P>, rows: &mut Vec<Row>)
-    requires told { IsTold place.old }
+    requires told { IsPlaceTold place.old }
     requires room { length rows.old.items + length (drop place.old.told place.old.lines.items)
         ≤ vec_capacity rows.old }
     ensures rows { rows.new.items ≡ rows.old.items ++ new_rows place.old }
@@ -41,7 +41,7 @@ fn collect<P>(place: &mut Place<P>, rows: &mut Vec<Row>)
 /// Adds the rows of all new lines, place after place. There is room for them.
 pub fn collect_all<P>(places: &mut [Place<P>], rows: &mut Vec<Row>)
     requires room { length rows.old.items + untold places.old ≤ vec_capacity rows.old }
-    requires told { All IsTold places.old }
+    requires told { All IsPlaceTold places.old }
     ensures rows { rows.new.items ≡ rows.old.items ++ all_new_rows places.old }
     ensures capacity { vec_capacity rows.new ≡ vec_capacity rows.old }
     ensures places { places.new ≡ map collected places.old }

@@ -3,7 +3,7 @@
 ghost use Rattle.std.specs.Prelude.{◌≡◌, ◌≢◌, ◌⊎◌};
 ghost use Rattle.viz_base.specs.Faults.{Rose, one_more};
 ghost use Rattle.viz_actor.specs.declared.ran.Ran.{Ran as Came};
-ghost use Rattle.viz_actor.specs.Deeds.{IsRan};
+ghost use Rattle.viz_actor.specs.Deeds.{IsScriptRun};
 ghost use Rattle.viz_actor.specs.Promises.{IsScriptRefused, TellsRefusals, IsReported, IsServedWithFault, IsUnread, IsCutOff, IdleStay, SomeRose};
 ghost use Rattle.viz_actor.specs.Told.{telling_of};
 ghost use Rattle.viz_told.specs.Told.{IsTold};
@@ -31,7 +31,7 @@ pub fn run_script<R: Threads + Wait + Sync, P: Port + Send + Drop, O: Out, G: Ga
     gate: &G,
 ) -> Status
     // What the run was: how far it came, and the text put of it.
-    ensures account { (ran : Came) × IsRan P.Port script.now journal.now ran desk.old desk.new
+    ensures account { (ran : Came) × IsScriptRun P.Port script.now journal.now ran desk.old desk.new
         ports.old.items ports.new.items × IsTold O.Out (telling_of ran) result out.old out.new }
 
     // What follows of it for each status.

@@ -17,7 +17,7 @@ use Rattle.viz_journal.specs.declared.draft.Told.{Told}
 use Rattle.viz_journal.specs.declared.entry.JournalEntry.{JournalEntry}
 use Rattle.viz_journal.specs.Journal.{entry_line, entry_text, file_text, first_line, last_line, journal}
 use Rattle.viz_journal.specs.Lines.{size, line_in}
-use Rattle.viz_journal.specs.Reading.{Part, part_of, in_line, is_there, is_closed, rest_of, edit_of, entry_of, is_counted, is_spelled, is_accepted, entry_at, ends, last_at, entered, judged, journal_from, journal_of}
+use Rattle.viz_journal.specs.Reading.{Part, part_of, in_line, is_there, is_closed, rest_of, edit_of, entry_of, is_counted, is_spelled, is_accepted, entry_at, ends, last_at, entered, judged, journal_from, journal_read}
 
 -- texts that compare alike are one
 pub same-text : (xs ys : List ℕ) → pointwise nat_eq xs ys ≡ true → xs ≡ ys
@@ -148,7 +148,7 @@ only-from (suc k) n before bytes entries h = by (line_in (part_of bytes).line) h
         ([], is.0 ∙ sym (append-nil before), part-is bytes is.1 ∙ is.2 ∙ ap tail_of (sym is.0))
     by (Ok (line.Entry told)) f ih = step told (entry_at before (part_of bytes) told) refl f ih
 
-pub only : (bytes : List ℕ) (entries : List JournalEntry) → journal_of bytes ≡ Ok entries → bytes ≡ journal entries
+pub only : (bytes : List ℕ) (entries : List JournalEntry) → journal_read bytes ≡ Ok entries → bytes ≡ journal entries
 only bytes entries h = by (is_text (take 17 bytes) first_line) refl h
   where
     by : (t : Bool) → is_text (take 17 bytes) first_line ≡ t → cond t (journal_from (length (drop 17 bytes)) 2 [] (drop 17 bytes)) (Err (1, refusal.Word)) ≡ Ok entries → bytes ≡ journal entries

@@ -15,7 +15,7 @@ use Rattle.viz_words.specs.Lines.{begins_newline}
 use Rattle.viz_journal.specs.declared.draft.Line.TheVariants as line
 use Rattle.viz_journal.specs.declared.entry.JournalEntry.{JournalEntry}
 use Rattle.viz_journal.specs.Journal.{entry_line, file_text, entry_text, first_line, last_line, journal}
-use Rattle.viz_journal.specs.Reading.{is_there, is_closed, rest_of, edit_of, entry_of, edits_of, entries_by, is_counted, is_spelled, is_accepted, entry_limit, entry_at, journal_from, journal_of}
+use Rattle.viz_journal.specs.Reading.{is_there, is_closed, rest_of, edit_of, entry_of, edits_of, entries_by, is_counted, is_spelled, is_accepted, entry_limit, entry_at, journal_from, journal_read}
 use Rattle.viz_journal.specs.Fits.{FitsEntry, AreEntries, Fits}
 use Rattle.viz_journal.proofs.PartLemmas.{part}
 use Rattle.viz_journal.proofs.ReadLemmas.{journal_from-line, journal_from-entry}
@@ -127,8 +127,8 @@ again-from (suc k) before (e ∷ added) entries are fits few enough =
     (part-plain (entry_line e) behind says.0) says.1 (entry-again before e rest f room) refl (sym file.3)
     ∙ again-from k (before ++ e ∷ []) added entries (are ∙ sym (append_assoc before (e ∷ []) added)) fits.1 few less
 
-pub again : (entries : List JournalEntry) → Fits entries → journal_of (journal entries) ≡ Ok entries
+pub again : (entries : List JournalEntry) → Fits entries → journal_read (journal entries) ≡ Ok entries
 again entries fits =
     let rest = flat_map entry_text entries ++ tail_of entries in
     let whole : journal entries ≡ first_line ++ rest = append_assoc first_line (flat_map entry_text entries) (tail_of entries) in
-    ap journal_of whole ∙ again-from (length rest) [] entries entries refl fits.each fits.few (omega arith)
+    ap journal_read whole ∙ again-from (length rest) [] entries entries refl fits.each fits.few (omega arith)

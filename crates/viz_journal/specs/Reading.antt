@@ -128,8 +128,8 @@ journal_from zero n entries bytes = Err (n, refusal.Word)
 journal_from (suc k) n entries bytes = judged n (journal_from k (n + 1)) entries (part_of bytes) (line_in (part_of bytes).line)
 
 -- the entries of a journal
-abbrev pub journal_of : List ℕ → Result (List JournalEntry) Stop
-journal_of bytes = if is_text (take 17 bytes) first_line then journal_from (length (drop 17 bytes)) 2 [] (drop 17 bytes) else Err (1, refusal.Word)
+abbrev pub journal_read : List ℕ → Result (List JournalEntry) Stop
+journal_read bytes = if is_text (take 17 bytes) first_line then journal_from (length (drop 17 bytes)) 2 [] (drop 17 bytes) else Err (1, refusal.Word)
 
 -- the refusal that the definition gives, unless memory ran out
 abbrev pub Stops : ScriptStop → Result (List JournalEntry) Stop → Type 0

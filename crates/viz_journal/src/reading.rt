@@ -3,7 +3,7 @@
 ghost use Rattle.std.specs.Prelude.{◌≡◌, ◌+◌, ◌<◌, ◌≤◌, [], length, OnOk, IfOk};
 ghost use Rattle.viz_kinds.specs.Values.{is_text};
 ghost use Rattle.viz_journal.specs.Journal.{entry_line, last_line};
-ghost use Rattle.viz_journal.specs.Reading.{entry_limit, entry_of, last_at, journal_from, journal_of, Reads};
+ghost use Rattle.viz_journal.specs.Reading.{entry_limit, entry_of, last_at, journal_from, journal_read, Reads};
 ghost use Rattle.viz_journal.specs.Steps.Kept.{IsKept, Enters, Goes};
 
 use crate::draft::{Line, Told, line_in};
@@ -191,7 +191,7 @@ fn entries_of(alloc: Global, bytes: &[u8]) -> Result<Vec<JournalEntry>, ScriptSt
 /// The refusals of docs/FORMATS.md, "Journals": the first refusal of the first line that has one.
 /// Want of memory may come in place of a result.
 pub fn read_journal(alloc: Global, bytes: &[u8]) -> Result<Vec<JournalEntry>, ScriptStop>
-    ensures reads { Reads (λ entries. entries.items) result (journal_of bytes.now) }
+    ensures reads { Reads (λ entries. entries.items) result (journal_read bytes.now) }
 {
     if front(bytes, FIRST.len()) != FIRST {
         return Err(refused(1, ScriptRefusal::Word));

@@ -17,8 +17,8 @@ use Rattle.viz_told.proofs.ToldLemmas.{Answer, is_no_done, is_no_usage, is_no_sc
 use Rattle.viz_make.specs.declared.came.Came.{Came}
 use Rattle.viz_make.specs.declared.came.Came.TheVariants as came
 use Rattle.viz_make.specs.declared.made.Made.{Made}
-use Rattle.viz_make.specs.Make.{Make, IsMade, IsClosed, written, IsEndOfMaking, IsRan}
-use Rattle.viz_make.specs.Told.{text_of, status_of, telling_of}
+use Rattle.viz_make.specs.Make.{Make, IsMade, IsClosed, written, IsEndOfMaking, IsMakeRun}
+use Rattle.viz_make.specs.Told.{came_text, status_of, telling_of}
 use Rattle.viz_make.specs.Promises.{FirstWrote, TellsRefusals, IsDone, IsScript, IsFault}
 
 -- ---- what was found, and what the put answered, by the status
@@ -68,28 +68,28 @@ module _ {P : Type 0} (m : port.Ghosts P) (c : Make) where
   answered_is : (answer known : Option WriteAnswer) (p q : P) → answer ≡ known → IsCalled m (written c answer) p q → IsCalled m (written c known) p q
   answered_is answer known p q is h = subst (λ (a : Option WriteAnswer). IsCalled m (written c a) p q) is h
 
-  wrote : (old new : List P) (made : Made) → IsRan m c (came.Written made) old new → IsMade c made × IsClosed made × FirstWrote m c write.Written old new
+  wrote : (old new : List P) (made : Made) → IsMakeRun m c (came.Written made) old new → IsMade c made × IsClosed made × FirstWrote m c write.Written old new
   wrote [] new made h = absurd (let bad : came.Written made ≡ came.NoPort = h.0 in cc)
   wrote (p ∷ ps) [] made h = absurd h
   wrote (p ∷ ps) (q ∷ qs) made h =
       let e = ends_written c h.0.0 made h.0.1 in
       (e.1, e.2, (answered_is h.0.0 (Some write.Written) p q e.0 h.0.2, h.1))
 
-  unwritten : (old new : List P) → IsRan m c came.Unwritten old new → FirstWrote m c write.Failed old new
+  unwritten : (old new : List P) → IsMakeRun m c came.Unwritten old new → FirstWrote m c write.Failed old new
   unwritten [] new h = absurd (let bad : (let x : Came = came.Unwritten in x) ≡ came.NoPort = h.0 in cc)
   unwritten (p ∷ ps) [] h = absurd h
   unwritten (p ∷ ps) (q ∷ qs) h = (answered_is h.0.0 (Some write.Failed) p q (ends_unwritten c h.0.0 h.0.1) h.0.2, h.1)
 
-  no_port : (old new : List P) → IsRan m c came.NoPort old new → (old ≡ []) × (new ≡ [])
+  no_port : (old new : List P) → IsMakeRun m c came.NoPort old new → (old ≡ []) × (new ≡ [])
   no_port [] new h = (refl, h.1)
   no_port (p ∷ ps) [] h = absurd h
   no_port (p ∷ ps) (q ∷ qs) h = absurd (never_no_port c h.0.0 h.0.1)
 
-  without_port : (old new : List P) (found : Came) → old ≡ [] → IsRan m c found old new → found ≡ came.NoPort
+  without_port : (old new : List P) (found : Came) → old ≡ [] → IsMakeRun m c found old new → found ≡ came.NoPort
   without_port [] new found e h = h.0
   without_port (p ∷ ps) new found e h = absurd (let bad : p ∷ ps ≡ [] = e in cc)
 
-  pub others : (old new : List P) (found : Came) → IsRan m c found old new → OthersStay old new
+  pub others : (old new : List P) (found : Came) → IsMakeRun m c found old new → OthersStay old new
   others [] new found h = h.1
   others (p ∷ ps) [] found h = h
   others (p ∷ ps) (q ∷ qs) found h = h.1
@@ -102,24 +102,24 @@ module _ {P : Type 0} (m : port.Ghosts P) (c : Make) where
 -- ---- the promises
 
 module _ {P O : Type 0} (m : port.Ghosts P) (o : out.Ghosts O) (c : Make) (old new : List P) (before after : O) (ended : Status)
-    (found : Came) (ran : IsRan m c found old new) (told : IsTold o (telling_of found) ended before after) where
-  ran_as : (r : Came) → found ≡ r → IsRan m c r old new
-  ran_as r is = subst (λ (x : Came). IsRan m c x old new) is ran
+    (found : Came) (ran : IsMakeRun m c found old new) (told : IsTold o (telling_of found) ended before after) where
+  ran_as : (r : Came) → found ≡ r → IsMakeRun m c r old new
+  ran_as r is = subst (λ (x : Came). IsMakeRun m c x old new) is ran
 
   -- what was found and put, by a status that is known
-  at : (known : Status) → ended ≡ known → (status.Memory ≡ known → ⊥) → (a : Answer) × ToldBy found a known × IsPut o (text_of found) a before after
+  at : (known : Status) → ended ≡ known → (status.Memory ≡ known → ⊥) → (a : Answer) × ToldBy found a known × IsPut o (came_text found) a before after
   at known is apart = told_at o before after ended (telling_of found) (ToldBy found) (told_by found) known told is apart
 
-  text_put : (r : Came) (known : Status) → found ≡ r → ended ≡ known → (status.Memory ≡ known → ⊥) → (status.Usage ≡ known → ⊥) → PutsOrBreaks o (text_of r) before after
+  text_put : (r : Came) (known : Status) → found ≡ r → ended ≡ known → (status.Memory ≡ known → ⊥) → (status.Usage ≡ known → ⊥) → PutsOrBreaks o (came_text r) before after
   text_put r known same is apart other =
-      subst (λ (x : Came). PutsOrBreaks o (text_of x) before after) same (puts_at o before after ended (telling_of found) known told is apart other)
+      subst (λ (x : Came). PutsOrBreaks o (came_text x) before after) same (puts_at o before after ended (telling_of found) known told is apart other)
 
   pub done : ended ≡ status.Done → IsDone m o c old new before after
   done is =
       let t = at status.Done is is_no_done in
       let r : Came = came.Written t.1.0 in
       let w = wrote m c old new t.1.0 (ran_as r t.1.1) in
-      (t.1.0, w.0, w.1, w.2, gains o (text_of r) before after t.0 t.1.2 (subst (λ (x : Came). IsPut o (text_of x) t.0 before after) t.1.1 t.2))
+      (t.1.0, w.0, w.1, w.2, gains o (came_text r) before after t.0 t.1.2 (subst (λ (x : Came). IsPut o (came_text x) t.0 before after) t.1.1 t.2))
 
   pub script : ended ≡ status.Script → IsScript m o old new before after
   script is =

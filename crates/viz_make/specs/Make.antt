@@ -29,8 +29,8 @@ abbrev pub image_of : Make → ImageData
 image_of c = volume c.number c.extent
 
 -- the text that is written
-abbrev pub text_of : Make → List ℕ
-text_of c = image_text false (image_of c)
+abbrev pub volume_text : Make → List ℕ
+volume_text c = image_text false (image_of c)
 
 -- the triangles of its contour at the middle, by edges
 abbrev pub contour_of : Make → List (List Edge)
@@ -56,7 +56,7 @@ pub record IsClosed (made : Made) : Type 0 where
 -- the calls of a write that was answered so, or of none
 abbrev pub written : Make → Option WriteAnswer → List Call
 written c None = []
-written c (Some answer) = Write c.output (text_of c) answer ∷ []
+written c (Some answer) = Write c.output (volume_text c) answer ∷ []
 
 -- how a run ended whose write was answered so
 abbrev pub IsEndOfMaking : Make → Option WriteAnswer → Came → Type 0
@@ -66,7 +66,7 @@ IsEndOfMaking c None came.Memory = Unit {0}
 IsEndOfMaking c answer ended = ⊥
 
 -- the first port was used so, and all others are as before; where there is none nothing is done
-abbrev pub IsRan : {P : Type 0} → port.Ghosts P → Make → Came → List P → List P → Type 0
-IsRan m c ended [] new = (ended ≡ came.NoPort) × (new ≡ [])
-IsRan m c ended (p ∷ ps) [] = ⊥
-IsRan m c ended (p ∷ ps) (q ∷ qs) = ((answer : Option WriteAnswer) × IsEndOfMaking c answer ended × IsCalled m (written c answer) p q) × (qs ≡ ps)
+abbrev pub IsMakeRun : {P : Type 0} → port.Ghosts P → Make → Came → List P → List P → Type 0
+IsMakeRun m c ended [] new = (ended ≡ came.NoPort) × (new ≡ [])
+IsMakeRun m c ended (p ∷ ps) [] = ⊥
+IsMakeRun m c ended (p ∷ ps) (q ∷ qs) = ((answer : Option WriteAnswer) × IsEndOfMaking c answer ended × IsCalled m (written c answer) p q) × (qs ≡ ps)

@@ -13,7 +13,7 @@ use Rattle.viz_told.specs.Puts.{GainsLine, PutsOrBreaks, EndsInScript}
 use Rattle.viz_make.specs.declared.came.Came.TheVariants as came
 use Rattle.viz_make.specs.declared.made.Made.{Made}
 use Rattle.viz_make.specs.Make.{Make, IsMade, IsClosed, written}
-use Rattle.viz_make.specs.Told.{text_of}
+use Rattle.viz_make.specs.Told.{came_text}
 
 -- the write of the volume was answered so, and nothing else was called
 abbrev pub FirstWrote : {P : Type 0} → port.Ghosts P → Make → WriteAnswer → List P → List P → Type 0
@@ -23,7 +23,7 @@ FirstWrote m c answer old new = FirstOnly (IsCalled m (written c (Some answer)))
 abbrev pub IsDone : {P O : Type 0} → port.Ghosts P → out.Ghosts O → Make → List P → List P → O → O → Type 0
 IsDone m o c old new before after =
     (made : Made) × IsMade c made × IsClosed made × FirstWrote m c write.Written old new
-    × GainsLine o (text_of (came.Written made)) before after
+    × GainsLine o (came_text (came.Written made)) before after
 
 -- a run that answers Script: there is no port
 abbrev pub IsScript : {P O : Type 0} → port.Ghosts P → out.Ghosts O → List P → List P → O → O → Type 0

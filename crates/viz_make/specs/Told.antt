@@ -22,11 +22,11 @@ abbrev pub made_lines : Made → List ℕ
 made_lines made = (made_text made ++ codes "\n") ++ audit_text made ++ codes "\n"
 
 -- the text of a run
-abbrev pub text_of : Came → List ℕ
-text_of came.NoPort = no_port_line
-text_of (came.Written made) = made_lines made
-text_of came.Unwritten = write_fault_line
-text_of came.Memory = memory_line
+abbrev pub came_text : Came → List ℕ
+came_text came.NoPort = no_port_line
+came_text (came.Written made) = made_lines made
+came_text came.Unwritten = write_fault_line
+came_text came.Memory = memory_line
 
 -- the status where the whole text is put
 abbrev pub status_of : Came → Status
@@ -42,4 +42,4 @@ is_made c = false
 
 -- what is told of a run
 abbrev pub telling_of : Came → Telling
-telling_of c = record { text = text_of c; status = status_of c; is_made = is_made c }
+telling_of c = record { text = came_text c; status = status_of c; is_made = is_made c }

@@ -7,7 +7,7 @@ ghost use Rattle.viz_meaning.specs.Tetrahedra.{tetrahedra_sheet};
 ghost use Rattle.viz_surface_law.specs.Audit.{count_sides, count_two, count_lone, count_border};
 ghost use Rattle.viz_surface_law.specs.Contours.{triangles_of};
 ghost use Rattle.viz_make.specs.NarrowVolumes.{middle};
-ghost use Rattle.viz_make.specs.Make.{IsClosed, IsMade, image_of, text_of};
+ghost use Rattle.viz_make.specs.Make.{IsClosed, IsMade, image_of, volume_text};
 ghost use Rattle.viz_make.specs.Views.{make_of};
 
 use crate::laws::volumes_are_narrow;
@@ -67,9 +67,9 @@ fn audited(alloc: Global, image: &Image) -> Result<(Counts, u64), AllocError>
 }
 
 /// The text of a volume.
-fn volume_text(alloc: Global, command: &Make<'_>, image: &Image) -> Result<Bytes, AllocError>
+fn text_with(alloc: Global, command: &Make<'_>, image: &Image) -> Result<Bytes, AllocError>
     requires { image.now ≡ image_of (make_of command.now) }
-    ensures { IfOk result (λ text. text ≡ text_of (make_of command.now)) }
+    ensures { IfOk result (λ text. text ≡ volume_text (make_of command.now)) }
 {
     let _valid = image.extent().bounds();
     match write_image(alloc, image, &STYLE) {
@@ -82,7 +82,7 @@ fn volume_text(alloc: Global, command: &Make<'_>, image: &Image) -> Result<Bytes
 
 /// The text and the numbers of the volume that a command names.
 pub fn made_of(alloc: Global, command: &Make<'_>) -> Result<(Bytes, Made), AllocError>
-    ensures text { IfOk result (λ r. r.0 ≡ text_of (make_of command.now)) }
+    ensures text { IfOk result (λ r. r.0 ≡ volume_text (make_of command.now)) }
     ensures made { IfOk result (λ r. IsMade (make_of command.now) r.1) }
     ensures closed { IfOk result (λ r. IsClosed r.1) }
 {
@@ -91,7 +91,7 @@ pub fn made_of(alloc: Global, command: &Make<'_>) -> Result<(Bytes, Made), Alloc
     let points = command.extent.count();
     let Generated { image, sum } = generate(alloc, command.number, &command.extent)?;
     let (counts, cells) = audited(alloc, &image)?;
-    let text = volume_text(alloc, command, &image)?;
+    let text = text_with(alloc, command, &image)?;
     let made = Made {
         points,
         sum,

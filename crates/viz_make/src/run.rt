@@ -3,7 +3,7 @@
 ghost use Rattle.std.specs.Prelude.{◌≡◌, ◌≢◌, ◌⊎◌};
 ghost use Rattle.viz_base.specs.Faults.{Rose, one_more};
 ghost use Rattle.viz_make.specs.declared.came.Came.{Came as End};
-ghost use Rattle.viz_make.specs.Make.{IsRan};
+ghost use Rattle.viz_make.specs.Make.{IsMakeRun};
 ghost use Rattle.viz_make.specs.Promises.{IsDone, IsFault, IsScript, TellsRefusals};
 ghost use Rattle.viz_make.specs.Told.{telling_of};
 ghost use Rattle.viz_make.specs.Views.{make_of};
@@ -26,7 +26,7 @@ pub fn run_make<P: Port, O: Out>(
     out: &mut O,
 ) -> Status
     // What the run was: how it ended, and the text put of it.
-    ensures account { (came : End) × IsRan P.Port (make_of command.now) came ports.old.items
+    ensures account { (came : End) × IsMakeRun P.Port (make_of command.now) came ports.old.items
         ports.new.items × IsTold O.Out (telling_of came) result out.old out.new }
 
     // What follows of it for each status.

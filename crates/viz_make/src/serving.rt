@@ -2,7 +2,7 @@
 
 ghost use Rattle.std.specs.Prelude.{◌≡◌, Option};
 ghost use Rattle.viz_base.specs.declared.call.WriteAnswer.{WriteAnswer};
-ghost use Rattle.viz_make.specs.Make.{IsEndOfMaking, IsRan, written};
+ghost use Rattle.viz_make.specs.Make.{IsEndOfMaking, IsMakeRun, written};
 ghost use Rattle.viz_make.specs.Views.{make_of};
 ghost use Rattle.viz_told.specs.Calls.{IsCalled};
 
@@ -40,7 +40,7 @@ fn serve_port<P: Port>(alloc: Global, command: &Make<'_>, port: &mut P) -> Came
 
 /// The same by the first port.
 fn serve_over<P: Port>(alloc: Global, command: &Make<'_>, ports: &mut [P]) -> Came
-    ensures { IsRan P.Port (make_of command.now) result ports.old ports.new }
+    ensures { IsMakeRun P.Port (make_of command.now) result ports.old ports.new }
 {
     match ports {
         [] => Came::NoPort,
@@ -50,7 +50,7 @@ fn serve_over<P: Port>(alloc: Global, command: &Make<'_>, ports: &mut [P]) -> Ca
 
 /// The same over the list of ports.
 pub fn serve<P: Port>(alloc: Global, command: &Make<'_>, ports: &mut Vec<P>) -> Came
-    ensures { IsRan P.Port (make_of command.now) result ports.old.items ports.new.items }
+    ensures { IsMakeRun P.Port (make_of command.now) result ports.old.items ports.new.items }
 {
     serve_over(alloc, command, ports.as_mut_slice())
 }

@@ -10,7 +10,7 @@ use Rattle.viz_base.specs.declared.call.ReadAnswer.{ReadAnswer}
 use Rattle.viz_base.specs.declared.call.ReadAnswer.TheVariants as read
 use Rattle.viz_base.specs.declared.refusal.WriteRefusal.TheVariants as writing
 use Rattle.viz_journal.specs.declared.entry.JournalEntry.{JournalEntry}
-use Rattle.viz_journal.specs.Reading.{journal_of}
+use Rattle.viz_journal.specs.Reading.{journal_read}
 use Rattle.viz_words.specs.declared.refusal.ScriptRefusal.{ScriptRefusal}
 use Rattle.viz_report.specs.declared.line.Line.{Line}
 use Rattle.viz_report.specs.declared.line.Line.TheVariants as line
@@ -25,7 +25,7 @@ use Rattle.viz_told.specs.Told.{status_at_fault, status_at_memory, status_after,
 use Rattle.viz_told.proofs.ToldLemmas.{Answer, is_no_done, is_no_usage, is_no_script, is_no_refused, is_no_fault, usage_is_no_script, usage_is_no_fault, gains, ends_in_memory, ends_in_script, told_at, puts_at}
 use Rattle.viz_replay.specs.declared.came.Came.{Came}
 use Rattle.viz_replay.specs.declared.came.Came.TheVariants as came
-use Rattle.viz_replay.specs.Replay.{Replay, asked, IsRefusal, IsUpdated, IsEndOfReplay, IsRan}
+use Rattle.viz_replay.specs.Replay.{Replay, asked, IsRefusal, IsUpdated, IsEndOfReplay, IsReplayRun}
 use Rattle.viz_replay.specs.Told.{line_of, update_status, status_of, telling_of}
 use Rattle.viz_replay.specs.Promises.{IsUpdatedFrom, IsDone, IsRefused, IsScript, TellsRefusals, IsFault}
 
@@ -91,7 +91,7 @@ told_by came.Memory (Err writing.Memory) = tt
 
 module _ {P : Type 0} (m : port.Ghosts P) (c : Replay) (old new : List P) where
   updated : (answer : Option ReadAnswer) (l : Line) → IsEndOfReplay m c answer (came.Updated l) old new
-      → (bytes : List ℕ) × (answer ≡ Some (read.Given bytes)) × ((entries : List JournalEntry) × (journal_of bytes ≡ Ok entries) × IsUpdated m c entries l old new)
+      → (bytes : List ℕ) × (answer ≡ Some (read.Given bytes)) × ((entries : List JournalEntry) × (journal_read bytes ≡ Ok entries) × IsUpdated m c entries l old new)
   updated None l h = absurd h
   updated (Some read.Failed) l h = absurd h
   updated (Some (read.TooLong taken)) l h = absurd h
@@ -140,7 +140,7 @@ module _ {P : Type 0} (m : port.Ghosts P) (c : Replay) (old new : List P) where
   refused_or_memory (read.TooLong taken) line why (came.Updated l) is h = absurd h
   refused_or_memory (read.TooLong taken) line why came.Memory is h = absurd h
   refused_or_memory (read.Given bytes) line why (came.Refused l r) is h =
-      (h.1, inr (ap (λ (x : ℕ × ScriptRefusal). came.Refused x.0 x.1) (same_refusal (l, r) (line, why) (journal_of bytes) h.0 is)))
+      (h.1, inr (ap (λ (x : ℕ × ScriptRefusal). came.Refused x.0 x.1) (same_refusal (l, r) (line, why) (journal_read bytes) h.0 is)))
   refused_or_memory (read.Given bytes) line why came.Memory is h = (h, inl refl)
   refused_or_memory (read.Given bytes) line why (came.Updated l) is h = absurd (let bad : Ok h.0 ≡ Err (line, why) = sym h.1 ∙ is in cc)
   refused_or_memory (read.Given bytes) line why came.NoPort is h = absurd h
@@ -156,7 +156,7 @@ module _ {O : Type 0} (o : out.Ghosts O) (old new : O) (ended : Status) where
 -- ---- the promises
 
 module _ {P O : Type 0} (m : port.Ghosts P) (o : out.Ghosts O) (c : Replay) (desk new_desk : P) (old new : List P) (before after : O) (ended : Status)
-    (found : Came) (ran : IsRan m c found desk new_desk old new) (told : IsTold o (telling_of found) ended before after) where
+    (found : Came) (ran : IsReplayRun m c found desk new_desk old new) (told : IsTold o (telling_of found) ended before after) where
   asked_is : (answer : Option ReadAnswer) → ran.0 ≡ answer → IsCalled m (asked c.journal answer) desk new_desk
   asked_is answer is = subst (λ (a : Option ReadAnswer). IsCalled m (asked c.journal a) desk new_desk) is ran.2
 

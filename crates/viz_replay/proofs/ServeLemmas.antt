@@ -7,7 +7,7 @@ use Rattle.viz_base.specs.declared.call.Call.TheVariants.{Read}
 use Rattle.viz_base.specs.declared.call.ReadAnswer.{ReadAnswer}
 use Rattle.viz_base.specs.declared.call.ReadAnswer.TheVariants as read
 use Rattle.viz_journal.specs.declared.entry.JournalEntry.{JournalEntry}
-use Rattle.viz_journal.specs.Reading.{journal_of}
+use Rattle.viz_journal.specs.Reading.{journal_read}
 use Rattle.viz_replay.specs.declared.came.Came.{Came}
 use Rattle.viz_replay.specs.declared.came.Came.TheVariants as came
 use Rattle.viz_replay.specs.Replay.{Replay, asked, IsEndOfReplay}
@@ -26,7 +26,7 @@ asked_after m journal p r bytes told given kept later same = record {
   limit = same;
 }
 
-pub ends_after : {P : Type 0} (m : port.Ghosts P) (c : Replay) (bytes : List ℕ) (entries : List JournalEntry) (ended : Came) (old new : List P) → journal_of bytes ≡ Ok entries
+pub ends_after : {P : Type 0} (m : port.Ghosts P) (c : Replay) (bytes : List ℕ) (entries : List JournalEntry) (ended : Came) (old new : List P) → journal_read bytes ≡ Ok entries
     → IsServed m c entries ended old new → IsEndOfReplay m c (Some (read.Given bytes)) ended old new
 ends_after m c bytes entries (came.Updated l) old new reads s = (entries, reads, s)
 ends_after m c bytes entries came.Memory old new reads s = s

@@ -6,7 +6,7 @@ use Rattle.viz_base.specs.declared.out.Out as out
 use Rattle.viz_base.specs.declared.call.ReadAnswer.{ReadAnswer}
 use Rattle.viz_base.specs.declared.call.ReadAnswer.TheVariants as read
 use Rattle.viz_journal.specs.declared.entry.JournalEntry.{JournalEntry}
-use Rattle.viz_journal.specs.Reading.{journal_of}
+use Rattle.viz_journal.specs.Reading.{journal_read}
 use Rattle.viz_report.specs.declared.line.Line.{Line}
 use Rattle.viz_report.specs.declared.line.Line.TheVariants as line
 use Rattle.viz_report.specs.declared.line.Reason.{Reason}
@@ -23,7 +23,7 @@ use Rattle.viz_replay.specs.Told.{file_line, refused_line, update_line, update_s
 -- the journal was read, the sink was updated on the network of its first entries, with this line, and nothing else was done
 abbrev pub IsUpdatedFrom : {P : Type 0} → port.Ghosts P → Replay → Line → P → P → List P → List P → Type 0
 IsUpdatedFrom m c l desk new_desk old new =
-    (bytes : List ℕ) × (entries : List JournalEntry) × (journal_of bytes ≡ Ok entries) × IsUpdated m c entries l old new
+    (bytes : List ℕ) × (entries : List JournalEntry) × (journal_read bytes ≡ Ok entries) × IsUpdated m c entries l old new
     × IsCalled m (asked c.journal (Some (read.Given bytes))) desk new_desk
 
 -- a run that answers Done wrote the file of the sink, and told its numbers

@@ -6,7 +6,7 @@ use Rattle.viz_base.specs.declared.call.Call.TheVariants.{Read}
 use Rattle.viz_base.specs.declared.call.ReadAnswer.{ReadAnswer}
 use Rattle.viz_base.specs.declared.call.ReadAnswer.TheVariants as read
 use Rattle.viz_journal.specs.declared.entry.JournalEntry.{JournalEntry}
-use Rattle.viz_journal.specs.Reading.{edits_of, journal_of}
+use Rattle.viz_journal.specs.Reading.{edits_of, journal_read}
 use Rattle.viz_network.specs.Network.{Network}
 use Rattle.viz_network.specs.History.{net_of}
 use Rattle.viz_report.specs.declared.line.Line.{Line}
@@ -45,7 +45,7 @@ asked journal (Some answer) = Read journal answer ∷ []
 -- why a journal is refused, by what its read answered
 abbrev pub IsRefusal : ReadAnswer → ℕ → ScriptRefusal → Type 0
 IsRefusal (read.TooLong taken) line r = (line ≡ 0) × (r ≡ refusal.TooLong)
-IsRefusal (read.Given bytes) line r = journal_of bytes ≡ Err (line, r)
+IsRefusal (read.Given bytes) line r = journal_read bytes ≡ Err (line, r)
 IsRefusal read.Failed line r = ⊥
 
 -- the first port was used for an update of the sink on the network of the journal's first entries, and no other was
@@ -61,10 +61,10 @@ IsEndOfReplay m c (Some read.Failed) came.Unread old new = new ≡ old
 IsEndOfReplay m c (Some answer) (came.Refused line r) old new = IsRefusal answer line r × (new ≡ old)
 IsEndOfReplay m c (Some (read.Given bytes)) came.Memory old new = new ≡ old
 IsEndOfReplay m c (Some (read.Given bytes)) (came.Updated line) old new =
-    (entries : List JournalEntry) × (journal_of bytes ≡ Ok entries) × IsUpdated m c entries line old new
+    (entries : List JournalEntry) × (journal_read bytes ≡ Ok entries) × IsUpdated m c entries line old new
 IsEndOfReplay m c answer ended old new = ⊥
 
 -- a run over a desk and ports; where there is no port the desk isn't used
-abbrev pub IsRan : {P : Type 0} → port.Ghosts P → Replay → Came → P → P → List P → List P → Type 0
-IsRan m c ended desk new_desk old new =
+abbrev pub IsReplayRun : {P : Type 0} → port.Ghosts P → Replay → Came → P → P → List P → List P → Type 0
+IsReplayRun m c ended desk new_desk old new =
     (answer : Option ReadAnswer) × IsEndOfReplay m c answer ended old new × IsCalled m (asked c.journal answer) desk new_desk

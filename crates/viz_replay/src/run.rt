@@ -4,7 +4,7 @@ ghost use Rattle.std.specs.Prelude.{◌≡◌, ◌≢◌, ◌⊎◌};
 ghost use Rattle.viz_base.specs.Faults.{Rose, one_more};
 ghost use Rattle.viz_replay.specs.declared.came.Came.{Came as End};
 ghost use Rattle.viz_replay.specs.Promises.{IsDone, IsRefused, IsFault, IsScript, TellsRefusals};
-ghost use Rattle.viz_replay.specs.Replay.{IsRan};
+ghost use Rattle.viz_replay.specs.Replay.{IsReplayRun};
 ghost use Rattle.viz_replay.specs.Served.{replay_of};
 ghost use Rattle.viz_replay.specs.Told.{telling_of};
 ghost use Rattle.viz_told.specs.Ports.{FirstRose, OthersStay};
@@ -27,7 +27,7 @@ pub fn run_scratch<P: Port, O: Out>(
     out: &mut O,
 ) -> Status
     // What the run was: how it ended, and the line put of it.
-    ensures account { (came : End) × IsRan P.Port (replay_of command.now) came desk.old desk.new
+    ensures account { (came : End) × IsReplayRun P.Port (replay_of command.now) came desk.old desk.new
         ports.old.items ports.new.items × IsTold O.Out (telling_of came) result out.old out.new }
 
     // What follows of it for each status.

@@ -1,8 +1,8 @@
 //! A journal read, and its sink updated.
 
 ghost use Rattle.std.specs.Prelude.{◌≡◌, min, length, [], Ok};
-ghost use Rattle.viz_journal.specs.Reading.{journal_of};
-ghost use Rattle.viz_replay.specs.Replay.{IsEndOfReplay, IsRan, IsUpdated, entries_at};
+ghost use Rattle.viz_journal.specs.Reading.{journal_read};
+ghost use Rattle.viz_replay.specs.Replay.{IsEndOfReplay, IsReplayRun, IsUpdated, entries_at};
 ghost use Rattle.viz_replay.specs.Served.{replay_of, IsServed};
 
 use crate::came::Came;
@@ -61,7 +61,7 @@ fn serve_entries<P: Port>(
 
 /// Reads the journal from the desk, and updates the sink on the network of its first entries.
 fn serve_over<P: Port>(alloc: Global, command: &Replay<'_>, desk: &mut P, ports: &mut [P]) -> Came
-    ensures { IsRan P.Port (replay_of command.now) result desk.old desk.new ports.old ports.new }
+    ensures { IsReplayRun P.Port (replay_of command.now) result desk.old desk.new ports.old ports.new }
 {
     let bytes = match desk.read(alloc, command.journal) {
         Ok(bytes) => bytes,
@@ -86,7 +86,7 @@ fn serve_over<P: Port>(alloc: Global, command: &Replay<'_>, desk: &mut P, ports:
 
 /// The same over the list of ports. Where there is no port the desk isn't used.
 pub fn serve<P: Port>(alloc: Global, command: &Replay<'_>, desk: &mut P, ports: &mut Vec<P>) -> Came
-    ensures ran { IsRan P.Port (replay_of command.now) result desk.old desk.new
+    ensures ran { IsReplayRun P.Port (replay_of command.now) result desk.old desk.new
         ports.old.items ports.new.items }
     ensures no_port { ports.old.items ≡ [] → result ≡ Came.NoPort }
 {

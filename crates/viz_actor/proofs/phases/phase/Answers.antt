@@ -1,6 +1,6 @@
 use Rattle.std.proofs.Common.{◌≡◌, ◌+◌, ◌++◌, ◌≤◌, length, map, sym, subst, ap, ◌∙◌, arith}
 use Rattle.std.specs.List.{All}
-use Rattle.viz_actor.specs.Places.{IsReady, HasPass, IsPhase, IsTold, without, untold, all_new_rows, collected}
+use Rattle.viz_actor.specs.Places.{IsReady, HasPass, IsPhase, IsPlaceTold, without, untold, all_new_rows, collected}
 use Rattle.viz_actor.proofs.PhaseLemmas.{given, split_ready, split_root, did}
 use Rattle.viz_actor.proofs.DoneLemmas.{did_ready, told_rows, phase_done}
 use Rattle.viz_actor.proofs.phases.phase.Goals as goal
@@ -23,7 +23,7 @@ pub collect_all-requires-clause-told : goal.collect_all-requires-clause-told
 collect_all-requires-clause-told g c =
     let d = did g.P.Port c.args.hub.now.mark c.args.steps.now 1 c.args.root c.args.places.now c.split_all-root.new.places c.serve_places.new.places c.split_all-root.result c.split_all-root.ensures c.serve_places.ensures.each c.serve_places.ensures.len in
     let r = told_rows g.P.Port c.args.hub.now.mark c.args.steps.now c.args.root.turn c.args.root.seen 1 _ d.0 c.args.places.now c.serve_places.new.places c.requires.room d.1 in
-    subst (All IsTold) (sym c.join_all-root.ensures.rest) r.2
+    subst (All IsPlaceTold) (sym c.join_all-root.ensures.rest) r.2
 
 pub collect_all-requires-clause-room : goal.collect_all-requires-clause-room
 collect_all-requires-clause-room g c =

@@ -1,7 +1,7 @@
 use Rattle.std.proofs.Common.{◌≡◌, ◌+◌, ◌++◌, ◌∷◌, [], length, length-append, append-nil, drop, sym, ap, ◌∙◌, arith, rules}
 use Rattle.std.proofs.lemmas.List.{nil_from_length}
 use Rattle.std.proofs.lemmas.List.Elements.{All-rest}
-use Rattle.viz_actor.specs.Places.{IsTold, untold, new_rows, all_new_rows}
+use Rattle.viz_actor.specs.Places.{IsPlaceTold, untold, new_rows, all_new_rows}
 use Rattle.viz_actor.proofs.RowLemmas.{rows_length}
 use Rattle.viz_actor.proofs.rows.+collect_all.Goals as goal
 
@@ -10,7 +10,7 @@ collect_all-requires g m c =
     let s = c.in-Some.first.now in
     let all : untold c.args.places.now ≡ length (drop s.told s.lines.items) + untold c.in-Some.rest.now = ap untold c.in-Some.ensures.cases.0 in
     let added = ap length c.collect.ensures.rows ∙ length-append c.args.rows.now.items (new_rows s) in
-    let told = All-rest IsTold s c.in-Some.rest.now c.args.places.now c.in-Some.ensures.cases.0 c.requires.told in
+    let told = All-rest IsPlaceTold s c.in-Some.rest.now c.args.places.now c.in-Some.ensures.cases.0 c.requires.told in
     let len = rows_length s.actor (s.told + 1) (drop s.told s.lines.items) in
     λ κs le. (search rules, (le, (omega (arith, all, added, len, c.requires.room, c.collect.ensures.capacity), told)))
 
