@@ -1,6 +1,7 @@
 //! Planes by hand: the indices of their true bits.
 
 use std::alloc::{AllocError, Global};
+use std::fmt::Debug;
 use std::process::Abort;
 use std::test::Fail;
 use viz_lanes::{
@@ -116,109 +117,134 @@ fn numbers_are_kept_where_they_stand(rt: HostRuntime) -> Result<(), Fail> {
     Ok(())
 }
 
-// Both ends of a type as bounds, and a lower bound above the upper one.
-macro_rules! ends {
-    ($rt:expr, $number:ident, $at_least:ident, $within:ident) => {{
-        let alloc = $rt.alloc();
-        let (least, most) = ($number::MIN, $number::MAX);
-        let xs = mixed(alloc, 65, least, most)?;
-        only_most($rt, $at_least(alloc, &xs, most))?;
-        only_most($rt, $within(alloc, &xs, least + 1, most))?;
-        many($rt, $within(alloc, &xs, least, most - 1), 61)?;
-        many($rt, $within(alloc, &xs, most, least), 0)
-    }};
+/// A type of numbers with its kernels.
+trait Lane: Copy + PartialEq + Debug {
+    fn at_least(alloc: Global, numbers: &[Self], bound: Self) -> Result<Bits, AllocError>;
+
+    fn within(alloc: Global, numbers: &[Self], lo: Self, hi: Self) -> Result<Bits, AllocError>;
+
+    fn keep(alloc: Global, numbers: &[Self], lo: Self, hi: Self) -> Result<Vec<Self>, AllocError>;
 }
 
-#[test]
-fn i8_has_its_ends(rt: HostRuntime) -> Result<(), Fail> {
-    ends!(&rt, i8, at_least_i8, within_i8)
-}
+macro_rules! lane {
+    ($number:ident, $at_least:ident, $within:ident, $keep:ident) => {
+        impl Lane for $number {
+            fn at_least(alloc: Global, numbers: &[$number], bound: $number) -> Result<Bits, AllocError> {
+                $at_least(alloc, numbers, bound)
+            }
 
-#[test]
-fn u8_has_its_ends(rt: HostRuntime) -> Result<(), Fail> {
-    ends!(&rt, u8, at_least_u8, within_u8)
-}
+            fn within(alloc: Global, numbers: &[$number], lo: $number, hi: $number) -> Result<Bits, AllocError> {
+                $within(alloc, numbers, lo, hi)
+            }
 
-#[test]
-fn i16_has_its_ends(rt: HostRuntime) -> Result<(), Fail> {
-    ends!(&rt, i16, at_least_i16, within_i16)
-}
-
-#[test]
-fn u16_has_its_ends(rt: HostRuntime) -> Result<(), Fail> {
-    ends!(&rt, u16, at_least_u16, within_u16)
-}
-
-#[test]
-fn i32_has_its_ends(rt: HostRuntime) -> Result<(), Fail> {
-    ends!(&rt, i32, at_least_i32, within_i32)
-}
-
-#[test]
-fn u32_has_its_ends(rt: HostRuntime) -> Result<(), Fail> {
-    ends!(&rt, u32, at_least_u32, within_u32)
-}
-
-#[test]
-fn i64_has_its_ends(rt: HostRuntime) -> Result<(), Fail> {
-    ends!(&rt, i64, at_least_i64, within_i64)
-}
-
-#[test]
-fn u64_has_its_ends(rt: HostRuntime) -> Result<(), Fail> {
-    ends!(&rt, u64, at_least_u64, within_u64)
-}
-
-// Lengths round a word of 64.
-const LENGTHS: [u64; 6] = [0, 1, 63, 64, 65, 67];
-
-// What is left of a type's least numbers and its greatest at each length, and of these and 1,
-// where the lowest is left out, and where the highest is.
-macro_rules! keeps {
-    ($rt:expr, $number:ident, $keep:ident) => {{
-        let alloc = $rt.alloc();
-        let (least, most) = ($number::MIN, $number::MAX);
-        for length in LENGTHS {
-            let xs = mixed(alloc, length, least, most)?;
-            let high = $keep(alloc, &xs, 1, most)?;
-            let want = mixed(alloc, length, 0, most)?;
-            assert_eq!($rt; high.as_slice(), want.as_slice(), "above of {length}");
-            let low = $keep(alloc, &xs, least, 1)?;
-            let want = mixed(alloc, length, least, 0)?;
-            assert_eq!($rt; low.as_slice(), want.as_slice(), "below of {length}");
+            fn keep(alloc: Global, numbers: &[$number], lo: $number, hi: $number) -> Result<Vec<$number>, AllocError> {
+                $keep(alloc, numbers, lo, hi)
+            }
         }
-        let high = $keep(alloc, &[least, 1, most], 1, most)?;
-        assert_eq!($rt; high.as_slice(), [0, 1, most].as_slice());
-        let low = $keep(alloc, &[least, 1, most], least, 1)?;
-        assert_eq!($rt; low.as_slice(), [least, 1, 0].as_slice());
-    }};
+    };
+}
+
+lane!(i8, at_least_i8, within_i8, keep_within_i8);
+
+lane!(u8, at_least_u8, within_u8, keep_within_u8);
+
+lane!(i16, at_least_i16, within_i16, keep_within_i16);
+
+lane!(u16, at_least_u16, within_u16, keep_within_u16);
+
+lane!(i32, at_least_i32, within_i32, keep_within_i32);
+
+lane!(u32, at_least_u32, within_u32, keep_within_u32);
+
+lane!(i64, at_least_i64, within_i64, keep_within_i64);
+
+lane!(u64, at_least_u64, within_u64, keep_within_u64);
+
+// Both ends of a type as bounds, and a lower bound above the upper one. Of the type these are the
+// least two numbers and the greatest two.
+fn ends<T: Lane>(
+    rt: &impl Abort,
+    alloc: Global,
+    [least, second, former, most]: [T; 4],
+) -> Result<(), Fail> {
+    let numbers = mixed(alloc, 65, least, most)?;
+    only_most(rt, T::at_least(alloc, &numbers, most))?;
+    only_most(rt, T::within(alloc, &numbers, second, most))?;
+    many(rt, T::within(alloc, &numbers, least, former), 61)?;
+    many(rt, T::within(alloc, &numbers, most, least), 0)
 }
 
 #[test]
-fn numbers_of_eight_bits_are_kept(rt: HostRuntime) -> Result<(), Fail> {
-    keeps!(&rt, i8, keep_within_i8);
-    keeps!(&rt, u8, keep_within_u8);
+fn each_type_has_its_ends_as_bounds(rt: HostRuntime) -> Result<(), Fail> {
+    let alloc = rt.alloc();
+    ends(&rt, alloc, [i8::MIN, i8::MIN + 1, i8::MAX - 1, i8::MAX])?;
+    ends(&rt, alloc, [u8::MIN, u8::MIN + 1, u8::MAX - 1, u8::MAX])?;
+    ends(&rt, alloc, [i16::MIN, i16::MIN + 1, i16::MAX - 1, i16::MAX])?;
+    ends(&rt, alloc, [u16::MIN, u16::MIN + 1, u16::MAX - 1, u16::MAX])?;
+    ends(&rt, alloc, [i32::MIN, i32::MIN + 1, i32::MAX - 1, i32::MAX])?;
+    ends(&rt, alloc, [u32::MIN, u32::MIN + 1, u32::MAX - 1, u32::MAX])?;
+    ends(&rt, alloc, [i64::MIN, i64::MIN + 1, i64::MAX - 1, i64::MAX])?;
+    ends(&rt, alloc, [u64::MIN, u64::MIN + 1, u64::MAX - 1, u64::MAX])?;
+    Ok(())
+}
+
+// What is left of a type's least numbers and its greatest at each length round a word of 64, where
+// the lowest is left out, and where the highest is. Zero stands in the place of what is left out.
+fn keeps<T: Lane>(
+    rt: &impl Abort,
+    alloc: Global,
+    [least, zero, one, most]: [T; 4],
+) -> Result<(), Fail> {
+    for length in [0, 1, 63, 64, 65, 67] {
+        let numbers = mixed(alloc, length, least, most)?;
+        let high = T::keep(alloc, &numbers, one, most)?;
+        let want = mixed(alloc, length, zero, most)?;
+        assert_eq!(rt; high.as_slice(), want.as_slice(), "above of {length}");
+        let low = T::keep(alloc, &numbers, least, one)?;
+        let want = mixed(alloc, length, least, zero)?;
+        assert_eq!(rt; low.as_slice(), want.as_slice(), "below of {length}");
+    }
+    Ok(())
+}
+
+// The same of the least number, 1 and the greatest.
+fn keeps_one<T: Lane>(
+    rt: &impl Abort,
+    alloc: Global,
+    [least, zero, one, most]: [T; 4],
+) -> Result<(), Fail> {
+    let high = T::keep(alloc, &[least, one, most], one, most)?;
+    assert_eq!(rt; high.as_slice(), [zero, one, most].as_slice());
+    let low = T::keep(alloc, &[least, one, most], least, one)?;
+    assert_eq!(rt; low.as_slice(), [least, one, zero].as_slice());
     Ok(())
 }
 
 #[test]
-fn numbers_of_sixteen_bits_are_kept(rt: HostRuntime) -> Result<(), Fail> {
-    keeps!(&rt, i16, keep_within_i16);
-    keeps!(&rt, u16, keep_within_u16);
+fn numbers_of_each_type_are_kept(rt: HostRuntime) -> Result<(), Fail> {
+    let alloc = rt.alloc();
+    keeps(&rt, alloc, [i8::MIN, 0, 1, i8::MAX])?;
+    keeps(&rt, alloc, [u8::MIN, 0, 1, u8::MAX])?;
+    keeps(&rt, alloc, [i16::MIN, 0, 1, i16::MAX])?;
+    keeps(&rt, alloc, [u16::MIN, 0, 1, u16::MAX])?;
+    keeps(&rt, alloc, [i32::MIN, 0, 1, i32::MAX])?;
+    keeps(&rt, alloc, [u32::MIN, 0, 1, u32::MAX])?;
+    keeps(&rt, alloc, [i64::MIN, 0, 1, i64::MAX])?;
+    keeps(&rt, alloc, [u64::MIN, 0, 1, u64::MAX])?;
     Ok(())
 }
 
 #[test]
-fn numbers_of_thirty_two_bits_are_kept(rt: HostRuntime) -> Result<(), Fail> {
-    keeps!(&rt, i32, keep_within_i32);
-    keeps!(&rt, u32, keep_within_u32);
-    Ok(())
-}
-
-#[test]
-fn numbers_of_sixty_four_bits_are_kept(rt: HostRuntime) -> Result<(), Fail> {
-    keeps!(&rt, i64, keep_within_i64);
-    keeps!(&rt, u64, keep_within_u64);
+fn one_is_kept_at_both_ends(rt: HostRuntime) -> Result<(), Fail> {
+    let alloc = rt.alloc();
+    keeps_one(&rt, alloc, [i8::MIN, 0, 1, i8::MAX])?;
+    keeps_one(&rt, alloc, [u8::MIN, 0, 1, u8::MAX])?;
+    keeps_one(&rt, alloc, [i16::MIN, 0, 1, i16::MAX])?;
+    keeps_one(&rt, alloc, [u16::MIN, 0, 1, u16::MAX])?;
+    keeps_one(&rt, alloc, [i32::MIN, 0, 1, i32::MAX])?;
+    keeps_one(&rt, alloc, [u32::MIN, 0, 1, u32::MAX])?;
+    keeps_one(&rt, alloc, [i64::MIN, 0, 1, i64::MAX])?;
+    keeps_one(&rt, alloc, [u64::MIN, 0, 1, u64::MAX])?;
     Ok(())
 }
 
