@@ -1,5 +1,5 @@
 use Rattle.std.proofs.Common.{length}
-use Rattle.viz_turn.proofs.tests.+join_all.Given as goal
+use Rattle.viz_thread_tests.proofs.passes.+join_all.Given as goal
 
 abbrev pub decreases-join_all : goal.decreases-join_all
 decreases-join_all l = length l.writers.now

@@ -2,7 +2,7 @@ use Rattle.std.proofs.Common.{◌≡◌, ◌+◌, sym, subst, ap, ◌∙◌}
 use Rattle.viz_surface_law.specs.Audit.{count_sides, count_two, count_lone, count_border}
 use Rattle.viz_surface_law.specs.Contours.{triangles_of}
 use Rattle.viz_surface_law.specs.Surfaces.{IsSurface, by_edges}
-use Rattle.viz_surface_law.proofs.contour_tests.audited.Goals as goal
+use Rattle.viz_contour_tests.proofs.audited_contours.audited.Goals as goal
 
 pub audit-requires : goal.audit-requires
 audit-requires c =
