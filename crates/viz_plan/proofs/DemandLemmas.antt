@@ -13,7 +13,7 @@ use Rattle.viz_plan_meaning.specs.Laws.{inputs_of, tasks_of, used_of}
 use Rattle.viz_plan_meaning.specs.Levels.{AllUnder, Tasks, at_level, needs_of, with_levels}
 use Rattle.viz_plan.specs.Sites.{SitesData, known_in}
 use Rattle.viz_plan.specs.Told.{AreLevelsOf, known_with}
-use Rattle.viz_plan.specs.declared.told.Told.{Told}
+use Rattle.viz_inform.specs.declared.told.Told.{Told}
 
 module _ (s : SitesData) (net : Network) (told : List Told) (entries : List Stored) (a : s.net ≡ net) (b : s.told ≡ told) (c : s.entries ≡ entries) where
   known_is : known_in s ≡ known_with net told entries

@@ -10,7 +10,7 @@ use Rattle.viz_plan_meaning.specs.Known.{Known, is_stamp, ports_extent}
 use Rattle.viz_network.specs.Network.{Network}
 use Rattle.viz_plan.specs.Told.{known_with}
 use Rattle.viz_plan.specs.declared.sites.Site.{Site}
-use Rattle.viz_plan.specs.declared.told.Told.{Told}
+use Rattle.viz_inform.specs.declared.told.Told.{Told}
 
 -- whether a kept part is of the node with its stamp
 abbrev pub is_present : Option ℕ → ℕ → Stored → Bool

@@ -11,7 +11,7 @@ use Rattle.viz_parts.specs.declared.stored.Stored.{Stored}
 use Rattle.viz_plan_meaning.specs.Known.{Known}
 use Rattle.viz_plan_meaning.specs.Laws.{tasks_of}
 use Rattle.viz_plan_meaning.specs.Levels.{AllUnder, at_level, needs_of}
-use Rattle.viz_plan.specs.declared.told.Told.{Told}
+use Rattle.viz_inform.specs.declared.told.Told.{Told}
 
 -- the extent of an image; none of a mesh
 abbrev pub extent_of : Information → Option Bounds

@@ -1,7 +1,6 @@
 //! What an update of a node needs.
 
-ghost use Rattle.std.specs.Prelude.{◌≡◌, IfOk, IfSome, Some, map, slice_get};
-ghost use Rattle.viz_network.specs.Step.{nodes_of};
+ghost use Rattle.std.specs.Prelude.{◌≡◌, IfOk, map};
 ghost use Rattle.std.specs.List.{All};
 ghost use Rattle.viz_plan_meaning.specs.Laws.{used_of};
 ghost use Rattle.viz_kept.specs.True.{HasStamp};
@@ -11,25 +10,14 @@ ghost use Rattle.viz_plan.specs.Told.{AreLevelsOf, extent_told, known_with, need
 
 use crate::keys::{all_keyed, keyed};
 use crate::sites::sites_of;
-use crate::told::{Told, extent_told};
+use crate::told::extent_told;
 use std::alloc::{AllocError, Global};
 use viz_base::{NodeId, Shape};
-use viz_network::{Net, Step};
+use viz_inform::{Told, place_of};
+use viz_network::Net;
 use viz_parts::{Key, Request, Stored};
 use viz_plan_walk::{Need, by_levels, plan_to, task_steps, with_levels};
 use viz_requests::requests_of;
-
-// The place of the step of a node.
-fn place_of(steps: &[Step], node: NodeId) -> Option<usize>
-    ensures { IfSome result (λ k. slice_get (nodes_of steps.now) k ≡ Some node) }
-{
-    for (place, step) in steps.iter().enumerate() {
-        if step.node == node {
-            return Some(place);
-        }
-    }
-    None
-}
 
 /// What has to be made for an update, level by level, and which keys of the kept are used, in the
 /// order of their first use. The tasks of a level use kept parts and those of lower levels alone.
@@ -68,7 +56,7 @@ fn leveled(
 
 /// What an update of a node in so many pieces has to make, and what of the kept it uses.
 ///
-/// `told` is what is known of the nodes upstream, and `entries` what is kept, in the cache's order.
+/// `told` is what `inform` tells of the node, and `entries` what is kept, in the cache's order.
 /// Requests to a writer go to what feeds it. `Err` is want of memory, or comes where no such node
 /// is there, or where a node can't be asked for what is needed of it, as it always can by true
 /// information.

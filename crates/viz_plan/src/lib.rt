@@ -1,8 +1,9 @@
 //! What an update of a node has to make, and what it finds kept.
 //!
-//! Contract: `demand` gives just the plan of the definitions of `viz_plan_meaning` and the entries
-//! that it uses. Definitions: `specs/Told.antt`; `specs/Sites.antt` has the words of private
-//! contracts.
+//! Contract: `inform`, that of viz_inform, tells what is known of all that lies upstream, or the
+//! first fault; `demand` gives just the plan of the definitions of `viz_plan_meaning` and the
+//! entries that it uses. Definitions: `specs/Told.antt`; `specs/Sites.antt` has the words of
+//! private contracts.
 #![tactic(auto)]
 
 mod demanding;
@@ -11,4 +12,4 @@ mod sites;
 mod told;
 
 pub use demanding::{Plan, demand};
-pub use told::Told;
+pub use viz_inform::{Told, inform};

@@ -8,11 +8,12 @@ ghost use Rattle.viz_requests.specs.Serving.{serves};
 ghost use Rattle.viz_plan.specs.Told.{extent_told, known_with};
 ghost use Rattle.viz_plan.specs.Sites.{AreSites, IsSite, extent_at, first_extent, is_present, known_in, present};
 
-use crate::told::{Told, extent_told};
+use crate::told::extent_told;
 use std::alloc::{AllocError, Global};
 use std::marker::Model;
 use viz_base::NodeId;
 use viz_extent::Extent;
+use viz_inform::Told;
 use viz_network::{Net, Settings, Stamps, Step};
 use viz_parts::{Request, Stored};
 use viz_plan_walk::Asking;

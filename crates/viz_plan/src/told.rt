@@ -1,18 +1,12 @@
-//! What is told of nodes.
+//! What is told of the extents of nodes.
 
 ghost use Rattle.std.specs.Prelude.{◌≡◌};
 ghost use Rattle.viz_plan.specs.Told.{extent_of, extent_told};
 
 use viz_base::NodeId;
 use viz_extent::Extent;
+use viz_inform::Told;
 use viz_node_meaning::Information;
-
-/// What is known of a node's dataset before its numbers are.
-#[derive(Clone, Copy, Debug)]
-pub struct Told {
-    pub node: NodeId,
-    pub information: Information,
-}
 
 // The extent of an image; None of a mesh.
 fn extent_of(information: &Information) -> Option<Extent>

@@ -3,12 +3,12 @@
 use std::alloc::Global;
 use std::marker::Model;
 use std::test::Fail;
-use viz_base::{NodeId, Shape, Shared, Word};
+use viz_base::{Bytes, NodeId, Shape, Shared, Word};
 use viz_extent::Extent;
-use viz_network::{ApplyStop, Edit, Kind, Net, networks_are_sound};
+use viz_network::{ApplyStop, Cause, Edit, Kind, Net, Stop, networks_are_sound};
 use viz_node_meaning::{Grid, Information, Lengths};
 use viz_parts::{Key, Part, Request, Stored};
-use viz_plan::{Plan, Told, demand};
+use viz_plan::{Plan, Told, demand, inform};
 
 // A network and the position of its last edit.
 #[derive(Drop)]
@@ -159,11 +159,22 @@ fn demanded(
     let told = told(alloc, &story, images)?;
     let entries = stored(alloc, &story, kept)?;
     let sink = story.node(sink)?;
+    planned(alloc, &story, &told, &entries, sink, pieces)
+}
+
+fn planned(
+    alloc: Global,
+    story: &Story,
+    told: &[Told],
+    entries: &[Stored],
+    sink: NodeId,
+    pieces: u32,
+) -> Result<(usize, usize, usize), Fail> {
     if pieces == 0 || pieces > 64 {
         return Err("a number of pieces")?;
     }
     let shape = Shape { pieces, workers: 1 };
-    Ok(counts(&demand(alloc, &story.net, &told, &entries, sink, &shape)?))
+    Ok(counts(&demand(alloc, &story.net, told, entries, sink, &shape)?))
 }
 
 // An image of eight points, its threshold and a crop of that.
@@ -258,6 +269,73 @@ fn a_node_on_two_ways_is_made_once(rt: HostRuntime) -> Result<(), Fail> {
     ] {
         let got = demanded(rt.alloc(), &TWICE, &images, &[], sink, pieces)?;
         assert_eq!(rt; got, want, "{sink} {pieces}");
+    }
+    Ok(())
+}
+
+const POINTS: &str = "# vtk DataFile Version 3.0
+eight
+ASCII
+DATASET STRUCTURED_POINTS
+DIMENSIONS 2 2 2
+ORIGIN 0 0 0
+SPACING 1 1 1
+POINT_DATA 8
+SCALARS s short
+LOOKUP_TABLE default
+0 1 2 3 4 5 6 7
+";
+
+fn load(alloc: Global, story: &mut Story, text: &str) -> Result<(), Fail> {
+    let file = Shared::new(alloc, Bytes::new(text.as_bytes().to_vec(alloc)?))?;
+    let node = word("src")?;
+    story.apply(&Edit::Load { node, file })?;
+    Ok(())
+}
+
+// What is told of a node's cone, or the cause of its first fault.
+fn known(alloc: Global, story: &Story, node: NodeId) -> Result<Result<Vec<Told>, Cause>, Fail> {
+    if story.net.node(node).is_none() {
+        return Err("no node".into());
+    }
+    match inform(alloc, &story.net, node) {
+        Ok(told) => Ok(Ok(told)),
+        Err(Stop::Fault(fault)) => Ok(Err(fault.cause)),
+        Err(Stop::Memory) => Err("out of memory".into()),
+    }
+}
+
+// How many nodes are told, and the plan by them.
+fn informed(
+    alloc: Global,
+    story: &Story,
+    sink: &str,
+    pieces: u32,
+) -> Result<Result<(usize, (usize, usize, usize)), Cause>, Fail> {
+    let sink = story.node(sink)?;
+    match known(alloc, story, sink)? {
+        Ok(told) => {
+            let plan = planned(alloc, story, &told, &[], sink, pieces)?;
+            Ok(Ok((told.len(), plan)))
+        }
+        Err(cause) => Ok(Err(cause)),
+    }
+}
+
+#[test]
+fn what_is_informed_is_planned(rt: HostRuntime) -> Result<(), Fail> {
+    let alloc = rt.alloc();
+    let mut story = network(alloc, &CROPPED)?;
+    let bare = informed(alloc, &story, "c", 1)?;
+    assert_eq!(rt; bare, Err(Cause::NoFile), "no file");
+    load(alloc, &mut story, POINTS)?;
+    for (sink, pieces, want) in [
+        ("c", 1, (3, (3, 3, 0))),
+        ("c", 2, (3, (5, 3, 0))),
+        ("t", 2, (2, (3, 2, 0))),
+    ] {
+        let got = informed(alloc, &story, sink, pieces)?;
+        assert_eq!(rt; got, Ok(want), "{sink} {pieces}");
     }
     Ok(())
 }

@@ -7,12 +7,13 @@ ghost use Rattle.viz_node_meaning.specs.Data.{DataRule};
 ghost use Rattle.viz_node_meaning.specs.Fold.{IsMade};
 ghost use Rattle.viz_scratch.specs.Steps.Readers.{AreReaders};
 ghost use Rattle.viz_node_rules.specs.Places.{AreSoundIn};
-ghost use Rattle.viz_scratch.specs.Steps.Table.{told, IsTable, is_read, IsReleased};
+ghost use Rattle.viz_inform.specs.Table.{told, IsTable};
+ghost use Rattle.viz_scratch.specs.Steps.Table.{is_read, IsReleased};
 
-use crate::gathered::fault_in;
 use std::alloc::{AllocError, Global};
 use viz_base::Shared;
 use viz_dataset::Dataset;
+use viz_inform::fault_in;
 use viz_network::{Fault, Net, Node, Step};
 use viz_node_rules::{Held, OwnStop, own_dataset};
 

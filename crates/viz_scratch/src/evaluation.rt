@@ -7,38 +7,16 @@ ghost use Rattle.viz_network.specs.Network.{node_of};
 ghost use Rattle.viz_network.specs.Step.{AreSteps, nodes_of};
 ghost use Rattle.viz_node_meaning.specs.Data.{DataRule};
 ghost use Rattle.viz_node_meaning.specs.Fold.{IsGiven};
-ghost use Rattle.viz_node_meaning.specs.Information.{InformationRule};
 ghost use Rattle.viz_node_meaning.specs.Scratch.{IsScratch, Answers};
-ghost use Rattle.viz_scratch.specs.Steps.Informed.{IsInformedAs};
 
 use crate::datasets::data_pass;
-use crate::headers::information_pass;
-use crate::readers::{last_readers, place_of};
+use crate::readers::last_readers;
 use std::alloc::{AllocError, Global};
 use viz_base::{NodeId, Shared};
 use viz_dataset::Dataset;
+use viz_inform::{information_fault, place_of};
 use viz_network::{Fault, Net, Step, Stop};
 use viz_node_rules::Held;
-
-// The first information fault at or above a node, whose step stands at this place.
-fn information_fault(
-    alloc: Global,
-    net: &Net,
-    steps: &[Step],
-    sink: usize,
-    node: NodeId,
-) -> Result<Option<Fault>, AllocError>
-    requires steps { AreSteps net.now steps.now }
-    requires at { slice_get (nodes_of steps.now) sink ≡ Some node }
-    ensures { IfOk result (IsInformedAs (IsGiven InformationRule (cone_of net.now node.0))) }
-{
-    let known = information_pass(alloc, net, steps)?;
-    match known.get(sink) {
-        Some(Some(Err(fault))) => Ok(Some(*fault)),
-        Some(Some(Ok(_))) => Ok(None),
-        _ => Err(AllocError),
-    }
-}
 
 // What a step gives.
 fn taken(table: &[Held], sink: usize) -> Result<Result<Shared<Dataset>, Fault>, AllocError>

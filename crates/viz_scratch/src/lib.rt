@@ -9,8 +9,6 @@
 mod counts;
 mod datasets;
 mod evaluation;
-mod gathered;
-mod headers;
 mod laws;
 mod readers;
 mod stored;

@@ -1,25 +1,10 @@
-//! Which steps are asked for, and where each is read last.
+//! Where each step that is asked for is read last.
 
-ghost use Rattle.std.specs.Prelude.{◌≡◌, ◌≢◌, ◌∷◌, [], ◌<◌, ◌≤◌, ℕ, IfOk, IfSome, length, slice_get, slice_index_or, None, Some};
-ghost use Rattle.viz_network.specs.Step.{nodes_of};
+ghost use Rattle.std.specs.Prelude.{◌≡◌, ◌∷◌, [], ◌<◌, ◌≤◌, IfOk, length, slice_index_or};
 ghost use Rattle.viz_scratch.specs.Steps.Readers.{AreBefore, AreBehind, AreReaders, IsRaised};
 
 use std::alloc::{AllocError, Global};
-use viz_base::NodeId;
 use viz_network::Step;
-
-/// The place of the step of a node.
-pub fn place_of(steps: &[Step], node: NodeId) -> Option<usize>
-    ensures some { IfSome result (λ p. slice_get (nodes_of steps.now) p ≡ Some node) }
-    ensures none { result ≡ None → (p : ℕ) → slice_get (nodes_of steps.now) p ≢ Some node }
-{
-    for (place, step) in steps.iter().enumerate() {
-        if step.node == node {
-            return Some(place);
-        }
-    }
-    None
-}
 
 // A place is read at step k.
 fn raise_one(last: &mut Vec<usize>, place: &Option<usize>, k: usize)

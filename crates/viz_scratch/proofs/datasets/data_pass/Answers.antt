@@ -1,15 +1,15 @@
-use Rattle.std.proofs.Common.{◌≡◌, ℕ, zero, suc, ◌+◌, ◌<◌, ◌++◌, ◌∷◌, [], List, get_or, Some, None, Ok, Result, refl, sym, ap, subst, ◌∙◌, rules, arith}
+use Rattle.std.proofs.Common.{◌≡◌, ℕ, zero, suc, ◌+◌, ◌<◌, [], get_or, Some, refl, sym, ap, subst, ◌∙◌, rules, arith}
 use Rattle.std.specs.Option.{option_copied}
 use Rattle.std.proofs.lemmas.Option.{slice_get-get_or}
-use Rattle.viz_dataset.specs.declared.dataset.Dataset.{Dataset}
 use Rattle.viz_legacy_read.specs.Reading.{IsSound}
-use Rattle.viz_network.specs.declared.fault.Fault.{Fault}
 use Rattle.viz_network.specs.declared.steps.Step.{Step}
 use Rattle.viz_network.specs.Step.{nodes_of}
 use Rattle.viz_node_meaning.specs.Fold.{IsMade}
 use Rattle.viz_node_meaning.specs.Data.{DataRule}
-use Rattle.viz_scratch.specs.Steps.Table.{IsTable, is_read, told}
-use Rattle.viz_scratch.proofs.TableLemmas.{lent_there, has_read, more_table, skip_table, released_table, sound_value}
+use Rattle.viz_inform.specs.Table.{IsTable, told}
+use Rattle.viz_scratch.specs.Steps.Table.{is_read}
+use Rattle.viz_inform.proofs.TableLemmas.{lent_there, more_table}
+use Rattle.viz_scratch.proofs.TableLemmas.{has_read, skip_table, released_table, sound_value}
 use Rattle.viz_scratch.proofs.datasets.data_pass.Goals as goal
 use Rattle.viz_scratch.proofs.datasets.data_pass.Goals.{then-last-k-eq0+in_ok-push, else-last-k-eq0+in_ok-value+in_ok-push-2}
 

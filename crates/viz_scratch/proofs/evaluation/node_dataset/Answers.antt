@@ -1,9 +1,8 @@
-use Rattle.std.proofs.Common.{◌≡◌, Some, Result, Ok, Err, IfOk, sym, ap, subst, ◌∙◌}
+use Rattle.std.proofs.Common.{◌≡◌, Some, subst}
 use Rattle.std.specs.List.{slice_get}
-use Rattle.viz_dataset.specs.declared.dataset.Dataset.{Dataset}
 use Rattle.viz_legacy_read.specs.Reading.{IsSound}
-use Rattle.viz_network.specs.declared.fault.Fault.{Fault}
-use Rattle.viz_scratch.proofs.TableLemmas.{behind_of, place_within, if_ok_more, sound_of_value}
+use Rattle.viz_inform.proofs.TableLemmas.{place_within}
+use Rattle.viz_scratch.proofs.TableLemmas.{behind_of, if_ok_more, sound_of_value}
 use Rattle.viz_scratch.proofs.evaluation.node_dataset.Goals as goal
 
 pub last_readers-requires-clause-within : goal.last_readers-requires-clause-within

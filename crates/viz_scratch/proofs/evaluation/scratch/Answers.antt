@@ -1,9 +1,9 @@
-use Rattle.std.proofs.Common.{◌≡◌, None, Some, Ok, Err, refl, subst}
+use Rattle.std.proofs.Common.{Ok, Err, refl, subst}
 use Rattle.viz_network.specs.Cone.{cone_of}
 use Rattle.viz_node_meaning.specs.Data.{DataRule}
 use Rattle.viz_node_meaning.specs.Fold.{IsGiven}
 use Rattle.viz_node_meaning.specs.Information.{InformationRule}
-use Rattle.viz_scratch.specs.Steps.Informed.{IsInformedAs}
+use Rattle.viz_inform.specs.Informed.{IsInformedAs}
 use Rattle.viz_scratch.proofs.evaluation.scratch.Goals as goal
 
 pub returns-in-Some-2-clause-value : goal.returns-in-Some-2-clause-value

@@ -1,4 +1,4 @@
-use Rattle.std.proofs.Common.{◌≡◌, ◌≤◌, ◌-◌, length, get_or}
+use Rattle.std.proofs.Common.{◌≡◌, ◌≤◌, length, get_or}
 use Rattle.viz_scratch.specs.Steps.Readers.{AreReadersFrom}
 use Rattle.viz_scratch.proofs.readers.last_readers.Given as goal
 

@@ -1,19 +1,23 @@
 //! The information pass: what is known of each step before numbers are, by headers alone.
 
-ghost use Rattle.std.specs.Prelude.{◌≡◌, IfOk, length, map};
-ghost use Rattle.viz_network.specs.Step.{AreSteps};
-ghost use Rattle.viz_node_meaning.specs.Fold.{IsMade};
+ghost use Rattle.std.specs.Prelude.{◌≡◌, IfOk, Some, length, map, slice_get};
+ghost use Rattle.viz_network.specs.Cone.{cone_of};
+ghost use Rattle.viz_network.specs.Step.{AreSteps, nodes_of};
+ghost use Rattle.viz_node_meaning.specs.Fold.{IsGiven, IsMade};
 ghost use Rattle.viz_node_meaning.specs.Information.{InformationRule};
 ghost use Rattle.viz_node_rules.specs.Places.{value_at};
-ghost use Rattle.viz_scratch.specs.Steps.Table.{told, anything, always, IsTable};
+ghost use Rattle.viz_inform.specs.Informed.{IsInformedAs};
+ghost use Rattle.viz_inform.specs.Table.{told, anything, always, IsTable};
 
 use crate::gathered::fault_in;
 use std::alloc::{AllocError, Global};
+use viz_base::NodeId;
 use viz_network::{Fault, Net, Node, Step};
 use viz_node_meaning::Information;
 use viz_node_rules::own_information;
 
-type Known = Option<Result<Information, Fault>>;
+/// What is known of a step, or its first fault.
+pub type Known = Option<Result<Information, Fault>>;
 
 fn information_at(table: &[Known], place: &Option<usize>) -> Option<Information>
     ensures { result ≡ value_at table.now place.now }
@@ -72,4 +76,24 @@ pub fn information_pass(alloc: Global, net: &Net, steps: &[Step]) -> Result<Vec<
         table.push(Some(known))?;
     }
     Ok(table)
+}
+
+/// The first information fault at or above a node, whose step stands at this place.
+pub fn information_fault(
+    alloc: Global,
+    net: &Net,
+    steps: &[Step],
+    sink: usize,
+    node: NodeId,
+) -> Result<Option<Fault>, AllocError>
+    requires steps { AreSteps net.now steps.now }
+    requires at { slice_get (nodes_of steps.now) sink ≡ Some node }
+    ensures { IfOk result (IsInformedAs (IsGiven InformationRule (cone_of net.now node.0))) }
+{
+    let known = information_pass(alloc, net, steps)?;
+    match known.get(sink) {
+        Some(Some(Err(fault))) => Ok(Some(*fault)),
+        Some(Some(Ok(_))) => Ok(None),
+        _ => Err(AllocError),
+    }
 }

@@ -1,7 +1,7 @@
 //! What a table of values has of the places that feed a step's ports.
 
 ghost use Rattle.std.specs.Prelude.{◌≡◌, ◌∷◌, []};
-ghost use Rattle.viz_scratch.specs.Steps.Table.{first_fault};
+ghost use Rattle.viz_inform.specs.Table.{first_fault};
 
 use viz_network::Fault;
 

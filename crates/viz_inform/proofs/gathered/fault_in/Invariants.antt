@@ -1,6 +1,6 @@
 use Rattle.std.proofs.Common.{◌≡◌, drop}
-use Rattle.viz_scratch.specs.Steps.Table.{first_fault}
-use Rattle.viz_scratch.proofs.gathered.fault_in.Given as goal
+use Rattle.viz_inform.specs.Table.{first_fault}
+use Rattle.viz_inform.proofs.gathered.fault_in.Given as goal
 
 -- the places that are left have the fault
 abbrev pub invariant-loop-place : goal.invariant-loop-place

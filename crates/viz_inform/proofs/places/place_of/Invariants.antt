@@ -1,6 +1,6 @@
 use Rattle.std.proofs.Common.{◌≡◌, ℕ, ◌<◌, slice_get, Some}
 use Rattle.viz_network.specs.Step.{nodes_of}
-use Rattle.viz_scratch.proofs.readers.place_of.Given as goal
+use Rattle.viz_inform.proofs.places.place_of.Given as goal
 
 -- no step so far is that of the node
 abbrev pub invariant-loop-place : goal.invariant-loop-place

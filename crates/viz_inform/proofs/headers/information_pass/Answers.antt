@@ -3,12 +3,11 @@ use Rattle.std.specs.Option.{option_copied}
 use Rattle.std.proofs.lemmas.Option.{slice_get-get_or}
 use Rattle.viz_network.specs.declared.steps.Step.{Step}
 use Rattle.viz_network.specs.Step.{nodes_of}
-use Rattle.viz_network.specs.Network.{node_of}
 use Rattle.viz_node_meaning.specs.Fold.{IsMade}
 use Rattle.viz_node_meaning.specs.Information.{InformationRule}
-use Rattle.viz_scratch.specs.Steps.Table.{IsTable, anything, always, told}
-use Rattle.viz_scratch.proofs.TableLemmas.{lent_there, has_always, more_table}
-use Rattle.viz_scratch.proofs.headers.information_pass.Goals as goal
+use Rattle.viz_inform.specs.Table.{IsTable, anything, always, told}
+use Rattle.viz_inform.proofs.TableLemmas.{lent_there, has_always, more_table}
+use Rattle.viz_inform.proofs.headers.information_pass.Goals as goal
 
 pub unwrap-node-requires : goal.unwrap-node-requires
 unwrap-node-requires c =

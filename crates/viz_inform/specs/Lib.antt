@@ -1,0 +1,4 @@
+pub mod Informed
+pub mod Table
+pub mod Above
+pub mod Steps
