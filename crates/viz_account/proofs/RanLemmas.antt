@@ -19,7 +19,8 @@ use Rattle.viz_network.specs.Network.{Network, node_of}
 use Rattle.viz_network.specs.Cone.{has_node, cone_of}
 use Rattle.viz_network.specs.Step.{nodes_of}
 use Rattle.viz_account.specs.Written.{is_writer, Runs, HasRan}
-use Rattle.viz_account.specs.Steps.Above.{IsAt, IsLeft, AreMarks, works, added, all_added}
+use Rattle.viz_inform.specs.Above.{IsAt, IsLeft, AreMarks}
+use Rattle.viz_account.specs.Steps.Working.{works, added, all_added}
 
 works_node : (net : Network) (x : ℕ) → works net x ≡ true → (n : Node) × (node_of net x ≡ Some n) × (is_writer n.settings ≡ false)
 works_node net x h = by (node_of net x) refl h

@@ -1,3 +1,3 @@
 pub mod Made
-pub mod Above
+pub mod Working
 pub mod Ground

@@ -1,77 +1,14 @@
 //! How many nodes work for an update.
 
-ghost use Rattle.std.specs.Prelude.{◌≡◌, ◌+◌, ◌<◌, ◌++◌, length, slice_get, Some, IfOk, IfSome, OnOk};
+ghost use Rattle.std.specs.Prelude.{◌≡◌, ◌++◌, length, slice_get, Some, IfOk, OnOk};
 ghost use Rattle.viz_network.specs.Step.{AreSteps, nodes_of};
 ghost use Rattle.viz_account.specs.Written.{HasRan};
-ghost use Rattle.viz_account.specs.Steps.Above.{marked, all_marked, AreBelow, AreMarks, works, added, all_added};
+ghost use Rattle.viz_account.specs.Steps.Working.{works, added, all_added};
 
 use std::alloc::{AllocError, Global};
 use viz_base::NodeId;
+use viz_inform::{marks_above, place_of};
 use viz_network::{Net, Settings, Step};
-
-// The place of a node's step.
-fn place_of(steps: &[Step], node: NodeId) -> Option<usize>
-    ensures { IfSome result (λ place. slice_get (nodes_of steps.now) place ≡ Some node) }
-{
-    for (place, step) in steps.iter().enumerate() {
-        if step.node == node {
-            return Some(place);
-        }
-    }
-    None
-}
-
-// Marks the place that feeds a port.
-fn mark(marks: &mut Vec<bool>, input: &Option<usize>)
-    requires { IfSome input.now (λ place. place < length marks.old.items) }
-    ensures { marks.new.items ≡ marked marks.old.items input.now }
-{
-    if let Some(place) = input {
-        marks[*place] = true;
-    }
-}
-
-// Marks the places that feed ports.
-fn mark_all(marks: &mut Vec<bool>, inputs: &[Option<usize>])
-    requires { AreBelow (length marks.old.items) inputs.now }
-    ensures { marks.new.items ≡ all_marked marks.old.items inputs.now }
-{
-    for input in inputs {
-        mark(marks, input);
-    }
-}
-
-// Marks what feeds the step at this place, where the step has a mark.
-fn pass_on(net: &Net, steps: &[Step], sink: usize, place: usize, step: &Step, marks: &mut Vec<bool>)
-    requires steps { AreSteps net.now steps.now }
-    requires at { slice_get steps.now place ≡ Some step.now }
-    requires marks { AreMarks net.now steps.now sink (place + 1) marks.old.items }
-    ensures { AreMarks net.now steps.now sink place marks.new.items }
-{
-    if marks[place] {
-        mark_all(marks, &step.inputs);
-    }
-}
-
-// Marks the step of the sink and all steps upstream of it, from the sink back to the first step.
-fn marks_above(
-    alloc: Global,
-    net: &Net,
-    steps: &[Step],
-    sink: usize,
-) -> Result<Vec<bool>, AllocError>
-    requires steps { AreSteps net.now steps.now }
-    requires within { sink < length steps.now }
-    ensures { IfOk result (λ marks. AreMarks net.now steps.now sink 0 marks.items) }
-{
-    let mut marks = Vec::from_elem(alloc, false, steps.len())?;
-    marks[sink] = true;
-    for behind in 0..sink + 1 {
-        let place = sink - behind;
-        pass_on(net, steps, sink, place, &steps[place], &mut marks);
-    }
-    Ok(marks)
-}
 
 // Whether a node does more than pass on what it is given.
 fn works(net: &Net, node: NodeId) -> bool

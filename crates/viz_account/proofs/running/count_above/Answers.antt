@@ -1,6 +1,6 @@
 use Rattle.std.proofs.Common.{◌≡◌, length, arith, ap, ◌∙◌, subst, sym}
 use Rattle.viz_account.specs.Written.{HasRan}
-use Rattle.viz_account.specs.Steps.Above.{all_added}
+use Rattle.viz_account.specs.Steps.Working.{all_added}
 use Rattle.viz_account.proofs.RanLemmas.{ran_is}
 use Rattle.viz_account.proofs.running.count_above.Goals as goal
 

@@ -1,5 +1,5 @@
 use Rattle.std.proofs.Common.{◌≡◌, ◌++◌, drop}
-use Rattle.viz_account.specs.Steps.Above.{all_added}
+use Rattle.viz_account.specs.Steps.Working.{all_added}
 use Rattle.viz_account.proofs.running.marked_nodes.Given as goal
 
 -- what was added, and what is left to add
