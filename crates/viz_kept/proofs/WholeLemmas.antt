@@ -14,7 +14,9 @@ use Rattle.viz_parts.specs.declared.request.Part.TheVariants as part
 use Rattle.viz_parts.specs.declared.request.Request.TheVariants.{Block, Piece}
 use Rattle.viz_kept.specs.Steps.{own_part, AreSheets}
 use Rattle.viz_kept.specs.Whole.{IsWholePart}
-use Rattle.viz_kept.proofs.DividedLemmas.{all_own, whole_division}
+use Rattle.viz_node_division.specs.Laws.{DatasetsAreDivided, OnlyPieceOwnsAll}
+use Rattle.viz_node_division.specs.Shares.{all_own}
+use Rattle.viz_kept.proofs.DividedLemmas.{whole_division}
 
 -- ---- a sheet as a part of own cells alone
 
@@ -87,11 +89,13 @@ whole_piece sheets rule = record {
       (subst (IsSheetPart sheet (all_own sheet) 0) (sym part) (whole_part_of sheet (All-get_or IsSheet sheets k s below rule.each)));
 }
 
-pub mesh_is_whole : (sheets : List SheetData) (parts : Vec PartSheetData Global) → AreSheets sheets → parts.items ≡ map own_part sheets
+pub mesh_is_whole : DatasetsAreDivided → OnlyPieceOwnsAll
+    → (sheets : List SheetData) (parts : Vec PartSheetData Global)
+    → AreSheets sheets → parts.items ≡ map own_part sheets
     → IsWholePart (dataset.Mesh sheets) (Piece 0 1 0) (part.Mesh parts)
-mesh_is_whole sheets parts rule is = record {
+mesh_is_whole some only sheets parts rule is = record {
   each = λ cone given.
-      let d = whole_division cone (dataset.Mesh sheets) in
+      let d = whole_division some only cone (dataset.Mesh sheets) given in
       let piece = subst (λ owns. IsPieceOf sheets owns 0 (map own_part sheets)) (sym (d.1.only sheets refl)) (whole_piece sheets rule) in
       record {
         whole = dataset.Mesh sheets;
@@ -100,10 +104,12 @@ mesh_is_whole sheets parts rule is = record {
       };
 }
 
-pub image_is_whole : (image : ImageData) → IsImage image → IsWholePart (dataset.Image image) (Block image.extent) (part.Image image)
-image_is_whole image rule = record {
+pub image_is_whole : DatasetsAreDivided → OnlyPieceOwnsAll
+    → (image : ImageData) → IsImage image
+    → IsWholePart (dataset.Image image) (Block image.extent) (part.Image image)
+image_is_whole some only image rule = record {
   each = λ cone given.
-      let d = whole_division cone (dataset.Image image) in
+      let d = whole_division some only cone (dataset.Image image) given in
       record {
         whole = dataset.Image image;
         given = given;

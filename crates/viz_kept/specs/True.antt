@@ -11,8 +11,8 @@ use Rattle.viz_network.specs.Network.{Network}
 use Rattle.viz_parts.specs.declared.request.Part.{Part}
 use Rattle.viz_parts.specs.declared.request.Request.{Request}
 use Rattle.viz_parts.specs.Pieces.{Division, IsAnswer}
+use Rattle.viz_node_division.specs.Divided.{IsDivided}
 use Rattle.viz_node_meaning.specs.Scratch.{IsScratchOf}
-use Rattle.viz_kept.specs.Divided.{IsDivided}
 
 -- a part answers a request of a dataset of the node at the foot of a cone, as that is shared out
 pub record IsDatasetPart (cone : Option Tree) (whole : Dataset) (request : Request) (part : Part)

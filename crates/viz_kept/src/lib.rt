@@ -2,7 +2,7 @@
 //!
 //! Contract: what is made in the network of a prefix is true of the history, of every longer one,
 //! and in its network; a true part is one of every dataset that its node gives. Definitions:
-//! `specs/True.antt`; how a dataset is shared out in pieces is `specs/Divided.antt`.
+//! `specs/True.antt`; how a dataset is shared out in pieces is that of viz_node_division.
 #![tactic(auto)]
 
 mod laws;

@@ -6,6 +6,7 @@ ghost use Rattle.viz_kept.specs.Whole.{IsWholePart, whole_request};
 
 use std::alloc::{AllocError, Global};
 use viz_dataset::Dataset;
+use viz_node_division::{datasets_are_divided, divisions_share_out};
 use viz_parts::{Part, PartSheet, Request};
 use viz_sheet::Sheet;
 
@@ -35,6 +36,8 @@ fn whole_mesh(alloc: Global, sheets: Vec<Sheet>) -> Result<(Request, Part), Allo
     ensures request { IfOk result (λ whole. whole.0 ≡ whole_request (Dataset.Mesh sheets.items)) }
     ensures part { IfOk result (λ whole. IsWholePart (Dataset.Mesh sheets.items) whole.0 whole.1) }
 {
+    datasets_are_divided();
+    divisions_share_out();
     let parts = own_parts(alloc, sheets)?;
     let request = Request::Piece {
         p: 0,
@@ -50,6 +53,8 @@ pub fn whole_part(alloc: Global, dataset: Dataset) -> Result<(Request, Part), Al
     ensures request { IfOk result (λ whole. whole.0 ≡ whole_request dataset) }
     ensures part { IfOk result (λ whole. IsWholePart dataset whole.0 whole.1) }
 {
+    datasets_are_divided();
+    divisions_share_out();
     match dataset {
         Dataset::Image(image) => Ok((Request::Block(image.extent()), Part::Image(image))),
         Dataset::Mesh(mesh) => whole_mesh(alloc, mesh.into_sheets()),

@@ -9,5 +9,9 @@ use Rattle.viz_kept.proofs.whole.whole_part.Goals as goal
 pub returns-in-Image-clause-part : goal.returns-in-Image-clause-part
 returns-in-Image-clause-part c =
     let image = c.in-Image.image in
-    let whole = subst (λ e. IsWholePart (dataset.Image image) (Block e) (part.Image image)) (sym c.extent.ensures.value) (image_is_whole image c.extent.ensures.valid) in
+    let some = c.datasets_are_divided.ensures.some in
+    let only = c.divisions_share_out.ensures.only in
+    let whole =
+    subst (λ e. IsWholePart (dataset.Image image) (Block e) (part.Image image))
+    (sym c.extent.ensures.value) (image_is_whole some only image c.extent.ensures.valid) in
     subst (λ d. IsWholePart d (Block c.extent.result) (part.Image image)) (sym c.in-Image.is) whole

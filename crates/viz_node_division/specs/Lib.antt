@@ -1,0 +1,3 @@
+pub mod Divided
+pub mod Shares
+pub mod Laws
