@@ -126,39 +126,117 @@ trait Lane: Copy + PartialEq + Debug {
     fn keep(alloc: Global, numbers: &[Self], lo: Self, hi: Self) -> Result<Vec<Self>, AllocError>;
 }
 
-macro_rules! lane {
-    ($number:ident, $at_least:ident, $within:ident, $keep:ident) => {
-        impl Lane for $number {
-            fn at_least(alloc: Global, numbers: &[$number], bound: $number) -> Result<Bits, AllocError> {
-                $at_least(alloc, numbers, bound)
-            }
+impl Lane for i8 {
+    fn at_least(alloc: Global, numbers: &[i8], bound: i8) -> Result<Bits, AllocError> {
+        at_least_i8(alloc, numbers, bound)
+    }
 
-            fn within(alloc: Global, numbers: &[$number], lo: $number, hi: $number) -> Result<Bits, AllocError> {
-                $within(alloc, numbers, lo, hi)
-            }
+    fn within(alloc: Global, numbers: &[i8], lo: i8, hi: i8) -> Result<Bits, AllocError> {
+        within_i8(alloc, numbers, lo, hi)
+    }
 
-            fn keep(alloc: Global, numbers: &[$number], lo: $number, hi: $number) -> Result<Vec<$number>, AllocError> {
-                $keep(alloc, numbers, lo, hi)
-            }
-        }
-    };
+    fn keep(alloc: Global, numbers: &[i8], lo: i8, hi: i8) -> Result<Vec<i8>, AllocError> {
+        keep_within_i8(alloc, numbers, lo, hi)
+    }
 }
 
-lane!(i8, at_least_i8, within_i8, keep_within_i8);
+impl Lane for u8 {
+    fn at_least(alloc: Global, numbers: &[u8], bound: u8) -> Result<Bits, AllocError> {
+        at_least_u8(alloc, numbers, bound)
+    }
 
-lane!(u8, at_least_u8, within_u8, keep_within_u8);
+    fn within(alloc: Global, numbers: &[u8], lo: u8, hi: u8) -> Result<Bits, AllocError> {
+        within_u8(alloc, numbers, lo, hi)
+    }
 
-lane!(i16, at_least_i16, within_i16, keep_within_i16);
+    fn keep(alloc: Global, numbers: &[u8], lo: u8, hi: u8) -> Result<Vec<u8>, AllocError> {
+        keep_within_u8(alloc, numbers, lo, hi)
+    }
+}
 
-lane!(u16, at_least_u16, within_u16, keep_within_u16);
+impl Lane for i16 {
+    fn at_least(alloc: Global, numbers: &[i16], bound: i16) -> Result<Bits, AllocError> {
+        at_least_i16(alloc, numbers, bound)
+    }
 
-lane!(i32, at_least_i32, within_i32, keep_within_i32);
+    fn within(alloc: Global, numbers: &[i16], lo: i16, hi: i16) -> Result<Bits, AllocError> {
+        within_i16(alloc, numbers, lo, hi)
+    }
 
-lane!(u32, at_least_u32, within_u32, keep_within_u32);
+    fn keep(alloc: Global, numbers: &[i16], lo: i16, hi: i16) -> Result<Vec<i16>, AllocError> {
+        keep_within_i16(alloc, numbers, lo, hi)
+    }
+}
 
-lane!(i64, at_least_i64, within_i64, keep_within_i64);
+impl Lane for u16 {
+    fn at_least(alloc: Global, numbers: &[u16], bound: u16) -> Result<Bits, AllocError> {
+        at_least_u16(alloc, numbers, bound)
+    }
 
-lane!(u64, at_least_u64, within_u64, keep_within_u64);
+    fn within(alloc: Global, numbers: &[u16], lo: u16, hi: u16) -> Result<Bits, AllocError> {
+        within_u16(alloc, numbers, lo, hi)
+    }
+
+    fn keep(alloc: Global, numbers: &[u16], lo: u16, hi: u16) -> Result<Vec<u16>, AllocError> {
+        keep_within_u16(alloc, numbers, lo, hi)
+    }
+}
+
+impl Lane for i32 {
+    fn at_least(alloc: Global, numbers: &[i32], bound: i32) -> Result<Bits, AllocError> {
+        at_least_i32(alloc, numbers, bound)
+    }
+
+    fn within(alloc: Global, numbers: &[i32], lo: i32, hi: i32) -> Result<Bits, AllocError> {
+        within_i32(alloc, numbers, lo, hi)
+    }
+
+    fn keep(alloc: Global, numbers: &[i32], lo: i32, hi: i32) -> Result<Vec<i32>, AllocError> {
+        keep_within_i32(alloc, numbers, lo, hi)
+    }
+}
+
+impl Lane for u32 {
+    fn at_least(alloc: Global, numbers: &[u32], bound: u32) -> Result<Bits, AllocError> {
+        at_least_u32(alloc, numbers, bound)
+    }
+
+    fn within(alloc: Global, numbers: &[u32], lo: u32, hi: u32) -> Result<Bits, AllocError> {
+        within_u32(alloc, numbers, lo, hi)
+    }
+
+    fn keep(alloc: Global, numbers: &[u32], lo: u32, hi: u32) -> Result<Vec<u32>, AllocError> {
+        keep_within_u32(alloc, numbers, lo, hi)
+    }
+}
+
+impl Lane for i64 {
+    fn at_least(alloc: Global, numbers: &[i64], bound: i64) -> Result<Bits, AllocError> {
+        at_least_i64(alloc, numbers, bound)
+    }
+
+    fn within(alloc: Global, numbers: &[i64], lo: i64, hi: i64) -> Result<Bits, AllocError> {
+        within_i64(alloc, numbers, lo, hi)
+    }
+
+    fn keep(alloc: Global, numbers: &[i64], lo: i64, hi: i64) -> Result<Vec<i64>, AllocError> {
+        keep_within_i64(alloc, numbers, lo, hi)
+    }
+}
+
+impl Lane for u64 {
+    fn at_least(alloc: Global, numbers: &[u64], bound: u64) -> Result<Bits, AllocError> {
+        at_least_u64(alloc, numbers, bound)
+    }
+
+    fn within(alloc: Global, numbers: &[u64], lo: u64, hi: u64) -> Result<Bits, AllocError> {
+        within_u64(alloc, numbers, lo, hi)
+    }
+
+    fn keep(alloc: Global, numbers: &[u64], lo: u64, hi: u64) -> Result<Vec<u64>, AllocError> {
+        keep_within_u64(alloc, numbers, lo, hi)
+    }
+}
 
 // Both ends of a type as bounds, and a lower bound above the upper one. Of the type these are the
 // least two numbers and the greatest two.
