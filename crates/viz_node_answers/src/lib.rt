@@ -1,0 +1,11 @@
+//! From true parts of what feeds a node, a true part of what it makes, kind by kind.
+//!
+//! Contract: laws. What the calls of viz_mesh_parts, viz_piece_tets and viz_piece_section say of
+//! whatever mesh and division their inputs are parts of holds of what feeds the node, and so the
+//! part that they make is one of what the node makes, as it is shared out (viz_node_division).
+//! Definitions: `specs/Answers.antt`.
+#![tactic(auto)]
+
+mod laws;
+
+pub use laws::{image_filters_answer, mesh_filters_answer};
