@@ -103,7 +103,7 @@ fn another_part_is_no_piece(rt: HostRuntime) -> Result<(), Fail> {
         (2, one, false),
         (1, Piece { p: 0, ..one }, false),
         (1, Piece { n: 2, ..one }, false),
-        (1, Piece { unit: 3, ..one }, false),
+        (1, Piece { unit: 2, ..one }, false),
         (1, Piece { fewer: 0, ..one }, false),
     ] {
         assert_eq!(rt; are_facets_of(rt.alloc(), ghosts, asked)?, want, "{ghosts} {asked:?}");
