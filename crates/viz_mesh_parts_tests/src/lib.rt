@@ -1,4 +1,4 @@
-//! Filters of meshes on parts, by hand: tests alone.
+//! Filters of meshes on parts, by hand and against a plain slow program: tests alone.
 #![tactic(auto)]
 
 #[cfg(test)]

@@ -1,10 +1,12 @@
 //! Mixed cubes, cube by cube.
 
 use crate::tests::images::{image_with, mixed_numbers};
+use crate::tests::pieces::slab_of;
 use std::alloc::{AllocError, Global};
 use std::process::Abort;
 use std::test::Fail;
 use viz_column::Kind8;
+use viz_dataset::Image;
 use viz_extent::Extent;
 use viz_lanes::Bits;
 use viz_mixed::mixed;
@@ -81,8 +83,21 @@ fn mixes(
     Ok(())
 }
 
-/// One cube of points.
+/// One cube of points, and four of them, one above the other.
 const CUBE: [u32; 6] = [0, 1, 0, 1, 0, 1];
+
+const COLUMN: [u32; 6] = [0, 1, 0, 1, 0, 4];
+
+/// The level 2^57.
+const LEVEL: i64 = 144_115_188_075_855_872;
+
+// Numbers of four layers, of which the lowest and the highest one have a corner inside.
+fn four() -> [i128; 20] {
+    let mut numbers = [0; 20];
+    numbers[3] = 288_230_376_151_711_745;
+    numbers[19] = 18_446_744_073_709_551_615;
+    numbers
+}
 
 #[test]
 fn a_cube_with_corners_at_both_sides_is_mixed(rt: HostRuntime) -> Result<(), Fail> {
@@ -91,15 +106,49 @@ fn a_cube_with_corners_at_both_sides_is_mixed(rt: HostRuntime) -> Result<(), Fai
     for (level, want) in [(5, true), (9, true), (10, false), (0, false), (1, true)] {
         mixes(&rt, alloc, (Kind8::I32, CUBE, level), &corner, &[want])?;
     }
-    // Four layers, of which the lowest and the highest one have a corner inside.
-    let mut four = [0; 20];
-    four[3] = 288_230_376_151_711_745;
-    four[19] = 18_446_744_073_709_551_615;
-    let row = (Kind8::U64, [0, 1, 0, 1, 0, 4], 144_115_188_075_855_872);
-    mixes(&rt, alloc, row, &four, &[true, false, false, true])?;
+    mixes(
+        &rt,
+        alloc,
+        (Kind8::U64, COLUMN, LEVEL),
+        &four(),
+        &[true, false, false, true],
+    )?;
     // Levels that 8 bits without a sign can't hold.
     for level in [-1, 300] {
         mixes(&rt, alloc, (Kind8::U8, CUBE, level), &corner, &[false])?;
+    }
+    Ok(())
+}
+
+// The mixed cubes of the block that piece `p` of `n` asks for, at the level of the row above.
+fn mixed_in(
+    alloc: Global,
+    image: &Image,
+    (p, n, ghosts): (u32, u32, u32),
+) -> Result<Vec<bool>, Fail> {
+    if p >= n {
+        return Err("a piece of some")?;
+    }
+    let slab = slab_of(alloc, image, p, n, ghosts)?;
+    let bits = mixed(alloc, &slab, &LEVEL)?;
+    Ok(list(alloc, &bits)?)
+}
+
+#[test]
+fn a_piece_has_the_mixed_cubes_of_its_block(rt: HostRuntime) -> Result<(), Fail> {
+    let alloc = rt.alloc();
+    let image = image_with(alloc, Kind8::U64, COLUMN, &four())?;
+    for (asked, want) in [
+        ((0, 1, 0), [true, false, false, true].as_slice()),
+        ((0, 4, 0), [true].as_slice()),
+        ((1, 4, 0), [false].as_slice()),
+        ((2, 4, 1), [false, false, true].as_slice()),
+        ((3, 4, 2), [false, false, true].as_slice()),
+        // More pieces than layers: the lowest plane alone.
+        ((0, 7, 2), [].as_slice()),
+    ] {
+        let found = mixed_in(alloc, &image, asked)?;
+        assert_eq!(rt; found.as_slice(), want, "{asked:?}");
     }
     Ok(())
 }

@@ -49,7 +49,13 @@ pub(super) fn sections_of(
 }
 
 /// The block of an image that a piece asks for.
-fn slab_of(alloc: Global, image: &Image, p: u32, n: u32, ghosts: u32) -> Result<Image, AllocError>
+pub(super) fn slab_of(
+    alloc: Global,
+    image: &Image,
+    p: u32,
+    n: u32,
+    ghosts: u32,
+) -> Result<Image, AllocError>
     requires below { p < n }
     ensures block { IfOk result (λ slab. slab.extent ≡ asked p n ghosts image.now.extent) }
 {

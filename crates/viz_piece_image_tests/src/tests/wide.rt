@@ -8,7 +8,9 @@ use viz_column::Kind8;
 use viz_dataset::Image;
 use viz_fraction::Form;
 use viz_meaning::WorkStop;
+use viz_mesh_parts::section_part;
 use viz_parts::Part;
+use viz_piece_plain::{is_fit_part, of_mesh};
 
 /// What a piece answers.
 #[derive(Clone, Copy, Debug, PartialEq, Eq)]
@@ -32,6 +34,15 @@ const CONTOUR: Form = Form {
     r: 144_115_188_075_855_872,
 };
 
+/// The plane through the middles of the cubes.
+const CUT: Form = Form {
+    a: 2,
+    b: 0,
+    c: 0,
+    q: 0,
+    r: 1,
+};
+
 // How many cells a part has.
 fn cells_in(part: &Part) -> usize {
     let mut count: usize = 0;
@@ -48,19 +59,50 @@ fn answer_of(alloc: Global, image: &Image, p: u32, n: u32, ghosts: u32) -> Answe
     if p >= n {
         return Answer::Other;
     }
-    match sections_of(alloc, image, p, n, ghosts, &[CONTOUR]) {
+    told(sections_of(alloc, image, p, n, ghosts, &[CONTOUR]))
+}
+
+// The same in short.
+fn told(made: Result<Part, WorkStop>) -> Answer {
+    match made {
         Ok(part) => Answer::Cells(cells_in(&part)),
         Err(WorkStop::TooWide) => Answer::TooWide,
         Err(WorkStop::Memory) => Answer::Other,
     }
 }
 
-#[test]
-fn a_piece_is_too_wide_by_its_own_block(rt: HostRuntime) -> Result<(), Fail> {
+// What the cut of a piece of the contour answers, where that has a part.
+fn cut_of(alloc: Global, image: &Image, p: u32, n: u32) -> Result<Answer, Fail> {
+    if p >= n {
+        return Err("a piece of some")?;
+    }
+    let part = sections_of(alloc, image, p, n, 0, &[CONTOUR])?;
+    match of_mesh(part) {
+        Some(part) if is_fit_part(&part) => Ok(told(section_part(alloc, &part, &[CUT]))),
+        _ => Err("a part that fits")?,
+    }
+}
+
+// Four cubes, one above the other.
+fn column(alloc: Global) -> Result<Image, Fail> {
     let mut numbers = [0; 20];
     numbers[3] = LOW;
     numbers[19] = HIGH;
-    let image = image_with(rt.alloc(), Kind8::U64, [0, 1, 0, 1, 0, 4], &numbers)?;
+    image_with(alloc, Kind8::U64, [0, 1, 0, 1, 0, 4], &numbers)
+}
+
+#[test]
+fn the_cut_of_a_narrow_contour_may_be_too_wide(rt: HostRuntime) -> Result<(), Fail> {
+    let image = column(rt.alloc())?;
+    for (p, want) in [(0, Answer::TooWide), (1, Answer::Cells(0))] {
+        assert_eq!(rt; cut_of(rt.alloc(), &image, p, 4)?, want, "{p}");
+    }
+    Ok(())
+}
+
+#[test]
+fn a_piece_is_too_wide_by_its_own_block(rt: HostRuntime) -> Result<(), Fail> {
+    let image = column(rt.alloc())?;
     for (p, n, ghosts, want) in [
         (0, 1, 0, Answer::TooWide),
         (0, 4, 0, Answer::Cells(2)),
