@@ -1,2 +1,3 @@
 pub mod SiteLemmas
 pub mod DemandLemmas
+pub mod ByNodeLemmas

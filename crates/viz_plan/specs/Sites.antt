@@ -1,5 +1,7 @@
--- What is known of the nodes of steps, in a table by their places. Only private contracts and proofs speak of it.
-use Rattle.std.specs.Prelude.{◌≡◌, ℕ, nat_eq, Bool, ◌&&◌, List, [], ◌∷◌, length, map, filter, slice_get, Option, None, Some}
+-- What is known of the nodes of steps, in a table by their places. Only private contracts and
+-- proofs speak of it.
+use Rattle.std.specs.Prelude.{◌≡◌, ℕ, nat_eq, Bool, ◌&&◌, List, [], ◌∷◌, length, map, filter}
+use Rattle.std.specs.Prelude.{slice_get, Option, None, Some}
 use Rattle.viz_base.specs.declared.node.NodeId.{NodeId}
 use Rattle.viz_extent.specs.Extent.{Bounds}
 use Rattle.viz_network.specs.declared.node.Node.{Node}
@@ -43,12 +45,15 @@ pub record IsSite (k : Known) (id : ℕ) (s : Site) : Type 0 where
 
 -- so of each
 pub record AreSites (k : Known) (order : List NodeId) (sites : List Site) : Type 0 where
-  pub each : (j : ℕ) (x : NodeId) (s : Site) → slice_get order j ≡ Some x → slice_get sites j ≡ Some s → IsSite k x.0 s
+  pub each : (j : ℕ) (x : NodeId) (s : Site) → slice_get order j ≡ Some x
+      → slice_get sites j ≡ Some s → IsSite k x.0 s
   pub count : length sites ≡ length order
 
 -- of the first n
-pub record AreFirstSites (k : Known) (order : List NodeId) (n : ℕ) (sites : List Site) : Type 0 where
-  pub each : (j : ℕ) (x : NodeId) (s : Site) → slice_get order j ≡ Some x → slice_get sites j ≡ Some s → IsSite k x.0 s
+pub record AreFirstSites (k : Known) (order : List NodeId) (n : ℕ)
+    (sites : List Site) : Type 0 where
+  pub each : (j : ℕ) (x : NodeId) (s : Site) → slice_get order j ≡ Some x
+      → slice_get sites j ≡ Some s → IsSite k x.0 s
   pub count : length sites ≡ n
 
 -- what contracts see of a table: a network, what is told and kept, and the nodes of the steps

@@ -1,4 +1,5 @@
--- What a plan goes by: a network, what is told of its nodes, and what is kept (VTK User's Guide, the executive: the information pass and the request pass).
+-- What a plan goes by: a network, what is told of its nodes, and what is kept (VTK User's Guide,
+-- the executive: the information pass and the request pass).
 use Rattle.std.specs.Prelude.{◌≡◌, ℕ, nat_eq, cond, List, [], ◌∷◌, length, map, Option, None, Some}
 use Rattle.std.specs.List.{range_with_len}
 use Rattle.viz_extent.specs.Extent.{Bounds}
@@ -21,7 +22,8 @@ extent_of OfMesh = None
 -- the extent that is told of a node's image
 abbrev pub extent_told : List Told → ℕ → Option Bounds
 extent_told [] id = None
-extent_told (t ∷ told) id = cond (nat_eq t.node.0 id) (extent_of t.information) (extent_told told id)
+extent_told (t ∷ told) id =
+    cond (nat_eq t.node.0 id) (extent_of t.information) (extent_told told id)
 
 -- what is known by all of it
 abbrev pub known_with : Network → List Told → List Stored → Known
@@ -32,6 +34,8 @@ abbrev pub needs_in : List Key → List (ℕ × Request)
 needs_in keys = map (λ k. (k.node.0, k.request)) keys
 
 -- level by level, the keys of the plan of requests to a node, up to the highest level
-pub record AreLevelsOf (k : Known) (sink : ℕ) (requests : List Request) (levels : List (List (ℕ × Request))) : Type 0 where
-  pub each : levels ≡ map (λ level. needs_of (at_level level (tasks_of k sink requests))) (range_with_len 0 (length levels))
+pub record AreLevelsOf (k : Known) (sink : ℕ) (requests : List Request)
+    (levels : List (List (ℕ × Request))) : Type 0 where
+  pub each : levels ≡ map (λ level. needs_of (at_level level (tasks_of k sink requests)))
+      (range_with_len 0 (length levels))
   pub under : AllUnder (length levels) (tasks_of k sink requests)

@@ -3,15 +3,17 @@
 ghost use Rattle.std.specs.Prelude.{◌≡◌, ◌<◌, IfOk, Some, find, length, slice_get};
 ghost use Rattle.viz_base.specs.declared.node.NodeId.{NodeId};
 ghost use Rattle.viz_network.specs.Step.{AreSteps, nodes_of};
-ghost use Rattle.viz_plan_meaning.specs.Known.{asked_at, is_stamp, kept_at, widened_at};
+ghost use Rattle.viz_plan_meaning.specs.Known.{asked_at, kept_at, widened_at};
 ghost use Rattle.viz_requests.specs.Serving.{serves};
-ghost use Rattle.viz_plan.specs.Told.{extent_told, known_with};
-ghost use Rattle.viz_plan.specs.Sites.{AreSites, IsSite, extent_at, first_extent, is_present, known_in, present};
+ghost use Rattle.viz_plan.specs.Told.{known_with};
+ghost use Rattle.viz_plan.specs.ByNode.{IsFoundSite, extent_shown};
+ghost use Rattle.viz_plan.specs.Sites.{AreSites, IsSite, extent_at, first_extent, known_in};
 
-use crate::told::extent_told;
+use crate::by_node::{Entry, Shown, extent_shown, kept_by_node, present, told_by_node};
 use std::alloc::{AllocError, Global};
 use std::marker::Model;
 use viz_base::NodeId;
+use viz_buckets::Buckets;
 use viz_extent::Extent;
 use viz_inform::Told;
 use viz_network::{Net, Settings, Stamps, Step};
@@ -58,58 +60,25 @@ impl<'a> Model for Sites<'a> {
 }
 
 // The extent of the node at a place.
-fn extent_at(told: &[Told], steps: &[Step], place: usize) -> Option<Extent>
-    ensures { result ≡ extent_at (extent_told told.now) (slice_get (nodes_of steps.now) place) }
+fn extent_at(shown: &Buckets<Shown>, steps: &[Step], place: usize) -> Option<Extent>
+    ensures { result ≡ extent_at (extent_shown shown.now) (slice_get (nodes_of steps.now) place) }
 {
     match steps.get(place) {
-        Some(step) => extent_told(told, step.node),
+        Some(step) => extent_shown(shown, step.node),
         None => None,
     }
 }
 
 // The extent at ports that are fed from places.
-fn whole_of(told: &[Told], steps: &[Step], places: &[Option<usize>]) -> Option<Extent>
-    ensures { result ≡ first_extent (extent_told told.now) (nodes_of steps.now) places.now }
+fn whole_of(shown: &Buckets<Shown>, steps: &[Step], places: &[Option<usize>]) -> Option<Extent>
+    ensures { result ≡ first_extent (extent_shown shown.now) (nodes_of steps.now) places.now }
 {
     for place in places {
         if let Some(place) = place {
-            return extent_at(told, steps, *place);
+            return extent_at(shown, steps, *place);
         }
     }
     None
-}
-
-fn is_stamp(stamp: &Option<u32>, other: u32) -> bool
-    ensures { result ≡ is_stamp stamp.now other }
-{
-    match stamp {
-        Some(stamp) => *stamp == other,
-        None => false,
-    }
-}
-
-fn is_present(stamp: &Option<u32>, node: NodeId, entry: &Stored) -> bool
-    ensures { result ≡ is_present stamp.now node.0 entry.now }
-{
-    entry.key.node == node && is_stamp(stamp, entry.key.stamp)
-}
-
-// The requests of what is kept of a node with its stamp.
-fn present(
-    alloc: Global,
-    stamp: &Option<u32>,
-    node: NodeId,
-    entries: &[Stored],
-) -> Result<Vec<Request>, AllocError>
-    ensures { IfOk result (λ kept. kept.items ≡ present stamp.now node.0 entries.now) }
-{
-    let mut kept = Vec::new(alloc);
-    for entry in entries {
-        if is_present(stamp, node, entry) {
-            kept.push(entry.key.request)?;
-        }
-    }
-    Ok(kept)
 }
 
 // The first kept request that serves.
@@ -129,8 +98,8 @@ fn site_of(
     alloc: Global,
     net: &Net,
     stamps: &Stamps<'_>,
-    told: &[Told],
-    entries: &[Stored],
+    shown: &Buckets<Shown>,
+    entries: &Buckets<Entry>,
     steps: &[Step],
     place: usize,
 ) -> Result<Site, AllocError>
@@ -138,15 +107,15 @@ fn site_of(
     requires stamps { stamps.now ≡ net.now }
     requires within { place < length steps.now }
     ensures { IfOk result (λ site. (x : NodeId) → slice_get (nodes_of steps.now) place ≡ Some x
-        → IsSite (known_with net.now told.now entries.now) x.0 site) }
+        → IsFoundSite net.now shown.now entries.now x.0 site) }
 {
     let step = steps[place];
     let Some(node) = net.node(step.node) else {
         return Err(AllocError);
     };
     let settings = node.settings;
-    let own = extent_told(told, node.id);
-    let whole = whole_of(told, steps, &step.inputs);
+    let own = extent_shown(shown, node.id);
+    let whole = whole_of(shown, steps, &step.inputs);
     let kept = present(alloc, &stamps.of(step.node), step.node, entries)?;
     Ok(Site {
         settings,
@@ -168,9 +137,11 @@ fn all_sites(
         (nodes_of steps.now) sites.items) }
 {
     let stamps = net.stamps();
+    let shown = told_by_node(alloc, told)?;
+    let entries = kept_by_node(alloc, entries)?;
     let mut sites = Vec::with_capacity(alloc, steps.len())?;
     for place in 0..steps.len() {
-        let site = site_of(alloc, net, &stamps, told, entries, steps, place)?;
+        let site = site_of(alloc, net, &stamps, &shown, &entries, steps, place)?;
         sites.push(site)?;
     }
     Ok(sites)

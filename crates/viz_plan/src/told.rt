@@ -8,8 +8,8 @@ use viz_extent::Extent;
 use viz_inform::Told;
 use viz_node_meaning::Information;
 
-// The extent of an image; None of a mesh.
-fn extent_of(information: &Information) -> Option<Extent>
+/// The extent of an image; None of a mesh.
+pub fn extent_of(information: &Information) -> Option<Extent>
     ensures { result ≡ extent_of information.now }
 {
     match information {

@@ -1,4 +1,5 @@
--- What is known of the nodes of a network and what is kept of them, and how requests go upstream by it (VTK User's Guide, the executive: the request pass).
+-- What is known of the nodes of a network and what is kept of them, and how requests go upstream by
+-- it (VTK User's Guide, the executive: the request pass).
 use Rattle.std.specs.Prelude.{◌≡◌, ℕ, nat_eq, Bool, false, ◌&&◌, List, find, Option, None, Some}
 use Rattle.std.specs.Option.{option_map, option_map_or}
 use Rattle.viz_base.specs.declared.node.NodeId.{NodeId}
@@ -12,7 +13,8 @@ use Rattle.viz_parts.specs.declared.stored.Stored.{Stored}
 use Rattle.viz_requests.specs.Serving.{serves}
 use Rattle.viz_requests.specs.Upstream.{widened, asked}
 
--- a network, the extent of each node's image, none of a mesh, and the kept parts, in the cache's order
+-- a network, the extent of each node's image, none of a mesh, and the kept parts, in the cache's
+-- order
 pub record Known : Type 0 where
   pub net : Network
   pub extent : ℕ → Option Bounds
@@ -48,8 +50,11 @@ is_stamp (Some s) stamp = nat_eq s stamp
 
 -- whether a kept part is of the node with its present stamp, and serves the request
 abbrev pub is_serving : Known → ℕ → Request → Stored → Bool
-is_serving k id request e = nat_eq e.key.node.0 id && is_stamp (stamp_of k.net id) e.key.stamp && serves e.key.request request
+is_serving k id request e =
+    nat_eq e.key.node.0 id && is_stamp (stamp_of k.net id) e.key.stamp
+    && serves e.key.request request
 
 -- the first that serves a request at a node, with its own request
 abbrev pub kept_at : Known → ℕ → Request → Option (Request × Part)
-kept_at k id request = option_map (λ e. (e.key.request, e.part)) (find (is_serving k id request) k.entries)
+kept_at k id request =
+    option_map (λ e. (e.key.request, e.part)) (find (is_serving k id request) k.entries)

@@ -1,5 +1,7 @@
--- Levels of tasks: the tasks of one level need only tasks of lower levels (VTK User's Guide, the executive: the order of execution).
-use Rattle.std.specs.Prelude.{◌≡◌, ℕ, zero, suc, ◌<◌, max, nat_eq, Bool, true, ◌&&◌, cond, ◌⊎◌, List, [], ◌∷◌, ◌++◌, filter, map, Option, None, Some}
+-- Levels of tasks: the tasks of one level need only tasks of lower levels (VTK User's Guide, the
+-- executive: the order of execution).
+use Rattle.std.specs.Prelude.{◌≡◌, ℕ, zero, suc, ◌<◌, max, nat_eq, Bool, true, ◌&&◌, cond, ◌⊎◌}
+use Rattle.std.specs.Prelude.{List, [], ◌∷◌, ◌++◌, filter, map, Option, None, Some}
 use Rattle.viz_plan_meaning.specs.Plan.{served}
 
 -- tasks, each with its level
@@ -25,7 +27,8 @@ AllUnder k [] = Unit {0}
 AllUnder k (x ∷ t) = (x.1 < k) × AllUnder k t
 
 module _ {R : Type 0} (serves : R → R → Bool) where
-  -- one more than the level of the first task of the node that serves the request; 0 where none does
+  -- one more than the level of the first task of the node that serves the request; 0 where none
+  -- does
   abbrev pub above_first : Tasks R → ℕ → R → ℕ
   above_first [] n w = 0
   above_first (x ∷ t) n w = cond (nat_eq x.0.0 n && serves x.0.1 w) (suc x.1) (above_first t n w)
@@ -35,18 +38,23 @@ abbrev pub above_entry : {X : Type 0} → Option X → ℕ → ℕ
 above_entry (Some e) k = 0
 above_entry None k = k
 
-module _ {R P : Type 0} (serves : R → R → Bool) (kept : ℕ → R → Option (R × P)) (widen : ℕ → R → R) where
+module _ {R P : Type 0} (serves : R → R → Bool) (kept : ℕ → R → Option (R × P))
+    (widen : ℕ → R → R) where
   -- one more than the highest level of the tasks that the inputs use; 0 without such
   abbrev pub above_inputs : Tasks R → R → List (Option ℕ) → ℕ
   above_inputs t r [] = 0
   above_inputs t r (None ∷ is) = above_inputs t r is
-  above_inputs t r (Some i ∷ is) = max (above_entry (kept i (widen i r)) (above_first serves t i (widen i r))) (above_inputs t r is)
+  above_inputs t r (Some i ∷ is) =
+      max (above_entry (kept i (widen i r)) (above_first serves t i (widen i r)))
+      (above_inputs t r is)
 
-module _ {R P : Type 0} (serves : R → R → Bool) (kept : ℕ → R → Option (R × P)) (widen asks : ℕ → R → R) (inputs : ℕ → List (Option ℕ)) where
+module _ {R P : Type 0} (serves : R → R → Bool) (kept : ℕ → R → Option (R × P))
+    (widen asks : ℕ → R → R) (inputs : ℕ → List (Option ℕ)) where
   -- the level of each task is that above its inputs' tasks
   abbrev pub AreLevels : Tasks R → Tasks R → Type 0
   AreLevels all [] = Unit {0}
-  AreLevels all (x ∷ t) = (x.1 ≡ above_inputs serves kept widen all (asks x.0.0 x.0.1) (inputs x.0.0)) × AreLevels all t
+  AreLevels all (x ∷ t) =
+      (x.1 ≡ above_inputs serves kept widen all (asks x.0.0 x.0.1) (inputs x.0.0)) × AreLevels all t
 
   -- the tasks with their levels, each reckoned from those before it
   abbrev pub with_levels : Tasks R → List (ℕ × R) → Tasks R
@@ -64,7 +72,9 @@ module _ {R P : Type 0} (serves : R → R → Bool) (kept : ℕ → R → Option
   abbrev pub AllBelow : ℕ → Tasks R → R → List (Option ℕ) → Type 0
   AllBelow k all r [] = Unit {0}
   AllBelow k all r (None ∷ is) = AllBelow k all r is
-  AllBelow k all r (Some i ∷ is) = (((e : R × P) × (kept i (widen i r) ≡ Some e)) ⊎ IsBelow k all i (widen i r)) × AllBelow k all r is
+  AllBelow k all r (Some i ∷ is) =
+      (((e : R × P) × (kept i (widen i r) ≡ Some e)) ⊎ IsBelow k all i (widen i r))
+      × AllBelow k all r is
 
   -- so for each task
   abbrev pub IsLevelled : Tasks R → Tasks R → Type 0

@@ -1,11 +1,13 @@
--- What lies upstream of a node of a network: all nodes but writers, which pass requests on to what feeds them (VTK User's Guide, "The visualization pipeline").
+-- What lies upstream of a node of a network: all nodes but writers, which pass requests on to what
+-- feeds them (VTK User's Guide, "The visualization pipeline").
 use Rattle.std.specs.Prelude.{◌≡◌, ℕ, Bool, true, false, List, [], ◌∷◌, Option, None, Some}
 use Rattle.viz_kinds.specs.declared.settings.Settings.{Settings}
 use Rattle.viz_kinds.specs.declared.settings.Settings.TheVariants as settings
 use Rattle.viz_network.specs.declared.node.Node.{Node}
 use Rattle.viz_network.specs.Cone.{Cone, Tree, none, empty, fed, port, cone_of}
 use Rattle.viz_network.specs.Network.{Network}
-use Rattle.viz_plan_meaning.specs.Plan.{Upstream as Ways, none as no_way, empty as no_node, fed as way}
+use Rattle.viz_plan_meaning.specs.Plan.{Upstream as Ways, none as no_way, empty as no_node}
+use Rattle.viz_plan_meaning.specs.Plan.{fed as way}
 
 -- whether a node passes requests on
 abbrev pub passes : Settings → Bool

@@ -1,7 +1,10 @@
--- What has to be made for requests to a node, and what of the kept is used for it (VTK User's Guide, the executive: a filter executes again only where no kept output serves the request).
-use Rattle.std.specs.Prelude.{ℕ, nat_eq, Bool, true, false, ◌||◌, ◌&&◌, cond, List, [], ◌∷◌, ◌++◌, Option, None, Some}
+-- What has to be made for requests to a node, and what of the kept is used for it (VTK User's
+-- Guide, the executive: a filter executes again only where no kept output serves the request).
+use Rattle.std.specs.Prelude.{ℕ, nat_eq, Bool, true, false, ◌||◌, ◌&&◌, cond, List, [], ◌∷◌, ◌++◌}
+use Rattle.std.specs.Prelude.{Option, None, Some}
 
--- what lies upstream of ports, ascending: each port is empty, or fed by the node with this position, which has ports of its own
+-- what lies upstream of ports, ascending: each port is empty, or fed by the node with this
+-- position, which has ports of its own
 pub data Upstream : Type 0 where
   none : Upstream
   empty : Upstream → Upstream
@@ -28,9 +31,11 @@ module _ {R : Type 0} (serves : R → R → Bool) where
   -- needs without those that an earlier one of the same node serves; front: all that stand before
   abbrev pub thin : List (ℕ × R) → List (ℕ × R) → List (ℕ × R)
   thin front [] = []
-  thin front (x ∷ xs) = cond (served front x.0 x.1) (thin (front ++ x ∷ []) xs) (x ∷ thin (front ++ x ∷ []) xs)
+  thin front (x ∷ xs) =
+      cond (served front x.0 x.1) (thin (front ++ x ∷ []) xs) (x ∷ thin (front ++ x ∷ []) xs)
 
--- kept: the entry that serves a request at a node; widen: what the node makes for a request; asks: what it asks its inputs for
+-- kept: the entry that serves a request at a node; widen: what the node makes for a request; asks:
+-- what it asks its inputs for
 module _ {R P : Type 0} (kept : ℕ → R → Option (R × P)) (widen asks : ℕ → R → R) where
   -- nothing where a kept entry serves; else what the inputs need, and then the request itself
   abbrev pub met : Option (R × P) → ℕ → R → (R → List (ℕ × R)) → List (ℕ × R)
@@ -49,7 +54,8 @@ module _ {R P : Type 0} (kept : ℕ → R → Option (R × P)) (widen asks : ℕ
   all_needs c (r ∷ rs) = needs c r ++ all_needs c rs
 
 -- the plan of several requests to the ports
-abbrev pub plan : {R P : Type 0} → (R → R → Bool) → (ℕ → R → Option (R × P)) → (ℕ → R → R) → (ℕ → R → R) → Upstream → List R → List (ℕ × R)
+abbrev pub plan : {R P : Type 0} → (R → R → Bool) → (ℕ → R → Option (R × P)) → (ℕ → R → R)
+    → (ℕ → R → R) → Upstream → List R → List (ℕ × R)
 plan serves kept widen asks c rs = thin serves [] (all_needs kept widen asks c rs)
 
 -- ---- the entries that are used
@@ -79,7 +85,8 @@ module _ {R : Type 0} (same : R → R → Bool) where
     abbrev pub entries : Upstream → R → List (ℕ × R)
     entries none r = []
     entries (empty others) r = entries others r
-    entries (fed n own others) r = met_entry (kept n (widen n r)) n (entries own (asks n (widen n r))) ++ entries others r
+    entries (fed n own others) r =
+        met_entry (kept n (widen n r)) n (entries own (asks n (widen n r))) ++ entries others r
 
     abbrev pub all_entries : Upstream → List R → List (ℕ × R)
     all_entries c [] = []

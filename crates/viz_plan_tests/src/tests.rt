@@ -1,11 +1,12 @@
 //! What updates of small networks have to make, counted by hand.
 
+use crate::table::{Asked, ROWS, Row};
 use std::alloc::Global;
 use std::marker::Model;
 use std::test::Fail;
 use viz_base::{Bytes, NodeId, Shape, Shared, Word};
 use viz_extent::Extent;
-use viz_network::{ApplyStop, Cause, Edit, Kind, Net, Stop, networks_are_sound};
+use viz_network::{ApplyStop, Cause, Edit, Kind, Net, Param, Stop, Value, networks_are_sound};
 use viz_node_meaning::{Grid, Information, Lengths};
 use viz_parts::{Key, Part, Request, Stored};
 use viz_plan::{Plan, Told, demand, inform};
@@ -273,6 +274,72 @@ fn a_node_on_two_ways_is_made_once(rt: HostRuntime) -> Result<(), Fail> {
     Ok(())
 }
 
+// A contour of an image, and what a first update of it kept.
+const SURFACE: [Line<'static>; 2] = [
+    ("src", Kind::File, "", ""),
+    ("iso", Kind::Contour, "src", ""),
+];
+
+// An edit of the contour between two updates.
+#[derive(Clone, Copy, Debug)]
+enum Between {
+    Nothing,
+    NewLevel,
+    NewNode,
+}
+
+fn edit(story: &mut Story, between: Between) -> Result<(), Fail> {
+    match between {
+        Between::Nothing => Ok(()),
+        Between::NewLevel => set_level(story),
+        Between::NewNode => replace(story),
+    }
+}
+
+fn set_level(story: &mut Story) -> Result<(), Fail> {
+    let node = word("iso")?;
+    let value = Value::Numbers {
+        count: 1,
+        items: [10, 0, 0, 0, 0, 0, 0, 0],
+    };
+    story.apply(&Edit::Set {
+        node,
+        param: Param::Levels,
+        value,
+    })?;
+    Ok(())
+}
+
+fn replace(story: &mut Story) -> Result<(), Fail> {
+    let node = word("iso")?;
+    story.apply(&Edit::Remove { node })?;
+    add(story, ("iso", Kind::Contour, "src", ""))
+}
+
+fn updated_again(alloc: Global, between: Between) -> Result<(usize, usize, usize), Fail> {
+    let mut story = network(alloc, &SURFACE)?;
+    let kept = [("src", 0, block(EIGHT)), ("iso", 0, piece(0, 1, 0))];
+    let entries = stored(alloc, &story, &kept)?;
+    edit(&mut story, between)?;
+    let told = told(alloc, &story, &[("src", EIGHT)])?;
+    let sink = story.node("iso")?;
+    planned(alloc, &story, &told, &entries, sink, 1)
+}
+
+// The rows level-changed and node-replaced: the contour alone is made, of the file that is kept.
+#[test]
+fn level_changed_and_node_replaced(rt: HostRuntime) -> Result<(), Fail> {
+    for (between, want) in [
+        (Between::Nothing, (0, 0, 1)),
+        (Between::NewLevel, (1, 1, 1)),
+        (Between::NewNode, (1, 1, 1)),
+    ] {
+        let got = updated_again(rt.alloc(), between)?;
+        assert_eq!(rt; got, want, "{between:?}");
+    }
+    Ok(())
+}
+
 const POINTS: &str = "# vtk DataFile Version 3.0
 eight
 ASCII
@@ -336,6 +403,30 @@ fn what_is_informed_is_planned(rt: HostRuntime) -> Result<(), Fail> {
     ] {
         let got = informed(alloc, &story, sink, pieces)?;
         assert_eq!(rt; got, Ok(want), "{sink} {pieces}");
+    }
+    Ok(())
+}
+
+fn request_of(asked: &Asked) -> Request {
+    match asked {
+        Asked::Block(bounds) => block(*bounds),
+        Asked::Piece(p, n, ghosts) => piece(*p, *n, *ghosts),
+    }
+}
+
+fn of_row(alloc: Global, row: &Row) -> Result<(usize, usize, usize), Fail> {
+    let mut kept = Vec::new(alloc);
+    for (name, older, asked) in row.kept {
+        kept.push((*name, *older, request_of(asked)))?;
+    }
+    demanded(alloc, row.lines, row.images, &kept, row.sink, row.pieces)
+}
+
+#[test]
+fn plans_are_those_of_a_plain_recursion(rt: HostRuntime) -> Result<(), Fail> {
+    for (i, row) in ROWS.iter().enumerate() {
+        let got = of_row(rt.alloc(), row)?;
+        assert_eq!(rt; got, row.want, "row {i}");
     }
     Ok(())
 }

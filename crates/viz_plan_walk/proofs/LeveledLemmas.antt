@@ -1,6 +1,5 @@
 -- Levels, by the places of steps.
-use Rattle.std.proofs.Common.{◌≡◌, ℕ, zero, suc, ◌+◌, ◌<◌, ◌≤◌, max, Bool, true, false, cond, List, [], ◌∷◌, ◌++◌, append_assoc, length, map, drop, drop-cons, take, slice_get, IfSome, Option, None, Some, refl, sym, ap, subst, ◌∙◌, arith}
-use Rattle.std.proofs.lemmas.Option.{slice_get-get_or}
+use Rattle.std.proofs.Common.{◌≡◌, ℕ, suc, ◌+◌, ◌<◌, max, List, [], ◌∷◌, ◌++◌, append_assoc, length, map, drop, drop-cons, take, slice_get, IfSome, Option, None, Some, refl, sym, ap, subst, ◌∙◌, arith}
 use lib.ListN.{get_or}
 use Rattle.std.specs.List.{range_with_len}
 use Rattle.std.proofs.lemmas.List.{map-append, take_more}

@@ -3,3 +3,5 @@ pub mod WalkLemmas
 pub mod SourceLemmas
 pub mod TaskLemmas
 pub mod LeveledLemmas
+pub mod FindingLemmas
+pub mod LevelListLemmas

@@ -1,6 +1,5 @@
 -- Requests: when two are the same, and when one serves another.
-use Rattle.std.proofs.Common.{◌≡◌, ℕ, zero, suc, ◌≤◌, drop, length, ◌∷◌, Bool, true, false, ◌&&◌, ◌||◌, nat_eq, nat_le, List, [], Option, Some, None, refl, sym, ap, ◌∙◌, true≢false, arith}
-use Rattle.std.proofs.lemmas.Bool.{eqb-true}
+use Rattle.std.proofs.Common.{◌≡◌, ℕ, zero, suc, ◌≤◌, drop, length, ◌∷◌, true, List, [], Option, refl, sym, ap, ◌∙◌, arith}
 use Rattle.viz_parts.specs.declared.request.Request.{Request}
 use Rattle.viz_plan_meaning.specs.Plan.{Upstream, thin, plan, used}
 use Rattle.viz_plan_meaning.specs.Steps.Visits.{IsOne, visit_all, visit_all_used}
@@ -15,7 +14,7 @@ use Rattle.viz_requests.specs.Serving.{serves}
 abbrev key_with : Request → Key
 key_with r = record { node = record { 0 = 0 }; stamp = 0; request = r }
 
-request_alike : (a b : Request) → same_request a b ≡ true → a ≡ b
+pub request_alike : (a b : Request) → same_request a b ≡ true → a ≡ b
 request_alike a b e = ap (λ (k : Key). k.request) (key-same (key_with a) (key_with b) e)
 
 request_itself : (a : Request) → same_request a a ≡ true

@@ -1,19 +1,18 @@
 -- The cone of a step is that of its node.
-use Rattle.std.proofs.Common.{◌≡◌, ℕ, zero, suc, ◌+◌, ◌<◌, ◌≤◌, Bool, List, [], ◌∷◌, length, map, slice_get, Option, None, Some, refl, sym, ap, subst, ◌∙◌, arith}
+use Rattle.std.proofs.Common.{◌≡◌, ℕ, zero, suc, ◌<◌, Bool, List, [], ◌∷◌, length, slice_get, Option, None, Some, refl, sym, ap, subst, ◌∙◌, arith}
 use Rattle.std.proofs.lemmas.Option.{slice_get_within}
 use Rattle.std.specs.Option.{option_map}
 use Rattle.viz_base.specs.declared.node.NodeId.{NodeId}
-use Rattle.viz_network.specs.declared.node.Node.{Node}
 use Rattle.viz_network.specs.declared.steps.Step.{Step}
-use Rattle.viz_network.specs.Network.{Network, node_of}
+use Rattle.viz_network.specs.Network.{Network}
 use Rattle.viz_network.specs.Step.{nodes_of, AreSteps}
-use Rattle.viz_plan_meaning.specs.Plan.{Upstream, none, empty, fed, heads, AllOf, thin, all_needs, plan, nub, all_entries, used}
+use Rattle.viz_plan_meaning.specs.Plan.{Upstream, none, empty, fed, heads, thin, all_needs, plan, nub, all_entries, used}
 use Rattle.viz_plan_meaning.specs.Steps.Visits.{IsOne}
-use Rattle.viz_plan_meaning.specs.Networks.{passes, ways_at, ways_to, task_at, head_of, reached}
+use Rattle.viz_plan_meaning.specs.Networks.{ways_at, ways_to, task_at, head_of, reached}
 use Rattle.viz_plan_meaning.proofs.WriterLemmas.{sink_reaches}
 use Rattle.viz_plan_meaning.proofs.NetworkLemmas.{step_at, node_stands, sink_stands}
 use Rattle.viz_plan_walk.specs.Walk.{port, grow, above, to_step}
-use Rattle.viz_plan_walk.specs.TaskSteps.{IsAt, AreSourced, AreTasks}
+use Rattle.viz_plan_walk.specs.TaskSteps.{AreSourced, AreTasks}
 
 count_nodes : (steps : List Step) → length (nodes_of steps) ≡ length steps
 count_nodes [] = refl

@@ -1,12 +1,12 @@
 -- Going over the inputs of a step, one after the other.
-use Rattle.std.proofs.Common.{◌≡◌, ℕ, zero, suc, ◌+◌, ◌-◌, ◌<◌, ◌≤◌, Bool, true, false, cond, List, [], ◌∷◌, take, slice_get, length, Option, None, Some, refl, sym, ap, subst, ◌∙◌, arith}
+use Rattle.std.proofs.Common.{◌≡◌, ℕ, zero, suc, ◌+◌, ◌-◌, ◌<◌, ◌≤◌, false, cond, List, [], ◌∷◌, take, slice_get, length, Option, None, Some, refl, sym, ap, ◌∙◌, arith}
 use Rattle.std.proofs.lemmas.Option.{slice_get-get_or}
 use lib.ListN.{get_or}
 use Rattle.std.specs.Option.{option_map}
 use Rattle.viz_network.specs.declared.steps.Step.{Step}
 use Rattle.viz_parts.specs.declared.request.Part.{Part}
 use Rattle.viz_parts.specs.declared.request.Request.{Request}
-use Rattle.viz_plan_meaning.specs.Plan.{Upstream, none, empty, fed, has, add}
+use Rattle.viz_plan_meaning.specs.Plan.{Upstream, none, has, add}
 use Rattle.viz_plan_meaning.specs.Steps.Visits.{enter, enter_used, visit, visit_used}
 use Rattle.viz_plan_walk.specs.Walk.{port, grow, above}
 use Rattle.viz_cache.specs.Keys.{same_request}

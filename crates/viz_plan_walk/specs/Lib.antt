@@ -1,3 +1,4 @@
 pub mod Walk
 pub mod TaskSteps
 pub mod Leveling
+pub mod Finding

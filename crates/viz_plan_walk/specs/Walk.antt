@@ -1,5 +1,7 @@
--- The steps upstream of a step, and the needs of a walk. Only private contracts and proofs speak of it.
-use Rattle.std.specs.Prelude.{◌≡◌, ℕ, zero, suc, nat_eq, nat_le, Bool, true, false, ◌&&◌, ◌||◌, List, [], ◌∷◌, map, slice_get, Option, None, Some}
+-- The steps upstream of a step, and the needs of a walk. Only private contracts and proofs speak of
+-- it.
+use Rattle.std.specs.Prelude.{ℕ, zero, suc}
+use Rattle.std.specs.Prelude.{List, [], ◌∷◌, map, slice_get, Option, None, Some}
 use Rattle.std.specs.Option.{option_map}
 use Rattle.viz_network.specs.declared.steps.Step.{Step}
 use Rattle.viz_parts.specs.declared.request.Request.{Request}
@@ -20,7 +22,8 @@ grow up (Some p ∷ places) = port (up p) (grow up places)
 -- the step at a place with what lies fewer than so many steps upstream
 abbrev pub above : ℕ → List Step → ℕ → Option (ℕ × Upstream)
 above zero steps p = None
-above (suc k) steps p = option_map (λ s. (s.node.0, grow (above k steps) s.inputs)) (slice_get steps p)
+above (suc k) steps p =
+    option_map (λ s. (s.node.0, grow (above k steps) s.inputs)) (slice_get steps p)
 
 -- a step, as one port
 abbrev pub to_step : ℕ → List Step → ℕ → Upstream

@@ -1,20 +1,22 @@
 //! The tasks of a plan with their levels.
 
-ghost use Rattle.std.specs.Prelude.{◌≡◌, ◌+◌, ◌∷◌, [], IfOk, IfSome, length, map, max, slice_get};
-ghost use Rattle.std.specs.List.{range_with_len};
+ghost use Rattle.std.specs.Prelude.{◌≡◌, ◌+◌, ◌∷◌, [], IfOk, IfSome, OnOk, length, map, max, slice_get};
+ghost use Rattle.std.specs.List.{All, range_with_len};
 ghost use Rattle.viz_network.specs.declared.steps.Step.{Step};
 ghost use Rattle.viz_network.specs.Step.{nodes_of};
 ghost use Rattle.viz_plan_meaning.specs.Laws.{inputs_of};
 ghost use Rattle.viz_plan_meaning.specs.Levels.{AllUnder, above_first, above_inputs, at_level, needs_of, with_levels};
 ghost use Rattle.viz_plan_walk.specs.TaskSteps.{AreTasks};
 ghost use Rattle.viz_plan_walk.specs.Walk.{named};
-ghost use Rattle.viz_plan_walk.specs.Leveling.{above_by, levelled};
+ghost use Rattle.viz_plan_walk.specs.Finding.{number_of};
+ghost use Rattle.viz_plan_walk.specs.Leveling.{IsPushed, PutsTask, above_by, levelled, task_of};
 ghost use Rattle.viz_requests.specs.Serving.{serves};
 
 use crate::tasks::Tasks;
-use crate::walk::{Asking, Need, inputs_of};
+use crate::walk::{Asking, Need, inputs_of, number_of};
 use std::alloc::{AllocError, Global};
 use viz_base::NodeId;
+use viz_buckets::{Buckets, Numbered};
 use viz_network::{Net, Step};
 use viz_parts::Request;
 use viz_requests::serves;
@@ -27,8 +29,17 @@ pub struct Levelled {
     pub level: usize,
 }
 
-// One more than the level of the first task of the node that serves the request; 0 where none does.
-fn above_first(table: &[Levelled], node: NodeId, wanted: &Request) -> Option<usize>
+impl Numbered for Levelled {
+    ghost number = { λ task. number_of task.need.node.0 task.need.request };
+
+    fn number(&self) -> u64 {
+        number_of(self.need.node, &self.need.request)
+    }
+}
+
+// One more than the level of the first of some tasks of the node that serves the request; 0 where
+// none does.
+fn above_among(table: &[Levelled], node: NodeId, wanted: &Request) -> Option<usize>
     ensures { IfSome result (λ l. l ≡ above_first serves (levelled table.now) node.0 wanted.now) }
 {
     for task in table {
@@ -39,11 +50,18 @@ fn above_first(table: &[Levelled], node: NodeId, wanted: &Request) -> Option<usi
     Some(0)
 }
 
+// So of all tasks.
+fn above_first(table: &Buckets<Levelled>, node: NodeId, wanted: &Request) -> Option<usize>
+    ensures { IfSome result (λ l. l ≡ above_first serves (levelled table.now) node.0 wanted.now) }
+{
+    above_among(table.bucket(number_of(node, wanted)), node, wanted)
+}
+
 // The level above what feeds a port.
 fn above_port<A: Asking>(
     asking: &A,
     steps: &[Step],
-    table: &[Levelled],
+    table: &Buckets<Levelled>,
     place: &Option<usize>,
     request: &Request,
 ) -> Option<usize>
@@ -66,7 +84,7 @@ fn above_port<A: Asking>(
 fn above_ports<A: Asking>(
     asking: &A,
     steps: &[Step],
-    table: &[Levelled],
+    table: &Buckets<Levelled>,
     places: &[Option<usize>],
     request: &Request,
 ) -> Option<usize>
@@ -83,7 +101,12 @@ fn above_ports<A: Asking>(
 }
 
 // The level of a task, by the levels of those before it.
-fn level_of<A: Asking>(asking: &A, steps: &[Step], table: &[Levelled], need: &Need) -> Option<usize>
+fn level_of<A: Asking>(
+    asking: &A,
+    steps: &[Step],
+    table: &Buckets<Levelled>,
+    need: &Need,
+) -> Option<usize>
     requires order { A.order asking.now ≡ nodes_of steps.now }
     ensures { IfSome result (λ l. (s : Step) × (slice_get steps.now need.now.place ≡ Some s)
         × (s.node ≡ need.now.node) × (l ≡ above_by serves (A.kept asking.now) (A.widened asking.now)
@@ -103,7 +126,7 @@ fn level_in<A: Asking>(
     asking: &A,
     net: &Net,
     tasks: &Tasks,
-    table: &[Levelled],
+    table: &Buckets<Levelled>,
     need: &Need,
 ) -> Option<usize>
     requires tasks { AreTasks net.now
@@ -131,14 +154,14 @@ pub fn with_levels<A: Asking>(
         (A.widened asking.now)
         (A.asked asking.now) (inputs_of net.now) [] (named plan.now)) }
 {
-    let mut table = Vec::with_capacity(alloc, plan.len())?;
+    let mut table = Buckets::new(alloc, plan.len())?;
     for need in plan {
         let Some(level) = level_in(asking, net, tasks, &table, need) else {
             return Err(AllocError);
         };
         table.push(Levelled { need: *need, level })?;
     }
-    Ok(table)
+    Ok(table.into_list())
 }
 
 // A number above another and the level of a task.
@@ -160,18 +183,39 @@ fn count_of(table: &[Levelled]) -> Option<usize>
     Some(count)
 }
 
-// The tasks of a level, in the plan's order.
-fn at_level(alloc: Global, table: &[Levelled], level: usize) -> Result<Vec<Need>, AllocError>
-    ensures { IfOk result (λ all. named all.items ≡ needs_of (at_level level
-        (levelled table.now))) }
+// So many empty lists.
+fn empty_lists(alloc: Global, count: usize) -> Result<Vec<Vec<Need>>, AllocError>
+    ensures count { IfOk result (λ all. length all.items ≡ count) }
+    ensures empty { IfOk result (λ all. All (λ list. list.items ≡ []) all.items) }
 {
-    let mut all = Vec::new(alloc);
-    for task in table {
-        if task.level == level {
-            all.push(task.need)?;
-        }
+    let mut all = Vec::with_capacity(alloc, count)?;
+    for _ in 0..count {
+        all.push(Vec::new(alloc))?;
     }
     Ok(all)
+}
+
+// Adds an item to the list at a place.
+fn push_at<T: Copy>(lists: &mut Vec<Vec<T>>, at: usize, item: T) -> Result<(), AllocError>
+    ensures count { OnOk result (length lists.new.items ≡ length lists.old.items) }
+    ensures pushed { OnOk result (IsPushed (λ list. list.items) at item lists.old.items
+        lists.new.items) }
+{
+    if at >= lists.len() {
+        return Err(AllocError);
+    }
+    lists[at].push(item)?;
+    Ok(())
+}
+
+// Adds a task to the list of its level.
+fn put_task(lists: &mut Vec<Vec<Need>>, task: &Levelled) -> Result<(), AllocError>
+    ensures count { OnOk result (length lists.new.items ≡ length lists.old.items) }
+    ensures put { OnOk result (PutsTask (λ list. named list.items) (task_of task.now)
+        lists.old.items lists.new.items) }
+{
+    push_at(lists, task.level, task.need)?;
+    Ok(())
 }
 
 /// The tasks level by level, in each in the plan's order.
@@ -184,9 +228,9 @@ pub fn by_levels(alloc: Global, table: &[Levelled]) -> Result<Vec<Vec<Need>>, Al
     let Some(count) = count_of(table) else {
         return Err(AllocError);
     };
-    let mut all = Vec::with_capacity(alloc, count)?;
-    for level in 0..count {
-        all.push(at_level(alloc, table, level)?)?;
+    let mut all = empty_lists(alloc, count)?;
+    for task in table {
+        put_task(&mut all, task)?;
     }
     Ok(all)
 }

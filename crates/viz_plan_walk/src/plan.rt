@@ -15,6 +15,7 @@ use crate::thin::thinned;
 use crate::walk::{Asking, Need, Walk, enter};
 use std::alloc::{AllocError, Global};
 use viz_base::NodeId;
+use viz_buckets::Buckets;
 use viz_network::{Net, Step};
 use viz_parts::Request;
 
@@ -40,15 +41,17 @@ fn plan_of<A: Asking>(
     ensures used { IfOk result (λ p. named p.used.items ≡ used same_request (A.kept asking.now)
         (A.widened asking.now) (A.asked asking.now) (to_step 256 steps.now place) requests.now) }
 {
+    let expected = steps.len().saturating_mul(requests.len());
     let mut walk = Walk {
-        needs: Vec::new(alloc),
-        used: Vec::new(alloc),
+        needs: Buckets::new(alloc, expected)?,
+        used: Buckets::new(alloc, expected)?,
     };
     for request in requests {
         enter(asking, steps, 256, place, request, &mut walk)?;
     }
     let Walk { needs, used } = walk;
-    let tasks = thinned(alloc, &needs)?;
+    let tasks = thinned(alloc, needs.list())?;
+    let used = used.into_list();
     Ok(Plan { tasks, used })
 }
 

@@ -5,14 +5,15 @@ ghost use Rattle.viz_plan_meaning.specs.Plan.{served, thin};
 ghost use Rattle.viz_plan_walk.specs.Walk.{named};
 ghost use Rattle.viz_requests.specs.Serving.{serves};
 
-use crate::walk::Need;
+use crate::walk::{Need, number_of};
 use std::alloc::{AllocError, Global};
 use viz_base::NodeId;
+use viz_buckets::Buckets;
 use viz_parts::Request;
 use viz_requests::serves;
 
-/// Whether a need in the list serves the request.
-pub fn first_serving(needs: &[Need], node: NodeId, request: &Request) -> bool
+// Whether one of the needs serves the request.
+fn serves_among(needs: &[Need], node: NodeId, request: &Request) -> bool
     ensures { result ≡ served serves (named needs.now) node.0 request.now }
 {
     for need in needs {
@@ -23,13 +24,24 @@ pub fn first_serving(needs: &[Need], node: NodeId, request: &Request) -> bool
     false
 }
 
+// Whether a need of the list serves another.
+fn is_served(front: &Buckets<Need>, need: &Need) -> bool
+    ensures { result ≡ served serves (named front.now) need.now.node.0 need.now.request }
+{
+    let bucket = front.bucket(number_of(need.node, &need.request));
+    serves_among(bucket, need.node, &need.request)
+}
+
 /// The needs without those that an earlier one serves.
 pub fn thinned(alloc: Global, needs: &[Need]) -> Result<Vec<Need>, AllocError>
     ensures { IfOk result (λ plan. named plan.items ≡ thin serves [] (named needs.now)) }
 {
     let mut plan = Vec::new(alloc);
-    for (i, need) in needs.iter().enumerate() {
-        if !first_serving(&needs[..i], need.node, &need.request) {
+    let mut front = Buckets::new(alloc, needs.len())?;
+    for need in needs {
+        let served = is_served(&front, need);
+        front.push(*need)?;
+        if !served {
             plan.push(*need)?;
         }
     }

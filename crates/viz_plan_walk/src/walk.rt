@@ -3,6 +3,7 @@
 ghost use Rattle.std.specs.Prelude.{◌≡◌, ℕ, IfSome, List, OnOk, Option, Some, None, slice_get};
 ghost use Rattle.viz_plan_meaning.specs.Plan.{has as has_need, add as add_need};
 ghost use Rattle.viz_plan_meaning.specs.Steps.Visits.{visit, visit_used};
+ghost use Rattle.viz_plan_walk.specs.Finding.{number_of, piece_of};
 ghost use Rattle.viz_plan_walk.specs.Walk.{named, to_step};
 ghost use Rattle.viz_cache.specs.Keys.{same_request};
 ghost use Rattle.viz_network.specs.Step.{nodes_of};
@@ -12,6 +13,7 @@ ghost use Rattle.viz_base.specs.declared.node.NodeId.{NodeId};
 
 use std::alloc::{AllocError, Global};
 use viz_base::NodeId;
+use viz_buckets::{Buckets, Numbered};
 use viz_network::Step;
 use viz_parts::Request;
 
@@ -23,13 +25,37 @@ pub struct Need {
     pub request: Request,
 }
 
+impl Numbered for Need {
+    ghost number = { λ need. number_of need.node.0 need.request };
+
+    fn number(&self) -> u64 {
+        number_of(self.node, &self.request)
+    }
+}
+
+fn piece_of(request: &Request) -> u32
+    ensures { result ≡ piece_of request.now }
+{
+    match request {
+        Request::Block(_) => 0,
+        Request::Piece { p, .. } => *p,
+    }
+}
+
+/// The number of a request at a node, which what is the same or serves it has too.
+pub fn number_of(node: NodeId, request: &Request) -> u64
+    ensures { result ≡ number_of node.0 request.now }
+{
+    u64::from(node.0) * 64 + u64::from(piece_of(request))
+}
+
 /// What is met on a walk upstream.
-#[derive(Debug, Drop)]
+#[derive(Drop)]
 pub struct Walk {
     /// What has to be computed, each need behind its own.
-    pub needs: Vec<Need>,
+    pub needs: Buckets<Need>,
     /// The kept requests that are used.
-    pub used: Vec<Need>,
+    pub used: Buckets<Need>,
 }
 
 /// What is asked of nodes, by the places of their steps, and what is kept of them.
@@ -60,8 +86,8 @@ pub trait Asking {
         ensures none { result ≡ None → kept self.now node.0 request.now ≡ None };
 }
 
-/// Whether the list has the need.
-pub fn has(seen: &[Need], node: NodeId, request: &Request) -> bool
+// Whether the need is among some.
+fn is_among(seen: &[Need], node: NodeId, request: &Request) -> bool
     ensures { result ≡ has_need same_request (named seen.now) node.0 request.now }
 {
     for need in seen {
@@ -72,15 +98,22 @@ pub fn has(seen: &[Need], node: NodeId, request: &Request) -> bool
     false
 }
 
+// Whether the list has the need.
+fn has(seen: &Buckets<Need>, node: NodeId, request: &Request) -> bool
+    ensures { result ≡ has_need same_request (named seen.now) node.0 request.now }
+{
+    is_among(seen.bucket(number_of(node, request)), node, request)
+}
+
 // Adds a need where the list hasn't it.
 fn add(
-    list: &mut Vec<Need>,
+    list: &mut Buckets<Need>,
     place: usize,
     node: NodeId,
     request: &Request,
 ) -> Result<(), AllocError>
-    ensures { OnOk result (named list.new.items ≡ add_need same_request
-        (named list.old.items) node.0 request.now) }
+    ensures { OnOk result (named list.new ≡ add_need same_request
+        (named list.old) node.0 request.now) }
 {
     if !has(list, node, request) {
         list.push(Need {
@@ -109,13 +142,13 @@ pub fn enter<A: Asking>(
     walk: &mut Walk,
 ) -> Result<(), AllocError>
     requires order { A.order asking.now ≡ nodes_of steps.now }
-    ensures needs { OnOk result (named walk.new.needs.items ≡ visit same_request
+    ensures needs { OnOk result (named walk.new.needs ≡ visit same_request
         (A.kept asking.now) (A.widened asking.now) (A.asked asking.now)
-        (to_step fuel steps.now place) request.now (named walk.old.needs.items)) }
-    ensures used { OnOk result (named walk.new.used.items ≡ visit_used same_request
+        (to_step fuel steps.now place) request.now (named walk.old.needs)) }
+    ensures used { OnOk result (named walk.new.used ≡ visit_used same_request
         (A.kept asking.now) (A.widened asking.now) (A.asked asking.now)
-        (to_step fuel steps.now place) request.now (named walk.old.needs.items)
-        (named walk.old.used.items)) }
+        (to_step fuel steps.now place) request.now (named walk.old.needs)
+        (named walk.old.used)) }
 {
     if fuel == 0 {
         return Ok(());

@@ -1,9 +1,12 @@
--- Needs and used entries by going into each need once. Only private contracts and proofs speak of it.
+-- Needs and used entries by going into each need once. Only private contracts and proofs speak of
+-- it.
 use Rattle.std.specs.Prelude.{◌≡◌, ℕ, Bool, true, cond, List, [], ◌∷◌, ◌++◌, Option, None, Some}
 use Rattle.viz_plan_meaning.specs.Plan.{Upstream, none, empty, fed, has, add}
 
-module _ {R : Type 0} (same : R → R → Bool) {P : Type 0} (kept : ℕ → R → Option (R × P)) (widen asks : ℕ → R → R) where
-  abbrev pub enter : Option (R × P) → ℕ → R → (List (ℕ × R) → List (ℕ × R)) → List (ℕ × R) → List (ℕ × R)
+module _ {R : Type 0} (same : R → R → Bool) {P : Type 0} (kept : ℕ → R → Option (R × P))
+    (widen asks : ℕ → R → R) where
+  abbrev pub enter : Option (R × P) → ℕ → R → (List (ℕ × R) → List (ℕ × R)) → List (ℕ × R)
+      → List (ℕ × R)
   enter (Some e) n w up s = s
   enter None n w up s = cond (has same s n w) s (add same (up s) n w)
 
@@ -11,9 +14,11 @@ module _ {R : Type 0} (same : R → R → Bool) {P : Type 0} (kept : ℕ → R �
   abbrev pub visit : Upstream → R → List (ℕ × R) → List (ℕ × R)
   visit none r s = s
   visit (empty others) r s = visit others r s
-  visit (fed n own others) r s = visit others r (enter (kept n (widen n r)) n (widen n r) (visit own (asks n (widen n r))) s)
+  visit (fed n own others) r s =
+      visit others r (enter (kept n (widen n r)) n (widen n r) (visit own (asks n (widen n r))) s)
 
-  abbrev pub enter_used : Option (R × P) → ℕ → R → List (ℕ × R) → List (ℕ × R) → List (ℕ × R) → List (ℕ × R)
+  abbrev pub enter_used : Option (R × P) → ℕ → R → List (ℕ × R) → List (ℕ × R) → List (ℕ × R)
+      → List (ℕ × R)
   enter_used (Some e) n w up s u = add same u n e.0
   enter_used None n w up s u = cond (has same s n w) u up
 
@@ -22,7 +27,8 @@ module _ {R : Type 0} (same : R → R → Bool) {P : Type 0} (kept : ℕ → R �
   visit_used none r s u = u
   visit_used (empty others) r s u = visit_used others r s u
   visit_used (fed n own others) r s u =
-      visit_used others r (enter (kept n (widen n r)) n (widen n r) (visit own (asks n (widen n r))) s)
+      visit_used others r
+      (enter (kept n (widen n r)) n (widen n r) (visit own (asks n (widen n r))) s)
       (enter_used (kept n (widen n r)) n (widen n r) (visit_used own (asks n (widen n r)) s u) s u)
 
   -- several requests, one after the other

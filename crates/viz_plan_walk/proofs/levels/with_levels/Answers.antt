@@ -1,8 +1,4 @@
-use Rattle.std.proofs.Common.{◌≡◌, ap, subst, ◌∙◌}
-use Rattle.viz_requests.specs.Serving.{serves}
 use Rattle.viz_plan_meaning.specs.Laws.{inputs_of}
-use Rattle.viz_plan_meaning.specs.Levels.{above_inputs}
-use Rattle.viz_plan_walk.specs.Leveling.{levelled}
 use Rattle.viz_plan_walk.proofs.LeveledLemmas.{table_more}
 use Rattle.viz_plan_walk.proofs.levels.with_levels.Goals as goal
 
@@ -13,7 +9,7 @@ loop-need-preserved g c =
     let widened = rules.widened c.args.asking.now in
     let asked = rules.asked c.args.asking.now in
     let x = c.need-item.result in
-    table_more kept widened asked (inputs_of c.args.net.now) c.args.plan.now c.loop-need.need-index x c.loop-need.table.items _ c.in-Some.level _
+    table_more kept widened asked (inputs_of c.args.net.now) c.args.plan.now c.loop-need.need-index x c.loop-need.table _ c.in-Some.level _
     c.loop-need-test.true c.need-item.is c.loop-need.invariant
-    (subst (λ t. c.in-Some.level ≡ above_inputs serves kept widened (levelled t) (asked x.node.0 x.request) (inputs_of c.args.net.now x.node.0)) c.deref.ensures.value c.in-Some.ensures)
-    c.in_ok-push.ensures.items
+    c.in-Some.ensures
+    c.in_ok-push.ensures

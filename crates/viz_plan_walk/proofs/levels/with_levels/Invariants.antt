@@ -9,5 +9,5 @@ use Rattle.viz_plan_walk.proofs.levels.with_levels.Given as goal
 abbrev pub invariant-loop-need : goal.invariant-loop-need
 invariant-loop-need g l =
     let rules = g.A.Asking in
-    levelled l.table.items ++ with_levels serves (rules.kept l.asking) (rules.widened l.asking) (rules.asked l.asking) (inputs_of l.net) (levelled l.table.items) (named (drop l.need-index l.plan))
+    levelled l.table ++ with_levels serves (rules.kept l.asking) (rules.widened l.asking) (rules.asked l.asking) (inputs_of l.net) (levelled l.table) (named (drop l.need-index l.plan))
     ≡ with_levels serves (rules.kept l.asking) (rules.widened l.asking) (rules.asked l.asking) (inputs_of l.net) [] (named l.plan)

@@ -1,4 +1,4 @@
-use Rattle.std.proofs.Common.{◌≡◌, ap, ◌∙◌, []}
+use Rattle.std.proofs.Common.{ap, ◌∙◌, []}
 use Rattle.viz_plan_meaning.specs.Plan.{thin}
 use Rattle.viz_plan_walk.specs.Walk.{named, to_step}
 use Rattle.viz_requests.specs.Serving.{serves}
@@ -8,11 +8,12 @@ use Rattle.viz_plan_walk.proofs.plan.plan_of.Goals as goal
 pub returns-clause-tasks : goal.returns-clause-tasks
 returns-clause-tasks g c =
     c.in_ok-tasks.ensures
-    ∙ ap (λ l. thin serves [] (named l)) c.deref.ensures.value
+    ∙ ap (λ l. thin serves [] (named l)) c.list.ensures
     ∙ plan_end (g.A.Asking.kept c.args.asking.now) (g.A.Asking.widened c.args.asking.now) (g.A.Asking.asked c.args.asking.now) (to_step 256 c.args.steps.now c.args.place) c.args.requests.now c.requires.one
-    (named c.loop-request.walk.needs.items) c.loop-request.request-index c.loop-request-test.false c.loop-request.invariant.needs
+    (named c.loop-request.walk.needs) c.loop-request.request-index c.loop-request-test.false c.loop-request.invariant.needs
 
 pub returns-clause-used : goal.returns-clause-used
 returns-clause-used g c =
-    used_end (g.A.Asking.kept c.args.asking.now) (g.A.Asking.widened c.args.asking.now) (g.A.Asking.asked c.args.asking.now) (to_step 256 c.args.steps.now c.args.place) c.args.requests.now c.requires.one
-    (named c.loop-request.walk.needs.items) (named c.loop-request.walk.used.items) c.loop-request.request-index c.loop-request-test.false c.loop-request.invariant.used
+    ap named c.into_list-used.ensures
+    ∙ used_end (g.A.Asking.kept c.args.asking.now) (g.A.Asking.widened c.args.asking.now) (g.A.Asking.asked c.args.asking.now) (to_step 256 c.args.steps.now c.args.place) c.args.requests.now c.requires.one
+    (named c.loop-request.walk.needs) (named c.loop-request.walk.used) c.loop-request.request-index c.loop-request-test.false c.loop-request.invariant.used

@@ -13,6 +13,6 @@ invariant-loop-request g l =
     let c = to_step 256 l.steps l.place in
     let left = drop l.request-index l.requests in
     record {
-      needs : visit_all same_request kept widened asked c left (named l.walk.needs.items) ≡ visit_all same_request kept widened asked c l.requests [];
-      used : visit_all_used same_request kept widened asked c left (named l.walk.needs.items) (named l.walk.used.items) ≡ visit_all_used same_request kept widened asked c l.requests [] [];
+      needs : visit_all same_request kept widened asked c left (named l.walk.needs) ≡ visit_all same_request kept widened asked c l.requests [];
+      used : visit_all_used same_request kept widened asked c left (named l.walk.needs) (named l.walk.used) ≡ visit_all_used same_request kept widened asked c l.requests [] [];
     }

@@ -1,4 +1,4 @@
-use Rattle.std.proofs.Common.{◌≡◌, ◌+◌, map, [], get_or, sym, ap, subst, ◌∙◌}
+use Rattle.std.proofs.Common.{◌+◌, map, [], get_or, sym, ap, subst, ◌∙◌}
 use Rattle.std.proofs.lemmas.Option.{slice_get-get_or}
 use Rattle.viz_network.specs.declared.steps.Step.{Step}
 use Rattle.viz_network.specs.Step.{nodes_of}

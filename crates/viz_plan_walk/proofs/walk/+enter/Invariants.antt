@@ -12,6 +12,6 @@ invariant-loop-input g l =
     let rules = g.A.Asking in
     let ways = grow (above (l.fuel - 1) l.steps) (take l.input-index l.inputs) in
     record {
-      needs : named l.walk.needs.items ≡ visit same_request (rules.kept l.asking) (rules.widened l.asking) (rules.asked l.asking) ways l.asked (named l.initial.walk.needs.items);
-      used : named l.walk.used.items ≡ visit_used same_request (rules.kept l.asking) (rules.widened l.asking) (rules.asked l.asking) ways l.asked (named l.initial.walk.needs.items) (named l.initial.walk.used.items);
+      needs : named l.walk.needs ≡ visit same_request (rules.kept l.asking) (rules.widened l.asking) (rules.asked l.asking) ways l.asked (named l.initial.walk.needs);
+      used : named l.walk.used ≡ visit_used same_request (rules.kept l.asking) (rules.widened l.asking) (rules.asked l.asking) ways l.asked (named l.initial.walk.needs) (named l.initial.walk.used);
     }
