@@ -106,7 +106,11 @@ fn another_part_is_no_piece(rt: HostRuntime) -> Result<(), Fail> {
         (1, Piece { unit: 2, ..one }, false),
         (1, Piece { fewer: 0, ..one }, false),
     ] {
-        assert_eq!(rt; are_facets_of(rt.alloc(), ghosts, asked)?, want, "{ghosts} {asked:?}");
+        assert_eq!(rt;
+            are_facets_of(rt.alloc(), ghosts, asked)?,
+            want,
+            "{ghosts} {asked:?}"
+        );
     }
     Ok(())
 }
