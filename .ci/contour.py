@@ -3,9 +3,9 @@
 
 It makes the surface of the image of 4 x 4 x 4 points in crates/viz_once_tests/src/contour_texts.rt,
 and compares it with the text there; and it counts the contour of 32 x 32 x 32 points and the sides
-of its triangles, whose numbers tests of viz_once_tests, viz_surface_law and viz_session want. It
-makes the volume of the number 7, of so many points too, and counts what
-crates/viz_session/src/tests/volumes.rt wants of it.
+of its triangles, whose numbers tests of viz_once_tests and viz_contour_tests and `.ci/rows.py` want.
+It makes the volume of the number 7, of so many points too, and counts what the row
+`.ci/rows/generated-volume` wants of it, which is made twice there.
 """
 import os
 import re
@@ -134,7 +134,9 @@ def main():
     counts = audit([32] * 3, names, triangles)
     if counts != (362579, 352405, 10174, 10174):
         sys.exit("contour: 32 x 32 x 32 points: sides %d two %d open %d border %d" % counts)
-    if report_of(7, [32] * 3) != constants("crates/viz_session/src/tests/volumes.rt")["BIG"]:
+    with open(os.path.join(TOP, ".ci/rows/generated-volume/want/stdout"), encoding="utf-8") as row:
+        wanted = row.read()
+    if not wanted.endswith(report_of(7, [32] * 3) * 2):
         sys.exit("contour: the volume of 7 on 32 x 32 x 32 points differs")
     print("contour: three surfaces, and the sides of two, are those of a plain program")
 
