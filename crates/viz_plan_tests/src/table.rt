@@ -13,11 +13,11 @@ pub enum Asked {
 /// Nodes with what feeds their first two ports; the extents of images; kept parts, with how much
 /// older their stamps are; the sink; and the tasks, levels and used entries of its plan.
 #[derive(Clone, Copy)]
-pub struct Row {
-    pub lines: &'static [(&'static str, Kind, &'static str, &'static str)],
-    pub images: &'static [(&'static str, [u32; 6])],
-    pub kept: &'static [(&'static str, u32, Asked)],
-    pub sink: &'static str,
+pub struct Row<'a> {
+    pub lines: &'a [(&'a str, Kind, &'a str, &'a str)],
+    pub images: &'a [(&'a str, [u32; 6])],
+    pub kept: &'a [(&'a str, u32, Asked)],
+    pub sink: &'a str,
     pub pieces: u32,
     pub want: (usize, usize, usize),
 }

@@ -123,18 +123,29 @@ fn told(alloc: Global, story: &Story, images: Images<'_>) -> Result<Vec<Told>, F
 // What is kept: a node, how much older its stamp is, and the request.
 type Kept<'a> = &'a [(&'a str, u32, Request)];
 
+fn entry(
+    alloc: Global,
+    story: &Story,
+    name: &str,
+    older: u32,
+    request: Request,
+) -> Result<Stored, Fail> {
+    let node = story.node(name)?;
+    let stamp = story.net.stamp(node).ok_or("a stamp")?;
+    let part = Shared::new(alloc, Part::Mesh(Vec::new(alloc)))?;
+    let key = Key {
+        node,
+        stamp: stamp.saturating_sub(older),
+        request,
+    };
+    Ok(Stored { key, part })
+}
+
 fn stored(alloc: Global, story: &Story, kept: Kept<'_>) -> Result<Vec<Stored>, Fail> {
     let mut all = Vec::new(alloc);
     for (name, older, request) in kept {
-        let node = story.node(name)?;
-        let stamp = story.net.stamp(node).ok_or("a stamp")?;
-        let part = Shared::new(alloc, Part::Mesh(Vec::new(alloc)))?;
-        let key = Key {
-            node,
-            stamp: stamp.saturating_sub(*older),
-            request: *request,
-        };
-        all.push(Stored { key, part })?;
+        let one = entry(alloc, story, name, *older, *request)?;
+        all.push(one)?;
     }
     Ok(all)
 }
@@ -414,12 +425,21 @@ fn request_of(asked: &Asked) -> Request {
     }
 }
 
-fn of_row(alloc: Global, row: &Row) -> Result<(usize, usize, usize), Fail> {
-    let mut kept = Vec::new(alloc);
+fn row_entries(alloc: Global, story: &Story, row: &Row<'_>) -> Result<Vec<Stored>, Fail> {
+    let mut all = Vec::new(alloc);
     for (name, older, asked) in row.kept {
-        kept.push((*name, *older, request_of(asked)))?;
+        let one = entry(alloc, story, name, *older, request_of(asked))?;
+        all.push(one)?;
     }
-    demanded(alloc, row.lines, row.images, &kept, row.sink, row.pieces)
+    Ok(all)
+}
+
+fn of_row(alloc: Global, row: &Row<'_>) -> Result<(usize, usize, usize), Fail> {
+    let story = network(alloc, row.lines)?;
+    let told = told(alloc, &story, row.images)?;
+    let entries = row_entries(alloc, &story, row)?;
+    let sink = story.node(row.sink)?;
+    planned(alloc, &story, &told, &entries, sink, row.pieces)
 }
 
 #[test]
