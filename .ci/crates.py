@@ -1,5 +1,5 @@
 #!/usr/bin/env python3
-"""The list of crates in docs/CRATES.md: levels and order are those of crates.txt, and what a
+"""The list of crates in docs/ARCHITECTURE.md: levels and order are those of crates.txt, and what a
 crate is stands in the first sentence of its src/lib.rt, or of src/main.rt where it is a program.
 
     python3 .ci/crates.py          says where the list isn't that one
@@ -10,7 +10,7 @@ import re
 import sys
 
 TOP = os.path.dirname(os.path.dirname(os.path.abspath(__file__)))
-PAGE = os.path.join(TOP, "docs", "CRATES.md")
+PAGE = os.path.join(TOP, "docs", "ARCHITECTURE.md")
 BEGIN = "<!-- made by .ci/crates.py: begin -->\n"
 END = "<!-- made by .ci/crates.py: end -->\n"
 
@@ -55,9 +55,12 @@ def what_it_is(crate):
 
 
 def made():
-    """The list, a row for each crate."""
-    rows = ["| Level | Crate | What it is |", "|---|---|---|"]
-    rows += ["| %s | `%s` | %s |" % (level, crate, what_it_is(crate)) for level, crate in levels()]
+    """The list, a row for each level."""
+    found = {}
+    for level, crate in levels():
+        found.setdefault(level, []).append("`%s`: %s" % (crate, what_it_is(crate)))
+    rows = ["| Level | Crates, and what each is |", "|---|---|"]
+    rows += ["| %s | %s |" % (level, "<br>".join(crates)) for level, crates in found.items()]
     return "\n".join(rows) + "\n"
 
 
@@ -66,7 +69,7 @@ def main():
     front, begin, rest = page.partition(BEGIN)
     old, end, behind = rest.partition(END)
     if not begin or not end:
-        stop("docs/CRATES.md has no two lines that the list stands between")
+        stop("docs/ARCHITECTURE.md has no two lines that the list stands between")
     new = made()
     if sys.argv[1:] == ["write"]:
         with open(PAGE, "w", encoding="utf-8") as file:
@@ -74,10 +77,10 @@ def main():
     elif sys.argv[1:]:
         stop("its one word is write")
     elif old != new:
-        for line in new.splitlines():
-            if line not in old.splitlines():
-                print("crates: docs/CRATES.md lacks:", line)
-        stop("docs/CRATES.md has another list; python3 .ci/crates.py write mends it")
+        for part in new.replace("<br>", "\n").splitlines():
+            if part not in old.replace("<br>", "\n").splitlines():
+                print("crates: docs/ARCHITECTURE.md lacks:", part)
+        stop("docs/ARCHITECTURE.md has another list; python3 .ci/crates.py write mends it")
     print("crates: the list is that of %d crates" % len(levels()))
 
 
