@@ -1,5 +1,8 @@
--- The entries of a journal, or the first refusal of its first line that has one (docs/FORMATS.md, "Journals").
-use Rattle.std.specs.Prelude.{◌≡◌, ℕ, zero, suc, pos, int_le, ◌+◌, Bool, true, false, not, ◌&&◌, ◌==◌, nat_lt, List, [], ◌∷◌, ◌++◌, map, take, drop, length, count_by, is_ok, Result, Ok, Err, if◌then◌else◌}
+-- The entries of a journal, or the first refusal of its first line that has one
+-- (docs/FORMATS.md, "Journals").
+use Rattle.std.specs.Prelude.{◌≡◌, ℕ, zero, suc, pos, int_le, ◌+◌, Bool, true, false, not, ◌&&◌}
+use Rattle.std.specs.Prelude.{◌==◌, nat_lt, List, [], ◌∷◌, ◌++◌, map, take, drop, length, count_by}
+use Rattle.std.specs.Prelude.{is_ok, Result, Ok, Err, if◌then◌else◌}
 use Rattle.viz_kinds.specs.Values.{is_text}
 use Rattle.viz_network.specs.declared.edit.Edit.{Edit}
 use Rattle.viz_network.specs.declared.edit.Edit.TheVariants as edit
@@ -76,11 +79,13 @@ edits_of entries = map (λ e. e.edit) entries
 
 -- the count is the next one of its actor, and there is room for an entry
 abbrev pub is_counted : Told → List JournalEntry → Bool
-is_counted told entries = told.count == entries_by told.actor entries + 1 && nat_lt (length entries) entry_limit
+is_counted told entries = told.count == entries_by told.actor entries + 1
+    && nat_lt (length entries) entry_limit
 
 -- the line is spelled as it is written, and a newline ends it and the bytes of a load
 abbrev pub is_spelled : Told → Part → Bool
-is_spelled told part = part.ended && is_closed told.draft part.rest && is_text part.line (entry_line (entry_of told part.rest))
+is_spelled told part = part.ended && is_closed told.draft part.rest
+    && is_text part.line (entry_line (entry_of told part.rest))
 
 -- the network accepts the edit behind these
 abbrev pub is_accepted : Edit → List JournalEntry → Bool
@@ -104,32 +109,39 @@ abbrev pub ends : ℕ → List JournalEntry → List ℕ → Result (List Journa
 ends n entries [] = Ok entries
 ends n entries (b ∷ bs) = Err (n, refusal.Word)
 
--- the entries, where the last line of this number tells how many they are and is spelled as it is written
+-- the entries, where the last line of this number tells how many they are and is spelled as it is
+-- written
 abbrev pub last_at : ℕ → List JournalEntry → Part → ℕ → Result (List JournalEntry) Stop
 last_at n entries part count = if not (count == length entries) then Err (n, refusal.Number)
-    else (if not (part.ended && is_text part.line (last_line count)) then Err (n, refusal.Word) else ends (n + 1) entries part.rest)
+    else (if not (part.ended && is_text part.line (last_line count)) then Err (n, refusal.Word)
+      else ends (n + 1) entries part.rest)
 
 -- the entries with one more and those behind it
-abbrev pub entered : ℕ → (List JournalEntry → List ℕ → Result (List JournalEntry) Stop) → List JournalEntry → Result JournalEntry ScriptRefusal → List ℕ
+abbrev pub entered : ℕ → (List JournalEntry → List ℕ → Result (List JournalEntry) Stop)
+    → List JournalEntry → Result JournalEntry ScriptRefusal → List ℕ
     → Result (List JournalEntry) Stop
 entered n next entries (Err refusal) rest = Err (n, refusal)
 entered n next entries (Ok e) rest = next (entries ++ e ∷ []) rest
 
 -- the entries and those of a line that says this and of what is behind it
-abbrev pub judged : ℕ → (List JournalEntry → List ℕ → Result (List JournalEntry) Stop) → List JournalEntry → Part → Result Line ScriptRefusal
+abbrev pub judged : ℕ → (List JournalEntry → List ℕ → Result (List JournalEntry) Stop)
+    → List JournalEntry → Part → Result Line ScriptRefusal
     → Result (List JournalEntry) Stop
 judged n next entries part (Err refusal) = Err (n, refusal)
 judged n next entries part (Ok (line.Last count)) = last_at n entries part count
-judged n next entries part (Ok (line.Entry told)) = entered n next entries (entry_at entries part told) (rest_of told.draft part.rest)
+judged n next entries part (Ok (line.Entry told)) =
+    entered n next entries (entry_at entries part told) (rest_of told.draft part.rest)
 
 -- the entries and those of the bytes, whose first line has this number, in at most so many lines
 unfoldable pub journal_from : ℕ → ℕ → List JournalEntry → List ℕ → Result (List JournalEntry) Stop
 journal_from zero n entries bytes = Err (n, refusal.Word)
-journal_from (suc k) n entries bytes = judged n (journal_from k (n + 1)) entries (part_of bytes) (line_in (part_of bytes).line)
+journal_from (suc k) n entries bytes =
+    judged n (journal_from k (n + 1)) entries (part_of bytes) (line_in (part_of bytes).line)
 
 -- the entries of a journal
 abbrev pub journal_read : List ℕ → Result (List JournalEntry) Stop
-journal_read bytes = if is_text (take 17 bytes) first_line then journal_from (length (drop 17 bytes)) 2 [] (drop 17 bytes) else Err (1, refusal.Word)
+journal_read bytes = if is_text (take 17 bytes) first_line
+    then journal_from (length (drop 17 bytes)) 2 [] (drop 17 bytes) else Err (1, refusal.Word)
 
 -- the refusal that the definition gives, unless memory ran out
 abbrev pub Stops : ScriptStop → Result (List JournalEntry) Stop → Type 0
@@ -137,6 +149,7 @@ Stops (Refused n refusal) read = read ≡ Err (n, refusal)
 Stops Memory read = Unit {0}
 
 -- the entries that the definition gives, or the refusal that it gives, unless memory ran out
-abbrev pub Reads : {E : Type 0} → (E → List JournalEntry) → Result E ScriptStop → Result (List JournalEntry) Stop → Type 0
+abbrev pub Reads : {E : Type 0} → (E → List JournalEntry) → Result E ScriptStop
+    → Result (List JournalEntry) Stop → Type 0
 Reads view (Ok entries) read = read ≡ Ok (view entries)
 Reads view (Err stop) read = Stops stop read

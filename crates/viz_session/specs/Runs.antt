@@ -40,22 +40,26 @@ abbrev pub usage_told : Telling
 usage_told = record { text = usage_line; status = status.Usage; is_made = false }
 
 module _ {P O : Type 0} (m : port.Ghosts P) (o : out.Ghosts O) (desk new_desk : P) (old new : List P) (before after : O) where
-  -- what a run was: the account of its command, and what was put of it. The command of one file and that of a volume use no desk; where
-  -- the words are no command nothing is used
+  -- what a run was: the account of its command, and what was put of it. The command of one file and
+  -- that of a volume use no desk; where the words are no command nothing is used
   abbrev pub IsRun : Option Command → Status → Type 0
   IsRun (Some (Once c)) ended = once_account.IsRun m o c old new before after ended × (new_desk ≡ desk)
   IsRun (Some (Script script journal)) ended =
-      (ran : Ran) × deeds.IsScriptRun m script journal ran desk new_desk old new × IsTold o (script_told.telling_of ran) ended before after
+      (ran : Ran) × deeds.IsScriptRun m script journal ran desk new_desk old new
+        × IsTold o (script_told.telling_of ran) ended before after
   IsRun (Some (Scratch c)) ended =
-      (came : Came) × replay.IsReplayRun m c came desk new_desk old new × IsTold o (replay_told.telling_of came) ended before after
+      (came : Came) × replay.IsReplayRun m c came desk new_desk old new
+        × IsTold o (replay_told.telling_of came) ended before after
   IsRun (Some (Make c)) ended =
-      (came : MakeCame) × make.IsMakeRun m c came old new × IsTold o (make_told.telling_of came) ended before after × (new_desk ≡ desk)
+      (came : MakeCame) × make.IsMakeRun m c came old new
+        × IsTold o (make_told.telling_of came) ended before after × (new_desk ≡ desk)
   IsRun None ended = IsTold o usage_told ended before after × (new ≡ old) × (new_desk ≡ desk)
 
   -- a run that answers Done
   abbrev pub IsDone : Option Command → Type 0
   IsDone (Some (Once c)) = once_promises.IsDone m o c old new before after
-  IsDone (Some (Script script journal)) = script_promises.IsReported m o script journal status.Done desk new_desk old new before after
+  IsDone (Some (Script script journal)) =
+      script_promises.IsReported m o script journal status.Done desk new_desk old new before after
   IsDone (Some (Scratch c)) = replay_promises.IsDone m o c desk new_desk old new before after
   IsDone (Some (Make c)) = make_promises.IsDone m o c old new before after
   IsDone None = ⊥
@@ -63,7 +67,8 @@ module _ {P O : Type 0} (m : port.Ghosts P) (o : out.Ghosts O) (desk new_desk : 
   -- a run that answers Refused
   abbrev pub IsRefused : Option Command → Type 0
   IsRefused (Some (Once c)) = once_promises.IsRefused m o c old new before after
-  IsRefused (Some (Script script journal)) = script_promises.IsReported m o script journal status.Refused desk new_desk old new before after
+  IsRefused (Some (Script script journal)) =
+      script_promises.IsReported m o script journal status.Refused desk new_desk old new before after
   IsRefused (Some (Scratch c)) = replay_promises.IsRefused m o c desk new_desk old new before after
   IsRefused (Some (Make c)) = ⊥
   IsRefused None = ⊥
@@ -71,7 +76,8 @@ module _ {P O : Type 0} (m : port.Ghosts P) (o : out.Ghosts O) (desk new_desk : 
   -- where a reason for a refusal holds, of a file, a script or a journal, or there is no port, it is told
   abbrev pub Refuses : Option Command → Status → Type 0
   Refuses (Some (Once c)) ended = once_promises.TellsRefusals m o c old new before after ended
-  Refuses (Some (Script script journal)) ended = script_promises.TellsRefusals m o script desk new_desk old new before after ended
+  Refuses (Some (Script script journal)) ended =
+      script_promises.TellsRefusals m o script desk new_desk old new before after ended
   Refuses (Some (Scratch c)) ended = replay_promises.TellsRefusals m o c desk new_desk old new before after ended
   Refuses (Some (Make c)) ended = make_promises.TellsRefusals o old before after ended
   Refuses None ended = Unit {0}
