@@ -2,8 +2,8 @@
 use Rattle.std.proofs.Common.{◌≡◌, ℕ, zero, suc, ◌+◌, ◌≤◌, Bool, true, false, true≢false, cond, ◌||◌, List, [], ◌∷◌, ◌++◌, length, flat_map, slice_get, Some, refl, sym, ap, subst, ◌∙◌, arith}
 use Rattle.viz_base.specs.declared.port.Port as port
 use Rattle.viz_turn.specs.Tales.{has, entries_of}
-use Rattle.viz_history.specs.declared.entry.Entry.{Entry}
-use Rattle.viz_history.specs.History.{by_of}
+use Rattle.viz_entries.specs.declared.entry.Entry.{Entry}
+use Rattle.viz_entries.specs.History.{by_of}
 use Rattle.viz_script.specs.Orders.{Asked}
 use Rattle.viz_report.specs.declared.line.Line.{Line}
 use Rattle.viz_account.specs.Account.{edited, places_from, places, IsActor, AreActors}

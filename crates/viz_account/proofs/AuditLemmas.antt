@@ -8,7 +8,7 @@ use Rattle.viz_network.specs.declared.fault.Stop.{Stop}
 use Rattle.viz_network.specs.declared.fault.Stop.TheVariants as stop
 use Rattle.viz_network.specs.declared.node.Node.{Node}
 use Rattle.viz_network.specs.Network.{Network, named, name_of}
-use Rattle.viz_history.specs.declared.entry.Entry.{Entry}
+use Rattle.viz_entries.specs.declared.entry.Entry.{Entry}
 use Rattle.viz_script.specs.Orders.{Asked, edit, load, update, audit}
 use Rattle.viz_node_meaning.specs.Scratch.{Answers}
 use Rattle.viz_account.specs.Audited.{IsAuditOf}

@@ -1,7 +1,7 @@
 -- A history and the places of a pass's entries, with more entries.
 use Rattle.std.proofs.Common.{◌≡◌, ℕ, ◌+◌, Bool, true, false, cond, List, [], ◌∷◌, ◌++◌, length, take, slice_get, Some, refl, ap, ◌∙◌, arith}
 use Rattle.viz_turn.specs.Tales.{has}
-use Rattle.viz_history.specs.declared.entry.Entry.{Entry}
+use Rattle.viz_entries.specs.declared.entry.Entry.{Entry}
 use Rattle.viz_account.specs.Account.{places_from, places}
 
 pub take-all : (h : List Entry) → take (length h) h ≡ h

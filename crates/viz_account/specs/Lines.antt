@@ -10,8 +10,8 @@ use Rattle.viz_network.specs.declared.node.Node.{Node}
 use Rattle.viz_network.specs.Network.{Network, named, name_of}
 use Rattle.viz_network.specs.Edits.{apply}
 use Rattle.viz_turn.specs.Tales.{has}
-use Rattle.viz_history.specs.declared.entry.Entry.{Entry}
-use Rattle.viz_history.specs.History.{network_of}
+use Rattle.viz_entries.specs.declared.entry.Entry.{Entry}
+use Rattle.viz_entries.specs.History.{network_of}
 use Rattle.viz_script.specs.Orders.{Asked, edit, load, update, audit}
 use Rattle.viz_scratch.specs.Written.{IsFileOf}
 use Rattle.viz_account.specs.Audited.{IsAuditOf}

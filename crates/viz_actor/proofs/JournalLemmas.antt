@@ -2,7 +2,7 @@
 use Rattle.std.proofs.Common.{◌≡◌, ℕ, List, [], length, map, Option, Some, ap, ap₂, subst, ◌∙◌}
 use Rattle.std.specs.List.{All}
 use Rattle.std.proofs.lemmas.List.{length-map}
-use Rattle.viz_history.specs.declared.entry.Entry.{Entry}
+use Rattle.viz_entries.specs.declared.entry.Entry.{Entry}
 use Rattle.viz_journal.specs.declared.entry.JournalEntry.{JournalEntry}
 use Rattle.viz_report.specs.declared.line.Row.{Row}
 use Rattle.viz_actor.specs.Journals.{actor_with, numbered}

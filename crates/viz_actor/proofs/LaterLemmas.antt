@@ -5,8 +5,8 @@ use Rattle.viz_base.specs.declared.port.Port as port
 use Rattle.viz_turn.specs.Tales.{has, clear, GoesOn}
 use Rattle.viz_turn.proofs.ListLemmas.{has_head, has_tail, has_cons}
 use Rattle.viz_turn.proofs.TaleLemmas.{clear_sub, further_still}
-use Rattle.viz_history.specs.declared.entry.Entry.{Entry}
-use Rattle.viz_history.specs.History.{by_of}
+use Rattle.viz_entries.specs.declared.entry.Entry.{Entry}
+use Rattle.viz_entries.specs.History.{by_of}
 use Rattle.viz_script.specs.declared.order.Step.{Step}
 use Rattle.viz_script.specs.Orders.{Asked}
 use Rattle.viz_report.specs.declared.line.Line.{Line}

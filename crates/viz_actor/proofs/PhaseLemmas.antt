@@ -9,8 +9,8 @@ use Rattle.viz_turn.specs.Tales.{has, once, clear}
 use Rattle.viz_turn.specs.Known.{Identity}
 use Rattle.viz_hub.specs.Passes.{PassKnown, numbers, at_seen, elder, younger, IsFresh}
 use Rattle.viz_turn.proofs.ListLemmas.{has_head, has_tail, has_cons, once_cons}
-use Rattle.viz_history.specs.declared.entry.Entry.{Entry}
-use Rattle.viz_history.specs.History.{by_of}
+use Rattle.viz_entries.specs.declared.entry.Entry.{Entry}
+use Rattle.viz_entries.specs.History.{by_of}
 use Rattle.viz_script.specs.declared.order.Step.{Step}
 use Rattle.viz_report.specs.declared.line.Line.{Line}
 use Rattle.viz_account.specs.Served.{ServesAll}

@@ -11,8 +11,8 @@ use Rattle.viz_hub.specs.Passes.{PassKnown, first_pass, numbers, IsWhole, GoesFu
 use Rattle.viz_turn.proofs.ListLemmas.{has_cons, same_at}
 use Rattle.viz_turn.proofs.TaleLemmas.{further_still}
 use Rattle.viz_turn.proofs.LawLemmas.{no_other}
-use Rattle.viz_history.specs.declared.entry.Entry.{Entry}
-use Rattle.viz_history.specs.History.{by_of, IsLegal}
+use Rattle.viz_entries.specs.declared.entry.Entry.{Entry}
+use Rattle.viz_entries.specs.History.{by_of, IsLegal}
 use Rattle.viz_script.specs.declared.order.Step.{Step}
 use Rattle.viz_script.specs.Orders.{Asked}
 use Rattle.viz_script.specs.Script.{Stepped, script_of, stepped, phase_limit}

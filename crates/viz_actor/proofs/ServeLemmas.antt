@@ -13,10 +13,10 @@ use Rattle.viz_turn.proofs.TaleLemmas.{clear_sub}
 use Rattle.viz_network.specs.declared.edit.Edit.{Edit}
 use Rattle.viz_network.specs.Network.{Network}
 use Rattle.viz_network.specs.Edits.{apply}
-use Rattle.viz_history.specs.declared.entry.Entry.{Entry}
-use Rattle.viz_history.specs.declared.entry.EditAnswer.{EditAnswer}
-use Rattle.viz_history.specs.declared.entry.EditAnswer.TheVariants as answer
-use Rattle.viz_history.specs.History.{by_of, network_of}
+use Rattle.viz_entries.specs.declared.entry.Entry.{Entry}
+use Rattle.viz_history.specs.declared.answer.EditAnswer.{EditAnswer}
+use Rattle.viz_history.specs.declared.answer.EditAnswer.TheVariants as answer
+use Rattle.viz_entries.specs.History.{by_of, network_of}
 use Rattle.viz_hub.specs.Answers.{Answers, next_entry}
 use Rattle.viz_script.specs.declared.order.Step.{Step}
 use Rattle.viz_script.specs.Orders.{Asked, seen, load, update, audit}

@@ -5,7 +5,7 @@ use Rattle.std.specs.List.{All}
 use Rattle.std.proofs.lemmas.List.{length-map, map-append}
 use Rattle.std.proofs.lemmas.List.Elements.{All-weaker}
 use Rattle.viz_base.specs.declared.port.Port as port
-use Rattle.viz_history.specs.declared.entry.Entry.{Entry}
+use Rattle.viz_entries.specs.declared.entry.Entry.{Entry}
 use Rattle.viz_script.specs.Orders.{Asked as Command}
 use Rattle.viz_script.specs.Script.{Stepped}
 use Rattle.viz_report.specs.declared.line.Line.{Line}

@@ -4,7 +4,7 @@ use Rattle.std.specs.List.{All}
 use Rattle.viz_base.specs.declared.port.Port as port
 use Rattle.viz_base.specs.declared.call.ReadAnswer.TheVariants as read
 use Rattle.viz_base.specs.declared.call.WriteAnswer.{WriteAnswer}
-use Rattle.viz_history.specs.declared.entry.Entry.{Entry}
+use Rattle.viz_entries.specs.declared.entry.Entry.{Entry}
 use Rattle.viz_script.specs.Orders.{Asked as Command}
 use Rattle.viz_script.specs.Script.{Stepped, script_of, phase_limit}
 use Rattle.viz_report.specs.declared.line.Line.{Line}

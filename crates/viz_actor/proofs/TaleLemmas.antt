@@ -7,8 +7,8 @@ use Rattle.viz_turn.specs.Tales.{has, once, clear, GoesOn}
 use Rattle.viz_hub.specs.Passes.{PassKnown, numbers, GoesFurther}
 use Rattle.viz_turn.proofs.ListLemmas.{has_head, has_tail, has_cons, has_left, has_right, has_either}
 use Rattle.viz_turn.proofs.TaleLemmas.{clear_left, clear_sub, clear_both, further_still}
-use Rattle.viz_history.specs.declared.entry.Entry.{Entry}
-use Rattle.viz_history.specs.History.{by_of}
+use Rattle.viz_entries.specs.declared.entry.Entry.{Entry}
+use Rattle.viz_entries.specs.History.{by_of}
 use Rattle.viz_script.specs.declared.order.Step.{Step}
 use Rattle.viz_report.specs.declared.line.Line.{Line}
 use Rattle.viz_report.specs.declared.line.Row.{Row}

@@ -7,7 +7,7 @@ use Rattle.viz_base.specs.declared.call.ReadAnswer.{ReadAnswer}
 use Rattle.viz_base.specs.declared.call.ReadAnswer.TheVariants as read
 use Rattle.viz_base.specs.declared.call.WriteAnswer.{WriteAnswer}
 use Rattle.viz_base.specs.declared.call.WriteAnswer.TheVariants as write
-use Rattle.viz_history.specs.declared.entry.Entry.{Entry}
+use Rattle.viz_entries.specs.declared.entry.Entry.{Entry}
 use Rattle.viz_script.specs.Script.{Stepped, script_of, phase_limit}
 use Rattle.viz_words.specs.declared.refusal.ScriptRefusal.TheVariants as refusal
 use Rattle.viz_report.specs.declared.line.Line.{Line}

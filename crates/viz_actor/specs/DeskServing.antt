@@ -4,7 +4,7 @@ use Rattle.viz_base.specs.declared.port.Port as port
 use Rattle.viz_base.specs.declared.call.Call.TheVariants.{Write}
 use Rattle.viz_base.specs.declared.call.ReadAnswer.TheVariants as read
 use Rattle.viz_base.specs.declared.call.WriteAnswer.{WriteAnswer}
-use Rattle.viz_history.specs.declared.entry.Entry.{Entry}
+use Rattle.viz_entries.specs.declared.entry.Entry.{Entry}
 use Rattle.viz_report.specs.declared.line.Row.{Row}
 use Rattle.viz_told.specs.Calls.{IsCalled}
 use Rattle.viz_actor.specs.declared.ran.Ran.{Ran}

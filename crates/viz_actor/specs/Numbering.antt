@@ -2,8 +2,8 @@
 use Rattle.std.specs.Prelude.{◌≡◌, ℕ, ◌+◌, ◌<◌, true, List, [], ◌∷◌, ◌++◌, length, map, flat_map, All, slice_get, slice_index, slice_set, Option, Some, None}
 use Rattle.std.specs.List.{zip}
 use Rattle.viz_turn.specs.Tales.{once, entries_of}
-use Rattle.viz_history.specs.declared.entry.Entry.{Entry}
-use Rattle.viz_history.specs.History.{by_of}
+use Rattle.viz_entries.specs.declared.entry.Entry.{Entry}
+use Rattle.viz_entries.specs.History.{by_of}
 use Rattle.viz_journal.specs.declared.entry.JournalEntry.{JournalEntry}
 use Rattle.viz_report.specs.declared.line.Row.{Row}
 use Rattle.viz_account.specs.Account.{edited}

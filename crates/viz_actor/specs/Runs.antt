@@ -2,7 +2,7 @@
 use Rattle.std.specs.Prelude.{◌≡◌, ℕ, ◌+◌, ◌≤◌, List, [], ◌∷◌, length, map, vec_capacity}
 use Rattle.viz_base.specs.declared.port.Port as port
 use Rattle.viz_hub.specs.Passes.{PassKnown}
-use Rattle.viz_history.specs.declared.entry.Entry.{Entry}
+use Rattle.viz_entries.specs.declared.entry.Entry.{Entry}
 use Rattle.viz_script.specs.declared.order.Step.{Step}
 use Rattle.viz_script.specs.Script.{Stepped, phase_limit}
 use Rattle.viz_report.specs.declared.line.Line.{Line}

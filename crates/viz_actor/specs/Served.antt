@@ -1,7 +1,7 @@
 -- What is served of a script: its account, and the rows of its report (docs/DEFINITIONS.md, "The account of a script").
 use Rattle.std.specs.Prelude.{◌≡◌, ℕ, List, Ok, map}
 use Rattle.viz_base.specs.declared.port.Port as port
-use Rattle.viz_history.specs.declared.entry.Entry.{Entry}
+use Rattle.viz_entries.specs.declared.entry.Entry.{Entry}
 use Rattle.viz_script.specs.declared.order.Step.{Step}
 use Rattle.viz_script.specs.Script.{Stepped, script_of, stepped, phase_limit}
 use Rattle.viz_report.specs.declared.line.Line.{Line}

@@ -3,9 +3,9 @@
 use Rattle.std.specs.Prelude.{◌≡◌, ℕ, ◌≤◌, ◌==◌, cond, List, [], ◌∷◌, ◌++◌, length}
 use Rattle.viz_base.specs.declared.port.Port as port
 use Rattle.viz_network.specs.declared.edit.Edit.{Edit}
-use Rattle.viz_history.specs.declared.entry.Entry.{Entry}
-use Rattle.viz_history.specs.declared.entry.EditAnswer.{EditAnswer}
-use Rattle.viz_history.specs.declared.entry.EditAnswer.TheVariants as answer
+use Rattle.viz_entries.specs.declared.entry.Entry.{Entry}
+use Rattle.viz_history.specs.declared.answer.EditAnswer.{EditAnswer}
+use Rattle.viz_history.specs.declared.answer.EditAnswer.TheVariants as answer
 use Rattle.viz_script.specs.declared.order.Step.{Step}
 use Rattle.viz_script.specs.Orders.{Asked, seen}
 use Rattle.viz_report.specs.declared.line.Line.{Line}

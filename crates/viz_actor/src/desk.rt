@@ -13,7 +13,7 @@ use std::sync::Wait;
 use std::thread::Threads;
 use viz_account::{audit_lines_are_closed, lines_count_edits};
 use viz_base::{ACTORS, Gate, Items, Port, ReadRefusal, WriteRefusal};
-use viz_history::Entry;
+use viz_entries::Entry;
 use viz_journal::journal_text;
 use viz_report::Row;
 use viz_script::{ScriptRefusal, ScriptStop, parse};

@@ -6,7 +6,7 @@ ghost use Rattle.viz_actor.specs.Numbering.{Agree, AreOwn, IsCounted, TellsActor
 
 use std::alloc::{AllocError, Global};
 use viz_base::ACTORS;
-use viz_history::Entry;
+use viz_entries::Entry;
 use viz_journal::JournalEntry;
 use viz_report::{Line, Row};
 

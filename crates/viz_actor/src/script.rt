@@ -13,7 +13,7 @@ use std::mem;
 use std::sync::Wait;
 use std::thread::Threads;
 use viz_base::{ACTORS, CACHE, Gate, HISTORY, Port};
-use viz_history::Entry;
+use viz_entries::Entry;
 use viz_hub::Hub;
 use viz_report::Row;
 use viz_script::Step;

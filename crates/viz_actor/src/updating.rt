@@ -2,7 +2,7 @@
 
 ghost use Rattle.std.specs.Prelude.{◌≡◌, IfSome, length};
 ghost use Rattle.viz_hub.specs.Passes.{at_seen, GoesFurther};
-ghost use Rattle.viz_history.specs.History.{network_of};
+ghost use Rattle.viz_entries.specs.History.{network_of};
 ghost use Rattle.viz_account.specs.Answers.{line_of, at_of, audit_line_of, audit_at_of};
 ghost use Rattle.viz_account.specs.Laws.{IsClosedLine};
 ghost use Rattle.viz_account.specs.Lines.{TellsAudit};

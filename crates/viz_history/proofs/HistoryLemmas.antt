@@ -13,10 +13,10 @@ use Rattle.viz_network.proofs.HistoryLemmas.{past_of_history}
 use Rattle.viz_network.specs.declared.edit.Edit.{Edit}
 use Rattle.viz_turn.proofs.ListLemmas.{has_head}
 use Rattle.viz_turn.proofs.TaleLemmas.{entries_append}
-use Rattle.viz_history.specs.declared.entry.Entry.{Entry}
-use Rattle.viz_history.specs.declared.entry.EditAnswer.{EditAnswer}
-use Rattle.viz_history.specs.declared.entry.EditAnswer.TheVariants.{Done, Refused, Full, Memory}
-use Rattle.viz_history.specs.History.{entry, by_of, edits_of, network_of, own_of, next, IsNext, IsLegalAfter}
+use Rattle.viz_entries.specs.declared.entry.Entry.{Entry}
+use Rattle.viz_history.specs.declared.answer.EditAnswer.{EditAnswer}
+use Rattle.viz_history.specs.declared.answer.EditAnswer.TheVariants.{Done, Refused, Full, Memory}
+use Rattle.viz_entries.specs.History.{entry, by_of, edits_of, network_of, own_of, next, IsNext, IsLegalAfter}
 use Rattle.viz_history.specs.Machine.{State, Replies}
 use Rattle.viz_history.specs.Kept.{IsKept}
 

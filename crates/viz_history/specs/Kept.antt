@@ -3,8 +3,8 @@ use Rattle.std.specs.Prelude.{◌≡◌, ℕ, ◌<◌, ◌≤◌, List, length}
 use Rattle.viz_parts.specs.declared.stored.Stored.{Stored}
 use Rattle.viz_kept.specs.True.{AreTrueOf}
 use Rattle.viz_network.specs.Network.{Network}
-use Rattle.viz_history.specs.declared.entry.Entry.{Entry}
-use Rattle.viz_history.specs.History.{edits_of, network_of, IsLegal}
+use Rattle.viz_entries.specs.declared.entry.Entry.{Entry}
+use Rattle.viz_entries.specs.History.{edits_of, network_of, IsLegal}
 
 -- a legal history within its limit, with its network, and kept parts that are true of it
 pub record IsKept (h : List Entry) (limit : ℕ) (net : Network) (cache : List Stored) : Type 0 where

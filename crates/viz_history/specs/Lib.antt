@@ -1,4 +1,3 @@
 pub mod Machine
 pub mod Publishing
-pub mod History
 pub mod Kept

@@ -4,12 +4,12 @@ use Rattle.viz_parts.specs.declared.stored.Key.{Key}
 use Rattle.viz_parts.specs.declared.stored.Stored.{Stored}
 use Rattle.viz_network.specs.declared.edit.Edit.{Edit}
 use Rattle.viz_network.specs.Edits.{apply}
-use Rattle.viz_history.specs.declared.entry.Entry.{Entry}
-use Rattle.viz_history.specs.declared.entry.EditAnswer.{EditAnswer}
-use Rattle.viz_history.specs.declared.entry.EditAnswer.TheVariants.{Done, Refused, Full, Memory}
+use Rattle.viz_entries.specs.declared.entry.Entry.{Entry}
+use Rattle.viz_history.specs.declared.answer.EditAnswer.{EditAnswer}
+use Rattle.viz_history.specs.declared.answer.EditAnswer.TheVariants.{Done, Refused, Full, Memory}
 use Rattle.viz_history.specs.declared.pinned.Pinned.{Pinned}
 use Rattle.viz_history.specs.declared.publishing.Kept.{Kept}
-use Rattle.viz_history.specs.History.{entry, network_of}
+use Rattle.viz_entries.specs.History.{entry, network_of}
 use Rattle.viz_history.specs.Publishing.{TakesIn, all_brought}
 
 -- the history, the most entries that it may have, the most parts that may be kept, the kept parts

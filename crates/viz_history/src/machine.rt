@@ -4,16 +4,17 @@ ghost use Rattle.std.specs.Prelude.{◌≡◌, ◌+◌, ◌<◌, ◌≤◌, leng
 ghost use Rattle.std.specs.List.{IsDistinct};
 ghost use Rattle.viz_cache.specs.Keys.{same_key};
 ghost use Rattle.viz_kept.specs.True.{AreTrueIn, AreTrueOf};
-ghost use Rattle.viz_history.specs.History.{edits_of, network_of, next, IsLegal};
+ghost use Rattle.viz_entries.specs.History.{edits_of, network_of, next, IsLegal};
 ghost use Rattle.viz_history.specs.Machine.{IsFirst, IsPinOf, Stays, Replies, Publishes};
 
-use crate::entry::{EditAnswer, Entry};
+use crate::answer::EditAnswer;
 use crate::pinned::Pinned;
 use crate::publishing::{Kept, bring_all, take_in};
 use std::alloc::{AllocError, Global};
 use std::marker::Model;
 use viz_base::Items;
 use viz_cache::Cache;
+use viz_entries::Entry;
 use viz_kept::true_of_longer;
 use viz_network::{ApplyStop, Edit, Net};
 use viz_parts::{Key, Stored};
@@ -50,7 +51,7 @@ impl Model for Core {
 }
 
 impl Story for Core {
-    ghost use Rattle.viz_history.specs.History.{by_of};
+    ghost use Rattle.viz_entries.specs.History.{by_of};
 
     type Entry = Entry;
 

@@ -15,10 +15,10 @@ use Rattle.viz_parts.specs.declared.stored.Stored.{Stored}
 use Rattle.viz_kept.specs.True.{AreMadeIn, AreTrueOf}
 use Rattle.viz_kept.proofs.TrueLemmas.{all_made_true}
 use Rattle.viz_network.specs.declared.edit.Edit.{Edit}
-use Rattle.viz_history.specs.declared.entry.Entry.{Entry}
-use Rattle.viz_history.specs.declared.entry.EditAnswer.{EditAnswer}
-use Rattle.viz_history.specs.declared.entry.EditAnswer.TheVariants.{Done, Refused, Full, Memory}
-use Rattle.viz_history.specs.History.{by_of, own_of, edits_of, network_of}
+use Rattle.viz_entries.specs.declared.entry.Entry.{Entry}
+use Rattle.viz_history.specs.declared.answer.EditAnswer.{EditAnswer}
+use Rattle.viz_history.specs.declared.answer.EditAnswer.TheVariants.{Done, Refused, Full, Memory}
+use Rattle.viz_entries.specs.History.{by_of, own_of, edits_of, network_of}
 use Rattle.viz_hub.specs.Answers.{Answers, next_entry, gained}
 use Rattle.viz_hub.specs.declared.sent.Sent.{Sent}
 use Rattle.viz_hub.specs.Passes.{PassKnown, as_known, with_sent, numbers, GoesFurther, Looks}

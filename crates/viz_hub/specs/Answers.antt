@@ -2,10 +2,10 @@
 use Rattle.std.specs.Prelude.{◌≡◌, ◌+◌, ◌<◌, List, ◌∷◌, [], ◌++◌, length, Ok, Err}
 use Rattle.viz_network.specs.declared.edit.Edit.{Edit}
 use Rattle.viz_network.specs.Edits.{apply}
-use Rattle.viz_history.specs.declared.entry.Entry.{Entry}
-use Rattle.viz_history.specs.declared.entry.EditAnswer.{EditAnswer}
-use Rattle.viz_history.specs.declared.entry.EditAnswer.TheVariants.{Done, Refused, Full, Memory}
-use Rattle.viz_history.specs.History.{entry, next, network_of}
+use Rattle.viz_entries.specs.declared.entry.Entry.{Entry}
+use Rattle.viz_history.specs.declared.answer.EditAnswer.{EditAnswer}
+use Rattle.viz_history.specs.declared.answer.EditAnswer.TheVariants.{Done, Refused, Full, Memory}
+use Rattle.viz_entries.specs.History.{entry, next, network_of}
 use Rattle.viz_hub.specs.Passes.{PassKnown, GoesFurther}
 
 -- the entry that the pass makes next, of this edit

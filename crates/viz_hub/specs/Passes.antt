@@ -5,8 +5,8 @@ use Rattle.viz_parts.specs.declared.stored.Stored.{Stored}
 use Rattle.viz_turn.specs.Tales.{IsWholeBy, GoesOn}
 use Rattle.viz_turn.specs.Known.{Identity, Known}
 use Rattle.viz_turn.specs.Known as turn
-use Rattle.viz_history.specs.declared.entry.Entry.{Entry}
-use Rattle.viz_history.specs.History.{by_of}
+use Rattle.viz_entries.specs.declared.entry.Entry.{Entry}
+use Rattle.viz_entries.specs.History.{by_of}
 use Rattle.viz_hub.specs.declared.sent.Sent.{Sent}
 
 -- the hub that a pass belongs to, its number, its ended and its born numbers, the history as far as

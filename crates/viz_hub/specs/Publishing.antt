@@ -3,7 +3,7 @@ use Rattle.std.specs.Prelude.{◌≡◌, ◌+◌, ◌%◌, ◌^◌, List, length
 use Rattle.viz_base.specs.declared.node.NodeId.{NodeId}
 use Rattle.viz_base.specs.declared.node.Shape.{Shape}
 use Rattle.viz_turn.specs.Known as turn
-use Rattle.viz_history.specs.declared.entry.Entry.{Entry}
+use Rattle.viz_entries.specs.declared.entry.Entry.{Entry}
 use Rattle.viz_hub.specs.declared.sent.Sent.{Sent}
 use Rattle.viz_hub.specs.Passes.{PassKnown, as_known, with_sent, GoesFurther}
 

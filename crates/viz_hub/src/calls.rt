@@ -3,7 +3,7 @@
 ghost use Rattle.std.specs.Prelude.{◌≡◌, ◌+◌, ◌<◌, ◌≤◌, [], length, count_by, IfOk, IfErr, true};
 ghost use Rattle.viz_turn.specs.Tales.{HasNoOther, once};
 ghost use Rattle.viz_kept.specs.True.{AreMadeIn, AreTrueIn};
-ghost use Rattle.viz_history.specs.History.{by_of, network_of, IsLegal};
+ghost use Rattle.viz_entries.specs.History.{by_of, network_of, IsLegal};
 ghost use Rattle.viz_history.specs.Publishing.{is_stale};
 ghost use Rattle.viz_hub.specs.Answers.{Answers};
 ghost use Rattle.viz_hub.specs.Passes.{numbers, first_pass, at_seen, elder, younger, one};

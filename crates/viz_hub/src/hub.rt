@@ -3,7 +3,8 @@
 use crate::place::Place;
 use std::marker::Model;
 use viz_base::Items;
-use viz_history::{Core, Entry, Pinned};
+use viz_entries::Entry;
+use viz_history::{Core, Pinned};
 use viz_turn::Turn;
 
 /// One history for all callers, who share it by reference. Contracts see which hub it is, and its

@@ -4,9 +4,9 @@
 ghost use Rattle.std.specs.Prelude.{◌≡◌, ℕ, List, [], ◌∷◌, ◌++◌, true};
 ghost use Rattle.viz_turn.specs.Tales.{has, once, HasNoOther};
 ghost use Rattle.viz_network.specs.declared.edit.Edit.{Edit};
-ghost use Rattle.viz_history.specs.declared.entry.Entry.{Entry};
-ghost use Rattle.viz_history.specs.declared.entry.EditAnswer.{EditAnswer};
-ghost use Rattle.viz_history.specs.History.{by_of, own_of};
+ghost use Rattle.viz_entries.specs.declared.entry.Entry.{Entry};
+ghost use Rattle.viz_history.specs.declared.answer.EditAnswer.{EditAnswer};
+ghost use Rattle.viz_entries.specs.History.{by_of, own_of};
 ghost use Rattle.viz_hub.specs.Answers.{Answers, gained};
 ghost use Rattle.viz_hub.specs.Passes.{PassKnown, numbers, GoesFurther};
 

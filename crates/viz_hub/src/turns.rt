@@ -3,7 +3,7 @@
 ghost use Rattle.std.specs.Prelude.{◌≡◌, ◌+◌, [], length, count_by, IfOk, true};
 ghost use Rattle.viz_turn.specs.Tales.{once};
 ghost use Rattle.viz_kept.specs.True.{AreMadeIn};
-ghost use Rattle.viz_history.specs.History.{network_of};
+ghost use Rattle.viz_entries.specs.History.{network_of};
 ghost use Rattle.viz_history.specs.Publishing.{is_stale};
 ghost use Rattle.viz_hub.specs.Answers.{Answers};
 ghost use Rattle.viz_hub.specs.Passes.{numbers, at_seen, elder, younger, one};

@@ -7,7 +7,8 @@ use std::marker::Model;
 use std::process::Abort;
 use std::test::Fail;
 use viz_base::Word;
-use viz_history::{Core, EditAnswer, Entry, Pinned};
+use viz_entries::Entry;
+use viz_history::{Core, EditAnswer, Pinned};
 use viz_kinds::{Kind, Param, Value};
 use viz_network::{Edit, Refusal};
 
@@ -19,7 +20,7 @@ struct Actor {
 
 impl Model for Actor {
     ghost use Rattle.std.specs.Prelude.{◌≡◌};
-    ghost use Rattle.viz_history.specs.History.{own_of};
+    ghost use Rattle.viz_entries.specs.History.{own_of};
     ghost use Rattle.viz_history.specs.Machine.{State};
 
     ghost Value = { State };

@@ -2,7 +2,7 @@
 
 ghost use Rattle.std.specs.Prelude.{◌≡◌, ◌+◌, IfSome};
 ghost use Rattle.viz_kept.specs.True.{IsMadeIn};
-ghost use Rattle.viz_history.specs.History.{network_of};
+ghost use Rattle.viz_entries.specs.History.{network_of};
 
 use std::alloc::Global;
 use std::sync::Wait;
@@ -10,7 +10,7 @@ use viz_base::{NodeId, Shape};
 use viz_history::Kept;
 use viz_hub::{Hub, Pass, Pin};
 use viz_parts::{Key, Stored};
-use viz_scratch::stored_whole;
+use viz_stored::stored_whole;
 
 /// All that a node gives in the network of a pin, as one part. `None` where there is no such node,
 /// where it gives a fault, and where memory ran out.

@@ -2,7 +2,7 @@
 
 ghost use Rattle.std.specs.Prelude.{◌≡◌, IfSome};
 ghost use Rattle.viz_kept.specs.True.{IsMadeIn};
-ghost use Rattle.viz_history.specs.History.{network_of};
+ghost use Rattle.viz_entries.specs.History.{network_of};
 
 use crate::passes::{begin, join, pin, split, wants, word};
 use crate::publishing::made_in;

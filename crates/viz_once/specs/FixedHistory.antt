@@ -1,7 +1,7 @@
 -- The fixed history of a command of one file: a source, and the filter behind it (docs/DEFINITIONS.md, "The fixed history of one file").
 use Rattle.std.specs.Prelude.{◌≡◌, ℕ, ℤ, pos, int_le, Bool, true, ◌&&◌, List, [], ◌∷◌, replicate, codes, Result, Ok}
-use Rattle.viz_history.specs.declared.entry.Entry.{Entry}
-use Rattle.viz_history.specs.History.{entry, network_of}
+use Rattle.viz_entries.specs.declared.entry.Entry.{Entry}
+use Rattle.viz_entries.specs.History.{entry, network_of}
 use Rattle.viz_kinds.specs.declared.kind.Kind.{Kind}
 use Rattle.viz_kinds.specs.declared.kind.Kind.TheVariants as kind
 use Rattle.viz_kinds.specs.declared.param.Param.{Param}

@@ -1,6 +1,6 @@
 -- The fixed history of a command is legal (docs/DEFINITIONS.md, "The fixed history of one file").
 use Rattle.std.specs.Prelude.{◌≡◌, ℕ, List, Some}
-use Rattle.viz_history.specs.History.{IsLegal}
+use Rattle.viz_entries.specs.History.{IsLegal}
 use Rattle.viz_once.specs.declared.command.Filter.{Filter}
 use Rattle.viz_once.specs.Command.{Command, once_of}
 use Rattle.viz_once.specs.FixedHistory.{HasNumbers, history_of}

@@ -11,11 +11,9 @@ mod datasets;
 mod evaluation;
 mod laws;
 mod readers;
-mod stored;
 mod written;
 
 pub use counts::{cell_count, point_count};
 pub use evaluation::scratch;
 pub use laws::files_are_one;
-pub use stored::stored_whole;
 pub use written::{file_text, style_with, text_of, text_with};

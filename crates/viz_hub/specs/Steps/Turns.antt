@@ -4,9 +4,9 @@ use Rattle.viz_turn.specs.declared.turn.Turn.{Turn}
 use Rattle.viz_turn.specs.Known.{Identity, Known}
 use Rattle.viz_turn.specs.Passes.{identity}
 use Rattle.viz_kept.specs.True.{AreTrueIn}
-use Rattle.viz_history.specs.declared.entry.Entry.{Entry}
+use Rattle.viz_entries.specs.declared.entry.Entry.{Entry}
 use Rattle.viz_history.specs.declared.pinned.Pinned.{Pinned}
-use Rattle.viz_history.specs.History.{own_of, network_of}
+use Rattle.viz_entries.specs.History.{own_of, network_of}
 use Rattle.viz_history.specs.Machine.{State}
 use Rattle.viz_hub.specs.Passes.{PassKnown}
 

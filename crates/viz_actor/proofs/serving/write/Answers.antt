@@ -2,7 +2,7 @@ use Rattle.std.proofs.Common.{◌≡◌, length, refl, sym, subst, ap, rules}
 use Rattle.viz_script.specs.Orders.{update}
 use Rattle.viz_account.specs.Served.{Serves, Updates}
 use Rattle.viz_account.specs.Answers.{line_of}
-use Rattle.viz_history.specs.History.{network_of}
+use Rattle.viz_entries.specs.History.{network_of}
 use Rattle.viz_actor.proofs.ServeLemmas.{serves_update, serves_nothing}
 use Rattle.viz_actor.proofs.serving.write.Goals as goal
 

@@ -1,7 +1,7 @@
 use Rattle.std.proofs.Common.{◌+◌, ◌++◌, [], ◌∷◌, length, ◌∙◌, sym, ap, subst, arith}
 use Rattle.viz_turn.specs.Known.{GoesFurther}
 use Rattle.viz_turn.specs.Passes.{known, state_of}
-use Rattle.viz_history.specs.History.{by_of, entry, next}
+use Rattle.viz_entries.specs.History.{by_of, entry, next}
 use Rattle.viz_hub.proofs.PassLemmas.{count_stays, same_count, count_grows, own_short}
 use Rattle.viz_hub.proofs.turns.edit_by.Goals as goal
 

@@ -1,7 +1,7 @@
 use Rattle.std.proofs.Common.{◌∙◌, sym, ap, subst}
 use Rattle.viz_turn.specs.Known.{GoesFurther}
 use Rattle.viz_turn.specs.Passes.{known}
-use Rattle.viz_history.specs.History.{by_of}
+use Rattle.viz_entries.specs.History.{by_of}
 use Rattle.viz_hub.proofs.PassLemmas.{same_count, looks_more}
 use Rattle.viz_hub.proofs.turns.front_by.Goals as goal
 

@@ -2,7 +2,7 @@ use Rattle.std.proofs.Common.{◌∙◌, count_by, refl, sym, ap, subst}
 use Rattle.viz_kept.specs.True.{AreTrueOf}
 use Rattle.viz_turn.specs.Known.{GoesFurther}
 use Rattle.viz_turn.specs.Passes.{known, state_of}
-use Rattle.viz_history.specs.History.{by_of, edits_of, network_of}
+use Rattle.viz_entries.specs.History.{by_of, edits_of, network_of}
 use Rattle.viz_history.specs.Publishing.{is_stale}
 use Rattle.viz_hub.proofs.PassLemmas.{same_count, sends_more, made_goes_on}
 use Rattle.viz_hub.proofs.turns.publish_by.Goals as goal

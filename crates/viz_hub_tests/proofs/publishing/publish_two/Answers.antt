@@ -1,7 +1,7 @@
 use Rattle.std.proofs.Common.{[], ◌∷◌}
 use Rattle.std.proofs.lemmas.List.Elements.{All-cons, All-nil}
 use Rattle.viz_kept.specs.True.{IsMadeIn}
-use Rattle.viz_history.specs.History.{network_of}
+use Rattle.viz_entries.specs.History.{network_of}
 use Rattle.viz_hub_tests.proofs.publishing.publish_two.Goals as goal
 
 pub publish-requires-clause-made : goal.publish-requires-clause-made

@@ -1,7 +1,7 @@
 use Rattle.std.proofs.Common.{◌≡◌, ◌+◌, ◌++◌, [], ◌∷◌, length, Ok, refl, sym, subst, ap, ◌∙◌, arith}
 use Rattle.viz_network.specs.Edits.{apply}
 use Rattle.viz_network.specs.Applies.{IsPast}
-use Rattle.viz_history.specs.History.{entry, next, network_of}
+use Rattle.viz_entries.specs.History.{entry, next, network_of}
 use Rattle.viz_history.proofs.HistoryLemmas.{past_of_kept, network_more, kept_more}
 use Rattle.viz_history.proofs.machine.Core.edit.Goals as goal
 

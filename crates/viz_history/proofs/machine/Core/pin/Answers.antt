@@ -1,6 +1,6 @@
 use Rattle.std.proofs.Common.{sym, subst, ◌∙◌}
 use Rattle.viz_kept.specs.True.{AreTrueIn}
-use Rattle.viz_history.specs.History.{edits_of, network_of}
+use Rattle.viz_entries.specs.History.{edits_of, network_of}
 use Rattle.viz_history.proofs.machine.Core.pin.Goals as goal
 
 pub returns-clause-true_in : goal.returns-clause-true_in

@@ -1,7 +1,7 @@
 use Rattle.std.proofs.Common.{sym, subst}
 use Rattle.std.specs.List.{All}
 use Rattle.viz_kept.specs.True.{IsTrueOf}
-use Rattle.viz_history.specs.History.{edits_of}
+use Rattle.viz_entries.specs.History.{edits_of}
 use Rattle.viz_history.specs.Machine.{State}
 use Rattle.viz_history.proofs.HistoryLemmas.{kept_parts}
 use Rattle.viz_history.proofs.PublishLemmas.{all_brought_hold, taken_hold}

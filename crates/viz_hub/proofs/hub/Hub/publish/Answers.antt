@@ -1,5 +1,5 @@
 use Rattle.std.proofs.Common.{◌∙◌, count_by, sym, ap}
-use Rattle.viz_history.specs.History.{network_of}
+use Rattle.viz_entries.specs.History.{network_of}
 use Rattle.viz_history.specs.Publishing.{is_stale}
 use Rattle.viz_hub.proofs.hub.Hub.publish.Goals as goal
 

@@ -6,7 +6,7 @@ use Rattle.viz_network.specs.Network.{Network}
 use Rattle.viz_network.specs.Edits.{apply}
 use Rattle.viz_network.specs.Applies.{IsAccepted}
 use Rattle.viz_network.specs.History.{net_of}
-use Rattle.viz_history.specs.declared.entry.Entry.{Entry}
+use Rattle.viz_entries.specs.declared.entry.Entry.{Entry}
 
 -- the entry of a pass's edit, which has this number among those of the pass
 abbrev pub entry : ℕ → ℕ → Edit → Entry

@@ -2,8 +2,8 @@
 //! alone.
 
 ghost use Rattle.std.specs.Prelude.{ℕ, List};
-ghost use Rattle.viz_history.specs.declared.entry.Entry.{Entry};
-ghost use Rattle.viz_history.specs.History.{own_of, IsLegal, AreCountedFrom};
+ghost use Rattle.viz_entries.specs.declared.entry.Entry.{Entry};
+ghost use Rattle.viz_entries.specs.History.{own_of, IsLegal, AreCountedFrom};
 
 /// In a legal history the entries of each pass are counted from 1.
 pub fn own_entries_are_counted()

@@ -1,15 +1,6 @@
-//! Entries of the history, and what an edit comes to.
+//! What an edit comes to.
 
-use viz_network::{Edit, Refusal};
-
-/// An accepted edit, the number of the pass that made it, and its number among that pass's edits,
-/// from 1.
-#[derive(Debug, Drop)]
-pub struct Entry {
-    pub pass: u64,
-    pub count: u32,
-    pub edit: Edit,
-}
+use viz_network::Refusal;
 
 /// What an edit came to. Only an accepted edit changes anything.
 #[derive(Clone, Copy, PartialEq, Eq, Debug)]

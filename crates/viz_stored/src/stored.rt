@@ -4,12 +4,12 @@ ghost use Rattle.std.specs.Prelude.{IfOk, IsSome};
 ghost use Rattle.viz_network.specs.Network.{node_of};
 ghost use Rattle.viz_kept.specs.True.{IsMadeIn};
 
-use crate::evaluation::scratch;
 use std::alloc::Global;
 use viz_base::{NodeId, Shared};
 use viz_kept::whole_part;
 use viz_network::{Net, Stop};
 use viz_parts::{Key, Stored};
+use viz_scratch::scratch;
 
 /// What a node of the network gives, evaluated from scratch and stored whole, under its stamp.
 ///

@@ -3,8 +3,8 @@ use Rattle.std.proofs.Common.{◌≡◌, ℕ, ◌+◌, Bool, true, false, cond, 
 use Rattle.viz_turn.specs.Tales.{has}
 use Rattle.viz_turn.proofs.ListLemmas.{has_cons}
 use Rattle.viz_turn.proofs.TaleLemmas.{entries_append}
-use Rattle.viz_history.specs.declared.entry.Entry.{Entry}
-use Rattle.viz_history.specs.History.{by_of, own_of, next, IsNext, IsLegalAfter, AreCountedFrom}
+use Rattle.viz_entries.specs.declared.entry.Entry.{Entry}
+use Rattle.viz_entries.specs.History.{by_of, own_of, next, IsNext, IsLegalAfter, AreCountedFrom}
 
 own_more : (pass : ℕ) (before : List Entry) (e : Entry) (b : Bool) → has e.pass (pass ∷ []) ≡ b → own_of pass (before ++ e ∷ []) ≡ own_of pass before ++ cond b (e ∷ []) []
 own_more pass before e b h = entries_append by_of (pass ∷ []) before (e ∷ []) ∙ ap (λ t. own_of pass before ++ cond t (e ∷ []) []) h

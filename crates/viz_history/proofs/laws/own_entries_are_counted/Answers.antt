@@ -1,6 +1,0 @@
-use Rattle.std.proofs.Common.{[]}
-use Rattle.viz_history.proofs.CountLemmas.{counted_after}
-use Rattle.viz_history.proofs.laws.own_entries_are_counted.Goals as goal
-
-pub returns : goal.returns
-returns c = λ h pass legal. counted_after pass [] h legal
