@@ -114,7 +114,7 @@ ends n entries (b ∷ bs) = Err (n, refusal.Word)
 abbrev pub last_at : ℕ → List JournalEntry → Part → ℕ → Result (List JournalEntry) Stop
 last_at n entries part count = if not (count == length entries) then Err (n, refusal.Number)
     else (if not (part.ended && is_text part.line (last_line count)) then Err (n, refusal.Word)
-      else ends (n + 1) entries part.rest)
+    else ends (n + 1) entries part.rest)
 
 -- the entries with one more and those behind it
 abbrev pub entered : ℕ → (List JournalEntry → List ℕ → Result (List JournalEntry) Stop)

@@ -71,4 +71,4 @@ IsMakeRun m c ended [] new = (ended ≡ came.NoPort) × (new ≡ [])
 IsMakeRun m c ended (p ∷ ps) [] = ⊥
 IsMakeRun m c ended (p ∷ ps) (q ∷ qs) =
     ((answer : Option WriteAnswer) × IsEndOfMaking c answer ended × IsCalled m (written c answer) p q)
-      × (qs ≡ ps)
+    × (qs ≡ ps)

@@ -46,13 +46,13 @@ module _ {P O : Type 0} (m : port.Ghosts P) (o : out.Ghosts O) (desk new_desk : 
   IsRun (Some (Once c)) ended = once_account.IsRun m o c old new before after ended × (new_desk ≡ desk)
   IsRun (Some (Script script journal)) ended =
       (ran : Ran) × deeds.IsScriptRun m script journal ran desk new_desk old new
-        × IsTold o (script_told.telling_of ran) ended before after
+      × IsTold o (script_told.telling_of ran) ended before after
   IsRun (Some (Scratch c)) ended =
       (came : Came) × replay.IsReplayRun m c came desk new_desk old new
-        × IsTold o (replay_told.telling_of came) ended before after
+      × IsTold o (replay_told.telling_of came) ended before after
   IsRun (Some (Make c)) ended =
       (came : MakeCame) × make.IsMakeRun m c came old new
-        × IsTold o (make_told.telling_of came) ended before after × (new_desk ≡ desk)
+      × IsTold o (make_told.telling_of came) ended before after × (new_desk ≡ desk)
   IsRun None ended = IsTold o usage_told ended before after × (new ≡ old) × (new_desk ≡ desk)
 
   -- a run that answers Done
