@@ -10,6 +10,7 @@ ghost use Rattle.viz_node_answers.specs.Answers.{
   TetsAnswer,
   WriterAnswers,
 };
+ghost use Rattle.viz_node_answers.specs.ImageAnswers.{ArithAnswers, BlockAnswers};
 
 /// Of parts of meshes that feed a node, the filters on parts make parts of what the node makes.
 pub fn mesh_filters_answer()
@@ -26,4 +27,11 @@ pub fn mesh_filters_answer()
 pub fn image_filters_answer()
     ensures tets { TetsAnswer }
     ensures section { ImageSectionAnswers }
+{}
+
+/// Of any blocks of the images that feed a node, the filters of images make a block of the image
+/// that the node makes, wherever it lies in that image.
+pub fn blocks_answer()
+    ensures filtered { BlockAnswers }
+    ensures arith { ArithAnswers }
 {}
