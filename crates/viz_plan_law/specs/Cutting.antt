@@ -1,0 +1,54 @@
+-- Cutting parts of what a node gives for requests that they serve (VTK User's Guide, "Streaming").
+use Rattle.std.specs.Prelude.{◌≡◌, true, Option, Some}
+use Rattle.viz_dataset.specs.declared.dataset.Dataset.{Dataset}
+use Rattle.viz_extent.specs.Extent.{Bounds}
+use Rattle.viz_kept.specs.True.{IsNodePart}
+use Rattle.viz_network.specs.Cone.{Cone, Tree}
+use Rattle.viz_network.specs.declared.node.Node.{Node}
+use Rattle.viz_node_division.specs.Divided.{IsDivided}
+use Rattle.viz_parts.specs.Pieces.{Covers, Division, IsAnswer}
+use Rattle.viz_parts.specs.declared.request.Part.{Part}
+use Rattle.viz_parts.specs.declared.request.Request.{Request}
+use Rattle.viz_piece_restrict.specs.Restricting.{
+  IsOneOfMany,
+  IsRestriction,
+  IsSomeAnswer,
+  LetsRestrict,
+}
+use Rattle.viz_requests.specs.Serving.{serves}
+use Rattle.viz_requests.specs.Upstream.{Fits, widened}
+
+-- a kept request that serves a wanted one covers it
+abbrev pub ServedAreCovered : Type 0
+ServedAreCovered =
+    (kept wanted : Request) → IsOneOfMany wanted → serves kept wanted ≡ true → Covers kept wanted
+
+-- and the division of what a node gives lets its part be cut
+abbrev pub ServedPartsAreCut : Type 0
+ServedPartsAreCut =
+    (cone : Option Tree) (whole : Dataset) (division : Division) (kept wanted : Request)
+    (part : Part)
+    → IsDivided cone whole division → IsAnswer whole division kept part
+    → IsOneOfMany wanted → serves kept wanted ≡ true
+    → LetsRestrict whole division kept wanted
+
+-- a part that a node gives can be cut for a wanted request, and what is cut is a part that it gives
+pub record CanBeCut (cone : Option Tree) (kept wanted : Request) (part : Part) : Type 0 where
+  pub covers : Covers kept wanted
+  pub counted : IsOneOfMany wanted
+  pub answers : IsSomeAnswer kept part
+  pub gives : (cut : Part) → IsRestriction kept wanted part cut → IsNodePart cone wanted cut
+
+-- so can each that serves the request
+abbrev pub PartsThatServeAreCut : Type 0
+PartsThatServeAreCut =
+    (cone : Option Tree) (kept wanted : Request) (part : Part) → IsNodePart cone kept part
+    → IsOneOfMany wanted → serves kept wanted ≡ true → CanBeCut cone kept wanted part
+
+-- and each that serves what the node makes for a request, which fits an extent or a mesh
+abbrev pub PartsOfWidenedAreCut : Type 0
+PartsOfWidenedAreCut =
+    (n : Node) (cone : Cone) (own : Option Bounds) (kept wanted : Request) (part : Part)
+    → IsNodePart (Some (n, cone)) kept part → Fits own wanted
+    → serves kept (widened n.settings own wanted) ≡ true
+    → CanBeCut (Some (n, cone)) kept wanted part
