@@ -1,5 +1,35 @@
 -- Parts of what a node gives are cut to parts of it.
-use Rattle.std.proofs.Common.{◌≡◌, ◌⊎◌, ℕ, ◌-◌, ◌≤◌, Bool, true, false, List, [], ◌∷◌, ◌++◌, length, map, replicate, append-nil, Option, None, Some, refl, sym, ap, ap₂, subst, ◌∙◌, inl, inr, arith}
+use Rattle.std.proofs.Common.{
+  ◌≡◌,
+  ◌⊎◌,
+  ℕ,
+  ◌-◌,
+  ◌≤◌,
+  Bool,
+  true,
+  false,
+  List,
+  [],
+  ◌∷◌,
+  ◌++◌,
+  length,
+  map,
+  replicate,
+  append-nil,
+  Option,
+  None,
+  Some,
+  refl,
+  sym,
+  ap,
+  ap₂,
+  subst,
+  ◌∙◌,
+  inl,
+  inr,
+  arith,
+}
+use Rattle.std.specs.Option.{option_map}
 use Rattle.viz_dataset.specs.declared.dataset.Dataset.{Dataset}
 use Rattle.viz_dataset.specs.declared.dataset.Dataset.TheVariants.{Image, Mesh}
 use Rattle.viz_extent.specs.Extent.{Bounds}
@@ -7,8 +37,10 @@ use Rattle.viz_extent.proofs.SlabLemmas.{first_begins, last_ends}
 use Rattle.viz_kept.specs.True.{IsNodePart}
 use Rattle.viz_kinds.specs.declared.settings.Settings.{Settings}
 use Rattle.viz_kinds.specs.declared.settings.Settings.TheVariants as settings
-use Rattle.viz_network.specs.Cone.{Cone, Tree}
+use Rattle.viz_network.specs.Cone.{Cone, Tree, above, cone_of, grow}
+use Rattle.viz_network.specs.Network.{Network, node_of}
 use Rattle.viz_network.specs.declared.node.Node.{Node}
+use Rattle.viz_network.proofs.TaleLemmas.{node_id}
 use Rattle.viz_node_division.specs.Divided.{Divided, IsDivided, division_of, turn_of}
 use Rattle.viz_node_division.specs.Laws.{DividedByPorts, OnlyPieceOwnsAll}
 use Rattle.viz_node_division.specs.Shares.{all_own}
@@ -18,11 +50,13 @@ use Rattle.viz_parts.specs.declared.request.Part.{Part}
 use Rattle.viz_parts.specs.declared.request.Request.{Request}
 use Rattle.viz_parts.specs.declared.request.Request.TheVariants.{Block, Piece}
 use Rattle.viz_piece_restrict.specs.Restricting.{IsOneOfMany, LetsRestrict}
+use Rattle.viz_plan_meaning.specs.Known.{Known, tree_widened}
 use Rattle.viz_requests.specs.Serving.{serves}
 use Rattle.viz_requests.specs.Upstream.{Fits, all_of, widened}
 use Rattle.viz_sheet.specs.Sheet.{SheetData}
 use Rattle.viz_plan_law.specs.Cutting.{
   CanBeCut,
+  PartsOfKnownAreCut,
   PartsOfWidenedAreCut,
   PartsThatServeAreCut,
   ServedPartsAreCut,
@@ -181,3 +215,30 @@ module _ (only : OnlyPieceOwnsAll) (ports : DividedByPorts) where
   pub widened_cut : PartsOfWidenedAreCut
   widened_cut n cone own kept wanted part is f h =
       by_kind n cone own kept wanted part is f h (makes_either n.settings own wanted)
+
+  -- ---- nodes of a network
+
+  -- the node at the foot of a cone is the one whose cone it is
+  foot_is : (net : Network) (id : ℕ) (t : Tree) → cone_of net id ≡ Some t → t.0.id.0 ≡ id
+  foot_is net id t e = by (node_of net id) refl e
+    where
+      by : (o : Option Node) → node_of net id ≡ o
+          → option_map (λ (n : Node). (n, grow (above 255 net) n.inputs)) o ≡ Some t
+          → t.0.id.0 ≡ id
+      by None there q = (let bad : ⊥ = cc in absurd bad)
+      by (Some n) there q = (
+        let same : (n, grow (above 255 net) n.inputs) ≡ t = cc in
+        ap (λ (z : Tree). z.0.id.0) (sym same) ∙ node_id net id n there
+      )
+
+  at_foot : (k : Known) (id : ℕ) (kept wanted : Request) (part : Part) (t : Option Tree)
+      → cone_of k.net id ≡ t → IsNodePart t kept part → Fits (k.extent id) wanted
+      → serves kept (tree_widened k t wanted) ≡ true → CanBeCut t kept wanted part
+  at_foot k id kept wanted part None e is f h = absurd is.given.1
+  at_foot k id kept wanted part (Some t) e is f h =
+      widened_cut t.0 t.1 (k.extent t.0.id.0) kept wanted part is
+      (subst (λ (x : ℕ). Fits (k.extent x) wanted) (sym (foot_is k.net id t e)) f) h
+
+  pub known_cut : PartsOfKnownAreCut
+  known_cut k id kept wanted part is f h =
+      at_foot k id kept wanted part (cone_of k.net id) refl is f h

@@ -1,5 +1,22 @@
 -- The grids that filters of images make of the grids at their ports.
-use Rattle.std.proofs.Common.{◌≡◌, ℤ, pos, negsuc, Bool, true, false, cond, Result, Ok, Err, refl, sym, ap, ◌∙◌, arith}
+use Rattle.std.proofs.Common.{
+  ◌≡◌,
+  ℤ,
+  pos,
+  negsuc,
+  Bool,
+  true,
+  false,
+  cond,
+  Result,
+  Ok,
+  Err,
+  refl,
+  sym,
+  ap,
+  ◌∙◌,
+  arith,
+}
 use Rattle.std.specs.Int.{w128, saturate_signed}
 use Rattle.viz_dataset.specs.Images.{IsSpacing, IsStep, Vector}
 use Rattle.viz_extent.specs.Extent.{Bounds}

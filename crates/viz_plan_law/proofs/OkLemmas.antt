@@ -1,5 +1,20 @@
 -- Where a rule comes to a value along a cone, another rule comes to a part of that value.
-use Rattle.std.proofs.Common.{◌≡◌, [], ◌∷◌, map, Option, None, Some, Result, Ok, Err, refl, sym, subst, ◌∙◌}
+use Rattle.std.proofs.Common.{
+  ◌≡◌,
+  [],
+  ◌∷◌,
+  map,
+  Option,
+  None,
+  Some,
+  Result,
+  Ok,
+  Err,
+  refl,
+  sym,
+  subst,
+  ◌∙◌,
+}
 use Rattle.std.specs.Option.{option_map}
 use Rattle.viz_network.specs.declared.node.Node.{Node}
 use Rattle.viz_network.specs.declared.fault.Cause.{Cause}

@@ -1,5 +1,26 @@
 -- Requests that serve others cover them.
-use Rattle.std.proofs.Common.{◌≡◌, ◌⊎◌, ℕ, ◌≤◌, ◌<◌, Bool, true, false, ◌&&◌, ◌||◌, nat_eq, nat_le, Option, None, Some, refl, sym, inl, inr, arith}
+use Rattle.std.proofs.Common.{
+  ◌≡◌,
+  ◌⊎◌,
+  ℕ,
+  ◌≤◌,
+  ◌<◌,
+  Bool,
+  true,
+  false,
+  ◌&&◌,
+  ◌||◌,
+  nat_eq,
+  nat_le,
+  Option,
+  None,
+  Some,
+  refl,
+  sym,
+  inl,
+  inr,
+  arith,
+}
 use Rattle.std.proofs.lemmas.Bool.Decides.{nat_tests}
 use Rattle.viz_extent.specs.Extent.{Bounds}
 use Rattle.viz_extent.specs.Parts.{IsPart}
@@ -7,8 +28,9 @@ use Rattle.viz_parts.specs.Pieces.{Covers}
 use Rattle.viz_parts.specs.declared.request.Request.{Request}
 use Rattle.viz_parts.specs.declared.request.Request.TheVariants.{Block, Piece}
 use Rattle.viz_piece_restrict.specs.Restricting.{IsOneOfMany}
-use Rattle.viz_requests.specs.Serving.{has_block, serves}
+use Rattle.viz_requests.specs.Serving.{serves}
 use Rattle.viz_requests.specs.Upstream.{Fits, all_of}
+use Rattle.viz_requests.proofs.ServingLemmas.{block_parts}
 use Rattle.viz_plan_law.specs.Cutting.{ServedAreCovered}
 
 -- ---- blocks
@@ -20,14 +42,6 @@ and_left false b h = h
 pub and_right : (a b : Bool) → (a && b) ≡ true → b ≡ true
 and_right true b h = h
 and_right false b h = (let bad : ⊥ = cc in absurd bad)
-
--- a block that is had is a part
-block_had : (a b : Bounds) → has_block a b ≡ true → IsPart a b
-block_had a b h = record {
-  x = record { first = grind (arith, nat_tests); last = grind (arith, nat_tests) };
-  y = record { first = grind (arith, nat_tests); last = grind (arith, nat_tests) };
-  z = record { first = grind (arith, nat_tests); last = grind (arith, nat_tests) };
-}
 
 -- a part of a part is a part
 part_of_part : (a b c : Bounds) → IsPart a b → IsPart b c → IsPart a c
@@ -85,7 +99,7 @@ piece_covers p n ghosts q m fewer one s (inr e) =
 -- ---- requests
 
 pub served_covers : ServedAreCovered
-served_covers (Block a) (Block b) one h = block_had a b h
+served_covers (Block a) (Block b) one h = block_parts a b h
 served_covers (Piece p n ghosts) (Piece q m fewer) one h =
     let s = piece_serves p n ghosts q m fewer h in
     piece_covers p n ghosts q m fewer one s s.levels
@@ -102,7 +116,7 @@ fits_one (Some whole) (Piece q m fewer) f = absurd f
 pub all_covers : (own : Option Bounds) (kept wanted : Request) → Fits own wanted
     → serves kept (all_of own) ≡ true → Covers kept wanted
 all_covers (Some whole) (Block a) (Block b) f h =
-    part_of_part a whole b (block_had a whole h) f
+    part_of_part a whole b (block_parts a whole h) f
 all_covers (Some whole) (Block a) (Piece q m fewer) f h = absurd f
 all_covers (Some whole) (Piece p n ghosts) wanted f h = let bad : ⊥ = cc in absurd bad
 all_covers None (Piece p n ghosts) (Piece q m fewer) f h =

@@ -1,9 +1,9 @@
 -- Cutting parts of what a node gives for requests that they serve (VTK User's Guide, "Streaming").
-use Rattle.std.specs.Prelude.{◌≡◌, true, Option, Some}
+use Rattle.std.specs.Prelude.{◌≡◌, ℕ, true, Option, Some}
 use Rattle.viz_dataset.specs.declared.dataset.Dataset.{Dataset}
 use Rattle.viz_extent.specs.Extent.{Bounds}
 use Rattle.viz_kept.specs.True.{IsNodePart}
-use Rattle.viz_network.specs.Cone.{Cone, Tree}
+use Rattle.viz_network.specs.Cone.{Cone, Tree, cone_of}
 use Rattle.viz_network.specs.declared.node.Node.{Node}
 use Rattle.viz_node_division.specs.Divided.{IsDivided}
 use Rattle.viz_parts.specs.Pieces.{Covers, Division, IsAnswer}
@@ -15,6 +15,7 @@ use Rattle.viz_piece_restrict.specs.Restricting.{
   IsSomeAnswer,
   LetsRestrict,
 }
+use Rattle.viz_plan_meaning.specs.Known.{Known, widened_at}
 use Rattle.viz_requests.specs.Serving.{serves}
 use Rattle.viz_requests.specs.Upstream.{Fits, widened}
 
@@ -52,3 +53,11 @@ PartsOfWidenedAreCut =
     → IsNodePart (Some (n, cone)) kept part → Fits own wanted
     → serves kept (widened n.settings own wanted) ≡ true
     → CanBeCut (Some (n, cone)) kept wanted part
+
+-- the same of a node of a network, where the extent of its image is known, or that it has none
+abbrev pub PartsOfKnownAreCut : Type 0
+PartsOfKnownAreCut =
+    (k : Known) (id : ℕ) (kept wanted : Request) (part : Part)
+    → IsNodePart (cone_of k.net id) kept part → Fits (k.extent id) wanted
+    → serves kept (widened_at k id wanted) ≡ true
+    → CanBeCut (cone_of k.net id) kept wanted part

@@ -2,6 +2,7 @@
 //! holds of the definitions alone.
 
 ghost use Rattle.viz_plan_law.specs.Cutting.{
+  PartsOfKnownAreCut,
   PartsOfWidenedAreCut,
   PartsThatServeAreCut,
   ServedAreCovered,
@@ -36,6 +37,7 @@ pub fn served_parts_are_cut()
     ensures lets { ServedPartsAreCut }
     ensures cut { PartsThatServeAreCut }
     ensures widened { PartsOfWidenedAreCut }
+    ensures known { PartsOfKnownAreCut }
 {
     divisions_share_out();
     divided_by_ports();
@@ -44,5 +46,5 @@ pub fn served_parts_are_cut()
 /// What is found for a request at a node among entries that are true in the network is a part that
 /// the node gives, of a request that serves the wanted one.
 pub fn kept_parts_serve()
-    ensures { KeptPartsServe }
+    ensures serve { KeptPartsServe }
 {}
