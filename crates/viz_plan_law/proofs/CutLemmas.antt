@@ -218,6 +218,12 @@ module _ (only : OnlyPieceOwnsAll) (ports : DividedByPorts) where
 
   -- ---- nodes of a network
 
+  foot_of : (net : Network) (id : ℕ) (n : Node) (t : Tree) → node_of net id ≡ Some n
+      → Some (n, grow (above 255 net) n.inputs) ≡ Some t → t.0.id.0 ≡ id
+  foot_of net id n t there e =
+      let same : (n, grow (above 255 net) n.inputs) ≡ t = cc in
+      ap (λ (z : Tree). z.0.id.0) (sym same) ∙ node_id net id n there
+
   -- the node at the foot of a cone is the one whose cone it is
   foot_is : (net : Network) (id : ℕ) (t : Tree) → cone_of net id ≡ Some t → t.0.id.0 ≡ id
   foot_is net id t e = by (node_of net id) refl e
@@ -226,10 +232,7 @@ module _ (only : OnlyPieceOwnsAll) (ports : DividedByPorts) where
           → option_map (λ (n : Node). (n, grow (above 255 net) n.inputs)) o ≡ Some t
           → t.0.id.0 ≡ id
       by None there q = (let bad : ⊥ = cc in absurd bad)
-      by (Some n) there q = (
-        let same : (n, grow (above 255 net) n.inputs) ≡ t = cc in
-        ap (λ (z : Tree). z.0.id.0) (sym same) ∙ node_id net id n there
-      )
+      by (Some n) there q = foot_of net id n t there q
 
   at_foot : (k : Known) (id : ℕ) (kept wanted : Request) (part : Part) (t : Option Tree)
       → cone_of k.net id ≡ t → IsNodePart t kept part → Fits (k.extent id) wanted
