@@ -24,7 +24,7 @@ abbrev pub ServedAreCovered : Type 0
 ServedAreCovered =
     (kept wanted : Request) → IsOneOfMany wanted → serves kept wanted ≡ true → Covers kept wanted
 
--- and the division of what a node gives lets its part be cut
+-- where it does, the division of what a node gives lets its part be cut
 abbrev pub ServedPartsAreCut : Type 0
 ServedPartsAreCut =
     (cone : Option Tree) (whole : Dataset) (division : Division) (kept wanted : Request)
@@ -33,20 +33,20 @@ ServedPartsAreCut =
     → IsOneOfMany wanted → serves kept wanted ≡ true
     → LetsRestrict whole division kept wanted
 
--- a part that a node gives can be cut for a wanted request, and what is cut is a part that it gives
+-- all that cutting a part for a wanted request needs; and what is cut is a part of the node
 pub record CanBeCut (cone : Option Tree) (kept wanted : Request) (part : Part) : Type 0 where
   pub covers : Covers kept wanted
   pub counted : IsOneOfMany wanted
   pub answers : IsSomeAnswer kept part
   pub gives : (cut : Part) → IsRestriction kept wanted part cut → IsNodePart cone wanted cut
 
--- so can each that serves the request
+-- each part that a node gives can be cut for each request that its own serves
 abbrev pub PartsThatServeAreCut : Type 0
 PartsThatServeAreCut =
     (cone : Option Tree) (kept wanted : Request) (part : Part) → IsNodePart cone kept part
     → IsOneOfMany wanted → serves kept wanted ≡ true → CanBeCut cone kept wanted part
 
--- and each that serves what the node makes for a request, which fits an extent or a mesh
+-- so it can where its own serves what the node makes for one that fits an image or a mesh
 abbrev pub PartsOfWidenedAreCut : Type 0
 PartsOfWidenedAreCut =
     (n : Node) (cone : Cone) (own : Option Bounds) (kept wanted : Request) (part : Part)
@@ -54,7 +54,7 @@ PartsOfWidenedAreCut =
     → serves kept (widened n.settings own wanted) ≡ true
     → CanBeCut (Some (n, cone)) kept wanted part
 
--- the same of a node of a network, where the extent of its image is known, or that it has none
+-- the same by what is known of a node of a network
 abbrev pub PartsOfKnownAreCut : Type 0
 PartsOfKnownAreCut =
     (k : Known) (id : ℕ) (kept wanted : Request) (part : Part)

@@ -7,7 +7,7 @@ use Rattle.viz_parts.specs.declared.request.Request.{Request}
 use Rattle.viz_plan_meaning.specs.Known.{Known, kept_at}
 use Rattle.viz_requests.specs.Serving.{serves}
 
--- what is kept for a request at a node is a part that the node gives, and serves the request
+-- what is found for a request at a node is a part that it gives for one that serves the request
 abbrev pub KeptPartsServe : Type 0
 KeptPartsServe =
     (k : Known) (id : ℕ) (wanted : Request) (e : Request × Part) → AreTrueIn k.net k.entries
