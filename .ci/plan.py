@@ -17,6 +17,7 @@ TOP = os.path.dirname(os.path.dirname(os.path.abspath(__file__)))
 TABLE = os.path.join(TOP, "crates/viz_plan_tests/src/table.rt")
 WHOLE = (0, 3, 0, 3, 0, 3)
 CROPPED = (1, 2, 0, 3, 0, 2)
+DEFAULTS = {"Sample": (1, 1, 1), "Smooth": 1}
 IMAGES = ("File", "Threshold", "Crop", "Smooth", "Sample", "Arith")
 
 
@@ -37,10 +38,14 @@ def layers(p, n, ghosts, whole):
     )
 
 
-def grown(block, whole):
-    low = [max(whole[i], block[i] - 1) for i in (0, 2, 4)]
-    high = [min(whole[i], block[i] + 1) for i in (1, 3, 5)]
+def grown(block, by, whole):
+    low = [max(whole[i], block[i] - by) for i in (0, 2, 4)]
+    high = [min(whole[i], block[i] + by) for i in (1, 3, 5)]
     return (low[0], high[0], low[1], high[1], low[2], high[2])
+
+
+def spread(block, rate):
+    return tuple(bound * rate[i // 2] for i, bound in enumerate(block))
 
 
 def all_of(own):
@@ -51,13 +56,15 @@ def widened(kind, own, request):
     return all_of(own) if kind in ("File", "Merge") else request
 
 
-def asked(kind, whole, request):
+def asked(kind, setting, whole, request):
     """A block has six numbers, a piece three: its own, how many, and ghost levels."""
     if kind == "Merge":
         return all_of(whole)
+    if kind == "Sample":
+        return spread(request, setting)
     if kind == "Smooth":
-        return grown(request, whole)
-    if kind in ("Tets", "Contour") and whole:
+        return grown(request, setting, whole)
+    if kind in ("Tets", "Contour", "Cut") and whole:
         return layers(*request, whole)
     if kind == "Boundary":
         p, n, ghosts = request
@@ -76,10 +83,13 @@ def serves(kept, wanted):
 
 
 class Network:
-    def __init__(self, lines, images, kept):
+    """Settings: the rates of samples and the radii of smooths, where they are not the defaults."""
+
+    def __init__(self, lines, images, kept, settings=()):
         self.lines = {name: (kind, [n for n in ins if n]) for name, kind, *ins in lines}
         self.images = dict(images)
         self.kept = kept
+        self.settings = dict(settings)
 
     def past_writers(self, name):
         while name and self.lines[name][0] == "Writer":
@@ -87,9 +97,10 @@ class Network:
             name = ins[0] if ins else None
         return name
 
-    def whole(self, name):
-        ins = self.lines[name][1]
-        return self.images.get(ins[0]) if ins else None
+    def asked(self, name, request):
+        kind, ins = self.lines[name]
+        setting = self.settings.get(name, DEFAULTS.get(kind))
+        return asked(kind, setting, self.images.get(ins[0]) if ins else None, request)
 
     def entry(self, name, wanted):
         for node, older, request in self.kept:
@@ -110,10 +121,11 @@ class Network:
             return []
         found = []
         for up in ins:
-            found += self.needs(up, asked(kind, self.whole(name), wanted), used)
+            found += self.needs(up, self.asked(name, wanted), used)
         return found + [(name, wanted)]
 
-    def plan(self, sink, pieces):
+    def levels(self, sink, pieces):
+        """The tasks level by level, and the entries that are used."""
         own = self.images.get(sink)
         if own:
             requests = [s for s in (slab(p, pieces, own) for p in range(pieces)) if s]
@@ -126,20 +138,22 @@ class Network:
             if not any(n == name and serves(r, request) for n, r in needs[:i]):
                 tasks.append((name, request))
         levels = {}
-        for name, request in tasks:
-            levels[name, request] = self.level(name, request, tasks, levels)
-        return len(tasks), max(levels.values(), default=-1) + 1, len(used)
+        for task in tasks:
+            levels[task] = self.level(*task, tasks, levels)
+        count = max(levels.values(), default=-1) + 1
+        return [[task for task in tasks if levels[task] == i] for i in range(count)], used
+
+    def plan(self, sink, pieces):
+        levels, used = self.levels(sink, pieces)
+        return sum(map(len, levels)), len(levels), len(used)
 
     def level(self, name, request, tasks, levels):
-        kind, ins = self.lines[name]
         level = 0
-        for up in ins:
+        for up in self.lines[name][1]:
             up = self.past_writers(up)
             if up is None:
                 continue
-            wanted = widened(
-                self.lines[up][0], self.images.get(up), asked(kind, self.whole(name), request)
-            )
+            wanted = widened(self.lines[up][0], self.images.get(up), self.asked(name, request))
             if self.entry(up, wanted) is None:
                 first = next(t for t in tasks if t[0] == up and serves(t[1], wanted))
                 level = max(level, levels[first] + 1)
