@@ -171,7 +171,8 @@ def made(seed):
         whole = [n for n in blocks if own[n] == WHOLE]
         kinds = ["Threshold", "Smooth", "Arith", "Contour", "Tets", "Writer", "Crop"]
         if meshes:
-            kinds = ["Boundary", "Boundary", "Append", "Append", "Merge", "Select", "Writer"] + kinds
+            more = ["Boundary", "Boundary", "Append", "Append", "Merge", "Select", "Writer"]
+            kinds = more + kinds
         kind = chance.choice(kinds)
         second = ""
         if kind == "Arith":
