@@ -1,0 +1,18 @@
+//! What a node makes for a request of the parts at its ports, kind by kind: one task of a plan.
+//!
+//! Contract: `node_part` gives just what the calls for parts of viz_image_ops, viz_piece_tets,
+//! viz_piece_section and viz_mesh_parts give by the node's parameters, or all of what its file is
+//! read as; else the file's fault, or `TooWide` where a section of the part at its port is wide.
+//! Definitions: `specs/Taken.antt`, `specs/Made.antt`; `specs/Steps.antt` has the words of private
+//! contracts.
+#![tactic(auto)]
+
+mod blocks;
+mod files;
+mod meshes;
+mod node;
+mod parameters;
+mod ports;
+mod sections;
+
+pub use node::node_part;
