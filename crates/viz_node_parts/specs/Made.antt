@@ -1,4 +1,5 @@
--- What a node makes for a request of the parts at its ports, kind by kind (VTK User's Guide, the executive: the data pass, and "Streaming").
+-- What a node makes for a request of the parts at its ports, kind by kind (VTK User's Guide, the
+-- executive: the data pass, and "Streaming").
 use Rattle.std.specs.Prelude.{◌≡◌, ℕ, List, [], ◌∷◌, Option, None, Some, Ok, Err}
 use Rattle.viz_base.specs.declared.node.Pick.{Pick}
 use Rattle.viz_dataset.specs.declared.dataset.Dataset.{Dataset}
@@ -7,7 +8,13 @@ use Rattle.viz_fraction.specs.declared.forms.Form.{Form}
 use Rattle.viz_kept.specs.Whole.{IsWholePart, whole_request}
 use Rattle.viz_kinds.specs.declared.settings.Settings.{Settings}
 use Rattle.viz_kinds.specs.declared.settings.Settings.TheVariants as settings
-use Rattle.viz_meaning.specs.ImageFilters.{arith_of, crop_of, sample_of, smooth_within, threshold_of}
+use Rattle.viz_meaning.specs.ImageFilters.{
+  arith_of,
+  crop_of,
+  sample_of,
+  smooth_within,
+  threshold_of,
+}
 use Rattle.viz_meaning.specs.Narrow.{AreNarrowSections}
 use Rattle.viz_meaning.specs.Tetrahedra.{tetrahedra_sheet}
 use Rattle.viz_meaning.specs.WholeImages.{GivesOn, GivesOnBoth, WholeImage}
@@ -44,7 +51,8 @@ use Rattle.viz_node_parts.specs.Taken.{parts_fed}
 -- ---- files
 
 -- all of what a file is read as, where 10^unit of its coordinates make 1
-pub record IsFilePart (array : Pick) (unit : ℕ) (file : Option (List ℕ)) (part : Part) : Type 0 where
+pub record IsFilePart (array : Pick) (unit : ℕ) (file : Option (List ℕ)) (part : Part)
+    : Type 0 where
   pub whole : Dataset
   pub read : IsReadingOf array unit file (Ok whole)
   pub part_is : IsWholePart whole (whole_request whole) part
@@ -109,7 +117,8 @@ MakesBoundary (Block out) input part = ⊥
 
 -- the part that a node with these parameters and this file makes for a request of the parts at its
 -- ports, where the image at its ports has this extent
-abbrev pub MakesPart : Settings → Option (List ℕ) → Option Bounds → Request → Inputs Part → Part → Type 0
+abbrev pub MakesPart : Settings → Option (List ℕ) → Option Bounds → Request → Inputs Part → Part
+    → Type 0
 MakesPart (settings.File array unit) file whole request inputs part =
     IsFilePart array (unit_with unit) file part
 MakesPart (settings.Crop x0 x1 y0 y1 z0 z1) file whole request inputs part =

@@ -1,4 +1,5 @@
--- What is asked for and at a port, and why nothing is made. Only private contracts and proofs speak of it.
+-- What is asked for and at a port, and what sections come to. Only private contracts and proofs
+-- speak of it.
 use Rattle.std.specs.Prelude.{List, Option, None, Some, Result, Ok, Err}
 use Rattle.viz_extent.specs.Extent.{Bounds}
 use Rattle.viz_fraction.specs.declared.forms.Form.{Form}
@@ -14,14 +15,14 @@ use Rattle.viz_parts.specs.declared.request.Request.TheVariants.{Block, Piece}
 use Rattle.viz_node_parts.specs.Made.{IsNarrowInput, MakesNarrow}
 
 -- a block is asked for
-abbrev pub IsBlock : Request → Type 0
-IsBlock (Block out) = Unit {0}
-IsBlock (Piece p n ghosts) = ⊥
+abbrev pub AsksBlock : Request → Type 0
+AsksBlock (Block out) = Unit {0}
+AsksBlock (Piece p n ghosts) = ⊥
 
 -- a piece is asked for
-abbrev pub IsPiece : Request → Type 0
-IsPiece (Piece p n ghosts) = Unit {0}
-IsPiece (Block out) = ⊥
+abbrev pub AsksPiece : Request → Type 0
+AsksPiece (Piece p n ghosts) = Unit {0}
+AsksPiece (Block out) = ⊥
 
 -- there is an image at the port
 abbrev pub HasImage : Option Part → Type 0

@@ -1,4 +1,5 @@
--- Which parts at its ports a node takes for a request (VTK User's Guide, the executive: the request pass, and "Streaming").
+-- Which parts at its ports a node takes for a request (VTK User's Guide, the executive: the request
+-- pass, and "Streaming").
 use Rattle.std.specs.Prelude.{◌≡◌, ℕ, ◌<◌, List, [], ◌∷◌, All, Option, None, Some}
 use Rattle.viz_dataset.specs.Images.{ImageData, IsSpacing}
 use Rattle.viz_extent.specs.Extent.{Bounds}
@@ -24,8 +25,8 @@ TakesImage Has (Block out) (Some (Image input)) = Has out input
 TakesImage Has _ _ = ⊥
 
 -- the points of the block
-abbrev pub HasPoints : Bounds → ImageData → Type 0
-HasPoints out input = IsPart input.extent out
+abbrev pub HoldsBlock : Bounds → ImageData → Type 0
+HoldsBlock out input = IsPart input.extent out
 
 -- the points that a sample has of the block, with steps that an image may have
 abbrev pub HasMultiples : Rate → Bounds → ImageData → Type 0
@@ -79,15 +80,16 @@ parts_fed (Some part ∷ inputs) = part ∷ parts_fed inputs
 abbrev pub TakesParts : Settings → Option Bounds → Request → Inputs Part → Type 0
 TakesParts (settings.File array unit) whole request inputs = Unit {0}
 TakesParts (settings.Crop x0 x1 y0 y1 z0 z1) whole request inputs =
-    TakesImage HasPoints request (fed_at 1 inputs)
+    TakesImage HoldsBlock request (fed_at 1 inputs)
 TakesParts (settings.Sample x y z) whole request inputs =
     TakesImage (HasMultiples (rate_with x y z)) request (fed_at 1 inputs)
 TakesParts (settings.Threshold lo hi) whole request inputs =
-    TakesImage HasPoints request (fed_at 1 inputs)
+    TakesImage HoldsBlock request (fed_at 1 inputs)
 TakesParts (settings.Smooth radius) whole request inputs =
     TakesImage (HasPointsAround (radius_with radius) whole) request (fed_at 1 inputs)
 TakesParts (settings.Arith op) whole request inputs =
-    TakesImage HasPoints request (fed_at 1 inputs) × TakesImage HasPoints request (fed_at 2 inputs)
+    TakesImage HoldsBlock request (fed_at 1 inputs)
+    × TakesImage HoldsBlock request (fed_at 2 inputs)
 TakesParts settings.Tets whole request inputs = TakesSlab whole request (fed_at 1 inputs)
 TakesParts (settings.Select lo hi all) whole request inputs = TakesMesh (fed_at 1 inputs)
 TakesParts (settings.Contour count levels) whole request inputs =

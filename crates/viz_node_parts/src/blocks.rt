@@ -7,7 +7,7 @@ ghost use Rattle.viz_meaning.specs.ImageFilters.{arith_of, crop_of, sample_of, t
 ghost use Rattle.viz_node_meaning.specs.Data.{op_with, radius_with};
 ghost use Rattle.viz_node_meaning.specs.Information.{rate_with};
 ghost use Rattle.viz_node_parts.specs.Made.{MakesImage, MakesMean, MakesOfBoth};
-ghost use Rattle.viz_node_parts.specs.Taken.{HasMultiples, HasPoints, HasPointsAround, TakesImage};
+ghost use Rattle.viz_node_parts.specs.Taken.{HasMultiples, HasPointsAround, HoldsBlock, TakesImage};
 
 use crate::parameters::{op_with, radius_with, rate_with};
 use crate::ports::{block_of, image_of};
@@ -23,7 +23,7 @@ pub fn crop_block(
     request: &Request,
     input: Option<&Part>,
 ) -> Result<Part, AllocError>
-    requires taken { TakesImage HasPoints request.now (option_copied input) }
+    requires taken { TakesImage HoldsBlock request.now (option_copied input) }
     ensures made { IfOk result (λ part. (box : Bounds)
         → MakesImage (crop_of box) request.now (option_copied input.entry) part) }
 {
@@ -58,7 +58,7 @@ pub fn threshold_block(
     request: &Request,
     input: Option<&Part>,
 ) -> Result<Part, AllocError>
-    requires taken { TakesImage HasPoints request.now (option_copied input) }
+    requires taken { TakesImage HoldsBlock request.now (option_copied input) }
     ensures made { IfOk result (MakesImage (threshold_of lo.now hi.now) request.now
         (option_copied input.entry)) }
 {
@@ -95,8 +95,8 @@ pub fn arith_block(
     first: Option<&Part>,
     second: Option<&Part>,
 ) -> Result<Part, AllocError>
-    requires first { TakesImage HasPoints request.now (option_copied first) }
-    requires second { TakesImage HasPoints request.now (option_copied second) }
+    requires first { TakesImage HoldsBlock request.now (option_copied first) }
+    requires second { TakesImage HoldsBlock request.now (option_copied second) }
     ensures made { IfOk result (MakesOfBoth (arith_of (op_with op)) request.now
         (option_copied first.entry) (option_copied second.entry)) }
 {

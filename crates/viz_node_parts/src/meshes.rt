@@ -4,7 +4,12 @@ ghost use Rattle.std.specs.Prelude.{◌≡◌, All, IfOk};
 ghost use Rattle.std.specs.Option.{option_copied};
 ghost use Rattle.viz_node_parts.specs.Made.{MakesBoundary, MakesOf};
 ghost use Rattle.viz_node_parts.specs.Taken.{TakesMesh, TakesPiece, parts_fed};
-ghost use Rattle.viz_piece_divisions.specs.Answers.{IsAppendedAnswer, IsMergedAnswer, IsOfMesh, IsSelectedAnswer};
+ghost use Rattle.viz_piece_divisions.specs.Answers.{
+  IsAppendedAnswer,
+  IsMergedAnswer,
+  IsOfMesh,
+  IsSelectedAnswer,
+};
 
 use crate::ports::{mesh_of, parts_fed, piece_of};
 use std::alloc::{AllocError, Global};

@@ -3,7 +3,7 @@
 ghost use Rattle.std.specs.Prelude.{◌≡◌, ◌≤◌, ◌++◌, ◌∷◌, [], IfOk, OnOk, Some};
 ghost use Rattle.std.specs.Option.{option_copied};
 ghost use Rattle.viz_node_meaning.specs.Information.{fed_at};
-ghost use Rattle.viz_node_parts.specs.Steps.{HasImage, IsBlock, IsPiece};
+ghost use Rattle.viz_node_parts.specs.Steps.{AsksBlock, AsksPiece, HasImage};
 ghost use Rattle.viz_node_parts.specs.Taken.{TakesMesh, parts_fed};
 ghost use Rattle.viz_parts.specs.declared.request.Part.TheVariants.{Image as OfImage};
 ghost use Rattle.viz_parts.specs.declared.request.Request.TheVariants.{Block, Piece};
@@ -27,7 +27,7 @@ pub fn part_at(inputs: &[Option<Shared<Part>>], port: usize) -> Option<&Part>
 
 /// The block that is asked for.
 pub fn block_of(request: &Request) -> &Extent
-    requires block { IsBlock request.now }
+    requires block { AsksBlock request.now }
     ensures value { request.now ≡ Block result.now }
 {
     match request {
@@ -38,7 +38,7 @@ pub fn block_of(request: &Request) -> &Extent
 
 /// The piece that is asked for, the number of pieces and the number of ghost levels.
 pub fn piece_of(request: &Request) -> (u32, u32, u32)
-    requires piece { IsPiece request.now }
+    requires piece { AsksPiece request.now }
     ensures value { request.now ≡ Piece result.0 result.1 result.2 }
 {
     match request {
