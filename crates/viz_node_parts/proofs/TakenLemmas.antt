@@ -494,7 +494,8 @@ parts_taken law settings.Tets file inputs made only m fit request parts fits giv
 parts_taken law (settings.Select lo hi all) file inputs made only m fit request parts fits given =
     mesh_row_taken (selections all lo hi) inputs made.whole
     (row_made (settings.Select lo hi all) inputs made.whole m.evaluated) request parts given
-parts_taken law (settings.Contour count levels) file inputs made only m fit request parts fits given =
+parts_taken law (settings.Contour count levels) file inputs made only m fit request parts fits
+    given =
     section_row_taken law (contour_forms count levels) inputs made.whole fit
     (row_made (settings.Contour count levels) inputs made.whole m.evaluated) request parts fits
     given
@@ -515,5 +516,6 @@ parts_taken law settings.Merge file inputs made only m fit request parts fits gi
     mesh_row_taken merge_of inputs made.whole
     (row_made settings.Merge inputs made.whole m.evaluated) (all_of (extent_at_ports inputs)) parts
     given
-parts_taken law (settings.Writer binary digits) file inputs made only m fit request parts fits given =
+parts_taken law (settings.Writer binary digits) file inputs made only m fit request parts fits
+    given =
     absurd (only tt)

@@ -3,9 +3,9 @@
 //! Contract: `node_part` gives just what the calls for parts of viz_image_ops, viz_piece_tets,
 //! viz_piece_section and viz_mesh_parts give by the node's parameters, or all of what its file is
 //! read as; else the file's fault, or `TooWide` where a section of the part at its port is wide.
-//! Of true parts of what feeds a node, for what the node asks for, these are what it takes, and what
-//! it makes is a true part of what the node makes: two laws. Definitions: `specs/Taken.antt`,
-//! `specs/Made.antt`, `specs/Answering.antt`; `specs/Steps.antt` has the words of private contracts.
+//! Two laws: true parts of what feeds a node, for what it asks for, are those that it takes, and
+//! what it makes of them is a true part of what it makes. Definitions: `specs/Taken.antt`,
+//! `specs/Made.antt`, `specs/Answering.antt`; `specs/Steps.antt` has words of private contracts.
 #![tactic(auto)]
 
 mod blocks;
