@@ -32,7 +32,6 @@ use Rattle.viz_meaning.specs.ImageFilters.{
   smooth_within,
   threshold_of,
 }
-use Rattle.viz_meaning.specs.Tetrahedra.{sheets_of}
 use Rattle.viz_meaning.specs.WholeImages.{WholeImage}
 use Rattle.viz_node_answers.specs.Answers.{
   AppendAnswers,
@@ -60,7 +59,7 @@ use Rattle.viz_node_meaning.specs.Data.{
 use Rattle.viz_node_meaning.specs.Information.{box_with, fed_at, rate_with}
 use Rattle.viz_node_meaning.specs.Rules.{Inputs}
 use Rattle.viz_node_meaning.specs.Scratch.{IsScratchOf}
-use Rattle.viz_parts.specs.Pieces.{IsAnswer, SharesOut}
+use Rattle.viz_parts.specs.Pieces.{IsAnswer}
 use Rattle.viz_parts.specs.declared.request.Part.{Part}
 use Rattle.viz_parts.specs.declared.request.Part.TheVariants.{Image, Mesh}
 use Rattle.viz_parts.specs.declared.request.Request.{Request}
@@ -178,23 +177,23 @@ module _ (law : BlockAnswers) (s : Settings) (filter : Bounds → WholeImage →
     (pieces : (p n ghosts : ℕ) (o : Option Part) (part : Part)
     → Makes None (Piece p n ghosts) o part → ⊥)
     (unmade : (e : Option Bounds) (request : Request) (part : Part) → Makes e request None part → ⊥)
-    where
-  image_row : (file : Option (List ℕ)) (inputs : Inputs Divided) (made : Divided)
-      → IsMadeOf s file inputs made → (request : Request) (parts : Inputs Part) (part : Part)
-      → Fits (dataset_extent made.whole) request
-      → AreAnswered inputs (ask (extent_at_ports inputs) request) parts
-      → Makes (extent_at_ports inputs) request (fed_at 1 parts) part → IsPartFor made request part
-  image_row file inputs made m request parts part fits given gives =
-      let e = extent_at_ports inputs in
-      let at = at_first (λ o. Makes e request o part) (unmade e request part) inputs (ask e request)
-      parts given gives in
-      let from : IsMadeFrom s at.first made =
-      record { file = file; inputs = inputs; fed = at.fed; made_of = m } in
-      image_answers law s filter filters ask asks Makes makes pieces at.first made from
-      at.first.whole refl request at.input part fits
-      (subst (λ x. IsPartFor at.first (ask x request) at.input) at.extent at.answers)
-      (subst (λ x. Makes x request (Some at.input) part) at.extent
-      (subst (λ o. Makes e request o part) at.given gives))
+  where
+    image_row : (file : Option (List ℕ)) (inputs : Inputs Divided) (made : Divided)
+        → IsMadeOf s file inputs made → (request : Request) (parts : Inputs Part) (part : Part)
+        → Fits (dataset_extent made.whole) request
+        → AreAnswered inputs (ask (extent_at_ports inputs) request) parts
+        → Makes (extent_at_ports inputs) request (fed_at 1 parts) part → IsPartFor made request part
+    image_row file inputs made m request parts part fits given gives =
+        let e = extent_at_ports inputs in
+        let at = at_first (λ o. Makes e request o part) (unmade e request part) inputs (ask e request)
+        parts given gives in
+        let from : IsMadeFrom s at.first made =
+        record { file = file; inputs = inputs; fed = at.fed; made_of = m } in
+        image_answers law s filter filters ask asks Makes makes pieces at.first made from
+        at.first.whole refl request at.input part fits
+        (subst (λ x. IsPartFor at.first (ask x request) at.input) at.extent at.answers)
+        (subst (λ x. Makes x request (Some at.input) part) at.extent
+        (subst (λ o. Makes e request o part) at.given gives))
 
 -- a mean asks for a block
 grown_block : (by : ℕ) (e : Option Bounds) (out : Bounds)

@@ -2,8 +2,6 @@
 use Rattle.std.proofs.Common.{
   ◌≡◌,
   ℕ,
-  ◌+◌,
-  ◌<◌,
   ℤ,
   Bool,
   List,
@@ -12,7 +10,6 @@ use Rattle.std.proofs.Common.{
   Option,
   None,
   Some,
-  Result,
   Ok,
   refl,
   sym,
@@ -90,8 +87,6 @@ use Rattle.viz_node_parts.specs.Answering.{
 use Rattle.viz_node_parts.specs.Made.{
   MakesBoundary,
   MakesImage,
-  MakesMean,
-  MakesOf,
   MakesOfBoth,
   MakesSections,
   MakesTets,

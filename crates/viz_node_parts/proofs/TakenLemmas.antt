@@ -26,7 +26,6 @@ use Rattle.viz_dataset.specs.declared.dataset.Dataset.TheVariants as dataset
 use Rattle.viz_extent.specs.Extent.{Bounds}
 use Rattle.viz_extent.specs.Parts.{IsPart, Rate, grown, spread}
 use Rattle.viz_fraction.specs.declared.forms.Form.{Form}
-use Rattle.viz_kinds.specs.declared.settings.Settings.{Settings}
 use Rattle.viz_kinds.specs.declared.settings.Settings.TheVariants as settings
 use Rattle.viz_meaning.specs.ImageFilters.{
   arith_of,
@@ -42,7 +41,7 @@ use Rattle.viz_mesh_meaning.specs.Append.{appended}
 use Rattle.viz_mesh_meaning.specs.Facets.{boundaries}
 use Rattle.viz_mesh_meaning.specs.Select.{selections}
 use Rattle.viz_node_answers.specs.Answers.{IsPartFor}
-use Rattle.viz_node_division.specs.Divided.{Divided, IsMadeOf, wholes}
+use Rattle.viz_node_division.specs.Divided.{Divided, wholes}
 use Rattle.viz_node_division.proofs.RowLemmas.{IsOk, first_whole, row_made, whole_at}
 use Rattle.viz_node_meaning.specs.Data.{
   AreTetrahedra,
@@ -66,7 +65,7 @@ use Rattle.viz_parts.specs.declared.request.Part.{Part}
 use Rattle.viz_parts.specs.declared.request.Part.TheVariants.{Image, Mesh}
 use Rattle.viz_parts.specs.declared.request.Request.{Request}
 use Rattle.viz_parts.specs.declared.request.Request.TheVariants.{Block, Piece}
-use Rattle.viz_piece_divisions.specs.Answers.{IsFitPart, IsOfMesh as IsMeshPart}
+use Rattle.viz_piece_divisions.specs.Answers.{IsOfMesh as IsMeshPart}
 use Rattle.viz_piece_divisions.specs.Divisions.{Owns}
 use Rattle.viz_piece_divisions.specs.Pieces.{PartsFit}
 use Rattle.viz_piece_tets.specs.Asked as slabs
@@ -224,10 +223,11 @@ held_block image whole i out b = on_block image out i b
 held_multiples : (rate : Rate) (image whole i : ImageData) (out : Bounds)
     → IsOn (sample_of rate (whole_of image)) (sample_of rate (whole_of image)).extent whole
     → IsBlockOf image (spread rate out) i → HasMultiples rate out i
-held_multiples rate image whole i out on b =
-    (on_block image (spread rate out) i b,
-    subst (λ v. IsSpacing (wider_steps rate v)) (sym b.same.spacing)
-    (subst IsSpacing on.spacing on.valid.spacing))
+held_multiples rate image whole i out on b = (
+  on_block image (spread rate out) i b,
+  subst (λ v. IsSpacing (wider_steps rate v)) (sym b.same.spacing)
+      (subst IsSpacing on.spacing on.valid.spacing),
+)
 
 held_around : (radius : ℕ) (image whole i : ImageData) (out : Bounds)
     → IsOn (smooth_of radius (whole_of image)) (smooth_of radius (whole_of image)).extent whole
@@ -245,11 +245,12 @@ both_taken : (filter : WholeImage → WholeImage → WholeImage) (w v : Dataset)
     → IsPartFor second request other
     → TakesImage HoldsBlock request (Some input) × TakesImage HoldsBlock request (Some other)
 both_taken filter (dataset.Image a) (dataset.Image b) first second is also m row (Block out) input
-    other fits given beside =
-    (taken_block HoldsBlock out out a first.division input (λ i h. on_block a out i h)
-    (subst (λ w. IsAnswer w first.division (Block out) input) is given),
-    taken_block HoldsBlock out out b second.division other (λ i h. on_block b out i h)
-    (subst (λ w. IsAnswer w second.division (Block out) other) also beside))
+    other fits given beside = (
+      taken_block HoldsBlock out out a first.division input (λ i h. on_block a out i h)
+          (subst (λ w. IsAnswer w first.division (Block out) input) is given),
+      taken_block HoldsBlock out out b second.division other (λ i h. on_block b out i h)
+          (subst (λ w. IsAnswer w second.division (Block out) other) also beside),
+    )
 both_taken filter (dataset.Image a) (dataset.Image b) first second is also m row
     (Piece p n ghosts) input other fits given beside =
     let e : IsOk (Ok m) (dataset.Image row.0) = row.2 in
@@ -287,9 +288,10 @@ arith_taken filter inputs m row request parts fits given =
     let both_rows = subst (λ o. IsOfTwo filter (Some at.first.whole) o (Ok m))
     (second_whole inputs ∙ ap whole_at also.fed) first_row in
     let taken = both_taken filter at.first.whole also.second.whole at.first also.second refl refl m
-    both_rows request at.input also.input fits at.answers also.answers in
-    (subst (λ o. TakesImage HoldsBlock request o) (sym at.given) taken.0,
-    subst (λ o. TakesImage HoldsBlock request o) (sym also.given) taken.1)
+    both_rows request at.input also.input fits at.answers also.answers in (
+      subst (λ o. TakesImage HoldsBlock request o) (sym at.given) taken.0,
+      subst (λ o. TakesImage HoldsBlock request o) (sym also.given) taken.1,
+    )
 
 -- ---- pieces
 
@@ -394,9 +396,9 @@ fit_parts : PartsFit → (sheets : List SheetData) (owns : Owns) (ghosts : ℕ)
     → All (λ (p : PartSheetData). IsFit p.sheet) parts
 fit_parts law sheets owns ghosts parts h fit =
     λ k d l.
-        let below : k < length sheets = subst (λ n. k < n) h.matched l in
-        law (get_or sheets k d.sheet) (get_or owns k []) ghosts (get_or parts k d)
-        (h.each k d.sheet d below) (fit k d.sheet below)
+    let below : k < length sheets = subst (λ n. k < n) h.matched l in
+    law (get_or sheets k d.sheet) (get_or owns k []) ghosts (get_or parts k d)
+    (h.each k d.sheet d below) (fit k d.sheet below)
 
 fit_taken : PartsFit → (sheets : List SheetData) (division : Division) (p n ghosts : ℕ)
     (input : Part) → IsAnswer (dataset.Mesh sheets) division (Piece p n ghosts) input

@@ -1,6 +1,6 @@
 -- Of true parts of what feeds a node, the part that it makes is one of what it makes (VTK User's
 -- Guide, the executive and "Streaming").
-use Rattle.std.specs.Prelude.{◌≡◌, ℕ, List, [], ◌∷◌, All, Option, None, Some, Ok}
+use Rattle.std.specs.Prelude.{ℕ, List, [], ◌∷◌, All, Option, None, Some, Ok}
 use Rattle.viz_dataset.specs.declared.dataset.Dataset.{Dataset}
 use Rattle.viz_dataset.specs.declared.dataset.Dataset.TheVariants as dataset
 use Rattle.viz_extent.specs.Extent.{Bounds}
