@@ -185,8 +185,8 @@ module _ (law : BlockAnswers) (s : Settings) (filter : Bounds → WholeImage →
         → Makes (extent_at_ports inputs) request (fed_at 1 parts) part → IsPartFor made request part
     image_row file inputs made m request parts part fits given gives =
         let e = extent_at_ports inputs in
-        let at = at_first (λ o. Makes e request o part) (unmade e request part) inputs (ask e request)
-        parts given gives in
+        let at = at_first (λ o. Makes e request o part) (unmade e request part) inputs
+        (ask e request) parts given gives in
         let from : IsMadeFrom s at.first made =
         record { file = file; inputs = inputs; fed = at.fed; made_of = m } in
         image_answers law s filter filters ask asks Makes makes pieces at.first made from
