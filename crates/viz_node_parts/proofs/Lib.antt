@@ -1,0 +1,5 @@
+pub mod FedLemmas
+pub mod PortLemmas
+pub mod AnsweringLemmas
+pub mod AnsweredLemmas
+pub mod TakenLemmas

@@ -1,0 +1,4 @@
+pub mod Made
+pub mod Taken
+pub mod Answering
+pub mod Steps
