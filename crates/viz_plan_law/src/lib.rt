@@ -8,4 +8,4 @@
 
 mod laws;
 
-pub use laws::{kept_parts_serve, served_parts_are_cut, told_is_of_datasets};
+pub use laws::{kept_parts_serve, plans_fit, served_parts_are_cut, told_is_of_datasets};
