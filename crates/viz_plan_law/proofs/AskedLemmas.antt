@@ -60,7 +60,8 @@ grown_part by whole b = record {
 }
 
 -- planes of an extent
-pub planes_part : (b : Bounds) (first last : ℕ) → b.z0 + last ≤ b.z1 → IsPart b (planes first last b)
+pub planes_part : (b : Bounds) (first last : ℕ) → b.z0 + last ≤ b.z1
+    → IsPart b (planes first last b)
 planes_part b first last l = record {
   x = record { first = omega arith; last = omega arith };
   y = record { first = omega arith; last = omega arith };

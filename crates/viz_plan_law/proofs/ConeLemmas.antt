@@ -52,7 +52,8 @@ use Rattle.viz_network.proofs.TaleLemmas.{holds, node_id}
 use Rattle.viz_plan_meaning.proofs.NetworkLemmas.{step_at}
 use Rattle.viz_plan_meaning.proofs.PlanLemmas.{or-left, or-right}
 use Rattle.viz_plan_meaning.specs.Laws.{IsPlaced}
-use Rattle.viz_plan_law.specs.Fitting.{HasOwnPorts, HaveOwnPorts}
+use Rattle.viz_plan_law.specs.Ports.{HasOwnPorts, HaveOwnPorts}
+use Rattle.viz_plan_law.proofs.EditPortLemmas.{own_node}
 use Rattle.viz_plan_law.proofs.PortLemmas.{AreFirst}
 
 -- ---- ports
@@ -67,7 +68,8 @@ first_fed : (up : ℕ → Option Tree) (ports : ℕ) (inputs : List (Option Node
     → ((place : ℕ) → ports ≤ place → slice_index_or inputs place None ≡ None)
     → AreFirst ports (grow up inputs)
 first_fed up ports [] h = tt
-first_fed up zero (None ∷ inputs) h = first_fed up zero inputs (λ place l. h (suc place) (omega arith))
+first_fed up zero (None ∷ inputs) h =
+    first_fed up zero inputs (λ place l. h (suc place) (omega arith))
 first_fed up (suc ports) (None ∷ inputs) h =
     first_fed up ports inputs (λ place l. h (suc place) (omega (arith, l)))
 first_fed up zero (Some id ∷ inputs) h =
@@ -117,7 +119,7 @@ module _ (net : Network) where
           record {
             cone = subst (λ (i : ℕ). cone_of net i ≡ Some (n, grow (cone_of net) n.inputs))
                 (sym (node_id net x.0 n there)) cone;
-            ports = own_first (cone_of net) n (have x.0 n there);
+            ports = own_first (cone_of net) n (own_node net x.0 n have there);
           },
           subst AllAt (ap ports_above cone) a,
           b,

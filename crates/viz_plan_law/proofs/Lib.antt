@@ -10,6 +10,7 @@ pub mod HeaderLemmas
 pub mod InformLemmas
 pub mod AskedLemmas
 pub mod PortLemmas
+pub mod EditPortLemmas
 pub mod ConeLemmas
 pub mod GivenLemmas
 pub mod FitLemmas

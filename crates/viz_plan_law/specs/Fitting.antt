@@ -3,11 +3,7 @@
 use Rattle.std.specs.Prelude.{◌≡◌, ℕ, ◌+◌, ◌<◌, ◌^◌, true, List, Option, None, Some, Ok}
 use Rattle.std.specs.List.{All}
 use Rattle.viz_extent.specs.Extent.{Bounds}
-use Rattle.viz_kinds.specs.Kinds.{ports_of}
-use Rattle.viz_kinds.specs.Settings.{kind_of}
 use Rattle.viz_network.specs.Cone.{Tree, cone_of, has_node, nodes_limit}
-use Rattle.viz_network.specs.Network.{Network, input_of, node_of}
-use Rattle.viz_network.specs.declared.node.Node.{Node}
 use Rattle.viz_node_meaning.specs.Fold.{IsGiven}
 use Rattle.viz_node_meaning.specs.Information.{InformationRule}
 use Rattle.viz_node_meaning.specs.declared.information.Information.{Information}
@@ -20,6 +16,7 @@ use Rattle.viz_plan_meaning.specs.Networks.{ways_to}
 use Rattle.viz_plan_meaning.specs.Plan.{heads}
 use Rattle.viz_requests.specs.Shapes.{requests_of}
 use Rattle.viz_requests.specs.Upstream.{CanAsk, Fits, HasRoom}
+use Rattle.viz_plan_law.specs.Ports.{HaveOwnPorts}
 
 -- ---- what is known
 
@@ -37,14 +34,6 @@ pub record IsKnown (k : Known) (id : ℕ) : Type 0 where
 -- so of the node and of all nodes upstream of it
 abbrev pub AllKnown : Known → ℕ → Type 0
 AllKnown k sink = (id : ℕ) → has_node id (cone_of k.net sink) ≡ true → IsKnown k id
-
--- no port past those of the node's kind is fed
-abbrev pub HasOwnPorts : Node → Type 0
-HasOwnPorts n = (port : ℕ) → ports_of (kind_of n.settings) < port → input_of n port ≡ None
-
--- so of each node
-abbrev pub HaveOwnPorts : Network → Type 0
-HaveOwnPorts net = (id : ℕ) (n : Node) → node_of net id ≡ Some n → HasOwnPorts n
 
 -- ---- requests
 

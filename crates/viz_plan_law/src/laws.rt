@@ -10,6 +10,7 @@ ghost use Rattle.viz_plan_law.specs.Cutting.{
 };
 ghost use Rattle.viz_plan_law.specs.Fitting.{PlansFit, RequestsFit, UpdatesFit};
 ghost use Rattle.viz_plan_law.specs.Kept.{KeptPartsServe};
+ghost use Rattle.viz_plan_law.specs.Ports.{EditsKeepPorts, HistoriesKeepPorts};
 ghost use Rattle.viz_plan_law.specs.Told.{
   DatasetsAreTold,
   ToldExtentsAreOwn,
@@ -53,11 +54,13 @@ pub fn kept_parts_serve()
 
 /// Where what is known of the extents of a node and of all upstream of it is what is told of them,
 /// and only ports of their kinds are fed, the tasks of a plan fit what their nodes make, and what
-/// they ask for fits what feeds these: so do the requests of an update in pieces.
+/// they ask for fits what feeds these. In the networks of a history only such ports are fed.
 pub fn plans_fit()
     ensures tasks { PlansFit }
     ensures requests { RequestsFit }
     ensures update { UpdatesFit }
+    ensures edits { EditsKeepPorts }
+    ensures histories { HistoriesKeepPorts }
 {
     rules_are_one();
     fitting_can_be_asked();

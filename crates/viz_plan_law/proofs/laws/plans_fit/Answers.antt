@@ -1,3 +1,4 @@
+use Rattle.viz_plan_law.proofs.EditPortLemmas.{edits_keep, histories_keep}
 use Rattle.viz_plan_law.proofs.FitLemmas as lemma
 use Rattle.viz_plan_law.proofs.UpdateLemmas.{updates_fit}
 use Rattle.viz_plan_law.proofs.laws.plans_fit.Goals as goal
@@ -10,4 +11,6 @@ returns c =
       tasks = lemma.plans_fit one fitting;
       requests = lemma.requests_fit one fitting;
       update = updates_fit;
+      edits = edits_keep;
+      histories = histories_keep;
     }
