@@ -113,7 +113,7 @@ more_fits None (Block c) h = absurd h
 more_fits None (Piece p n g) h = h
 
 -- what can be asked of inputs fits what they make
-pub asked_fits : (s : Settings) (o : Option Bounds) (r : Request) → IsDeep o → CanAsk s o r
+asked_fits : (s : Settings) (o : Option Bounds) (r : Request) → IsDeep o → CanAsk s o r
     → Fits o (asked s o r)
 asked_fits (settings.File array unit) o r d h = all_fits o
 asked_fits (settings.Crop x0 x1 y0 y1 z0 z1) o r d h = h
@@ -129,6 +129,37 @@ asked_fits settings.Append o r d h = h
 asked_fits settings.Boundary o r d h = more_fits o r h.0
 asked_fits settings.Merge o r d h = all_fits o
 asked_fits (settings.Writer binary digits) o r d h = h
+
+-- ghost levels don't matter for that
+piece_fits : (o : Option Bounds) (p n g h : ℕ) → Fits o (Piece p n g) → Fits o (Piece p n h)
+piece_fits (Some b) p n g h f = absurd f
+piece_fits None p n g h f = f
+
+asked_piece : (s : Settings) (o : Option Bounds) (p n g : ℕ) → IsDeep o
+    → CanAsk s o (Piece p n 0) → Fits o (asked s o (Piece p n g))
+asked_piece (settings.File array unit) o p n g d h = all_fits o
+asked_piece (settings.Crop x0 x1 y0 y1 z0 z1) o p n g d h = piece_fits o p n 0 g h
+asked_piece (settings.Sample x y z) o p n g d h =
+    piece_fits o p n 0 g (spread_fits (sample_rate x y z) o (Piece p n 0) h)
+asked_piece (settings.Threshold lo hi) o p n g d h = piece_fits o p n 0 g h
+asked_piece (settings.Smooth radius) o p n g d h =
+    grown_fits (mean_radius radius) o (Piece p n g) (piece_fits o p n 0 g h)
+asked_piece (settings.Arith op) o p n g d h = piece_fits o p n 0 g h
+asked_piece settings.Tets o p n g d h = layers_fits o (Piece p n g) d h
+asked_piece (settings.Select lo hi all) o p n g d h = piece_fits o p n 0 g h
+asked_piece (settings.Contour count levels) o p n g d h = layers_fits o (Piece p n g) d h
+asked_piece (settings.Cut a b c e) o p n g d h = layers_fits o (Piece p n g) d h
+asked_piece settings.Append o p n g d h = piece_fits o p n 0 g h
+asked_piece settings.Boundary o p n g d h = piece_fits o p n 0 (g + 1) h.0
+asked_piece settings.Merge o p n g d h = all_fits o
+asked_piece (settings.Writer binary digits) o p n g d h = piece_fits o p n 0 g h
+
+-- what is asked for a request that fits the node fits its inputs
+pub asked_within : (s : Settings) (o own : Option Bounds) (r : Request) → IsDeep o
+    → ((w : Request) → Fits own w → HasRoom w → CanAsk s o w) → Fits own r → Fits o (asked s o r)
+asked_within s o own (Block b) d can f = asked_fits s o (Block b) d (can (Block b) f tt)
+asked_within s o own (Piece p n g) d can f =
+    asked_piece s o p n g d (can (Piece p n 0) (piece_fits own p n g 0 f) (omega arith))
 
 pub widened_fits : (s : Settings) (o : Option Bounds) (r : Request) → Fits o r
     → Fits o (widened s o r)

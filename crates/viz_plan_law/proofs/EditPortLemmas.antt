@@ -1,7 +1,6 @@
 -- Edits feed only ports of a node's kind.
 use Rattle.std.proofs.Common.{
   ◌≡◌,
-  ◌≢◌,
   ℕ,
   zero,
   suc,
@@ -9,7 +8,6 @@ use Rattle.std.proofs.Common.{
   ◌-◌,
   ◌≤◌,
   ◌<◌,
-  ◌&&◌,
   nat_le,
   nat_eq,
   not,
@@ -22,18 +20,15 @@ use Rattle.std.proofs.Common.{
   List,
   [],
   ◌∷◌,
-  ◌++◌,
   length,
   replicate,
   Option,
   None,
   Some,
   Result,
-  Ok,
   Err,
   refl,
   sym,
-  ap,
   subst,
   ◌∙◌,
   arith,
@@ -41,10 +36,9 @@ use Rattle.std.proofs.Common.{
 use Rattle.std.proofs.lemmas.Bool.Decides.{nat_tests}
 use Rattle.std.proofs.lemmas.List.{get_or-set_other}
 use Rattle.std.specs.Cmp.Lexicographic.{pointwise}
-use Rattle.std.specs.List.{AllByRecursion}
 use Rattle.std.specs.Map.{lookup}
 use Rattle.std.specs.Option.{option_map_or}
-use Rattle.std.specs.Prelude.{slice_index_or, slice_set}
+use Rattle.std.specs.Prelude.{slice_index_or}
 use Rattle.viz_base.specs.declared.node.NodeId.{NodeId}
 use Rattle.viz_kinds.specs.Kinds.{has_param, has_port, ports_of}
 use Rattle.viz_kinds.specs.Settings.{kind_of, with, with_numbers, with_text}
@@ -60,7 +54,6 @@ use Rattle.viz_network.proofs.EditLemmas.{all_push}
 use Rattle.viz_network.proofs.RemoveLemmas.{without_all}
 use Rattle.viz_network.specs.Cone.{cone_of, has_node, nodes_limit}
 use Rattle.viz_network.specs.Edits.{
-  apply,
   connected,
   fresh,
   is_file,
@@ -71,7 +64,7 @@ use Rattle.viz_network.specs.Edits.{
   valued,
 }
 use Rattle.viz_network.specs.History.{after, net_after, pick}
-use Rattle.viz_network.specs.Network.{Network, change, input_of, named, node_of, without}
+use Rattle.viz_network.specs.Network.{Network, change, named, node_of}
 use Rattle.viz_network.specs.declared.edit.Edit.{Edit}
 use Rattle.viz_network.specs.declared.edit.Edit.TheVariants.{
   Add,
@@ -182,11 +175,11 @@ change_own f (n ∷ net) name b e keeps h =
         → (named net name ≡ Some b → Keep (change f net name))
         → Keep (cond t ((n.0, f n.1) ∷ net) (n ∷ change f net name))
     by true q rest = (
-      let same : n.1 ≡ b = cc in
+        let same : n.1 ≡ b = cc in
         let kept : HasOwnPorts n.1 → HasOwnPorts (f n.1) =
         subst (λ (m : Node). HasOwnPorts m → HasOwnPorts (f m)) (sym same) keeps in
         (kept h.0, h.1)
-      )
+        )
     by false q rest = (h.0, rest q)
 
 -- what an edit comes to keeps it, in place of a network that does

@@ -24,7 +24,7 @@ use Rattle.std.proofs.Common.{
   arith,
 }
 use Rattle.std.proofs.lemmas.List.Elements.{All-from_recursion, recursion_from_All}
-use Rattle.std.specs.List.{AllByRecursion}
+use Rattle.std.specs.List.{All, AllByRecursion}
 use Rattle.viz_kinds.specs.declared.settings.Settings.{Settings}
 use Rattle.viz_kinds.specs.declared.settings.Settings.TheVariants as settings
 use Rattle.viz_extent.specs.Extent.{Bounds}
@@ -65,13 +65,14 @@ use Rattle.viz_plan_law.specs.Fitting.{
   HasRoomOnWays,
   IsFittingTask,
   IsRequestTo,
+  NodesAsk,
   PlansFit,
   RequestsFit,
   TreeCanAsk,
 }
 use Rattle.viz_plan_law.proofs.AskedLemmas.{
-  asked_fits,
   asked_levels,
+  asked_within,
   has_room,
   levels_in,
   widened_fits,
@@ -124,7 +125,7 @@ passes_on settings.Boundary o r e = let bad : ⊥ = cc in absurd bad
 passes_on settings.Merge o r e = let bad : ⊥ = cc in absurd bad
 passes_on (settings.Writer binary digits) o r e = refl
 
-passed_heads : (P : Option ℕ → Type 0) → P None → (own others : Ways)
+pub passed_heads : (P : Option ℕ → Type 0) → P None → (own others : Ways)
     → AllByRecursion P (heads own) → AllByRecursion P (heads others)
     → AllByRecursion P (heads (passed own others))
 passed_heads P nothing no_way others a b = (nothing, b)
@@ -175,20 +176,20 @@ module _ (k : Known) where
     Few r c = levels_in r + height c < 2 ^ 32
 
     asked_wants : (n : Node) (own : Cone) (w : Request) → Fit n own → Fits (k.extent n.id.0) w
-        → levels_in w + 1 < 2 ^ 32 → Wants (asked n.settings (ports_extent k own) w) own
-    asked_wants n own w f fits l =
+        → Wants (asked n.settings (ports_extent k own) w) own
+    asked_wants n own w f fits =
         let q = asked n.settings (ports_extent k own) w in
-        let has = asked_fits n.settings (ports_extent k own) w f.deep
-        (f.asks.can w fits (has_room w l)) in
+        let has = asked_within n.settings (ports_extent k own) (k.extent n.id.0) w f.deep
+        f.asks.can fits in
         fed_map (λ m. k.extent m.id.0 ≡ ports_extent k own) (λ m. Fits (k.extent m.id.0) q)
         (λ m e. subst (λ (o : Option Bounds). Fits o q) (sym e) has) own f.asks.all
 
     -- what a writer is asked for fits what feeds it
     passed_wants : (n : Node) (own : Cone) (r : Request) → passes n.settings ≡ true → Fit n own
-        → Fits (k.extent n.id.0) r → levels_in r + 1 < 2 ^ 32 → Wants r own
-    passed_wants n own r p f fits l =
+        → Fits (k.extent n.id.0) r → Wants r own
+    passed_wants n own r p f fits =
         subst (λ (q : Request). Wants q own) (passes_on n.settings (ports_extent k own) r p)
-        (asked_wants n own r f fits l)
+        (asked_wants n own r f fits)
 
     -- what the node makes
     made_is : (n : Node) (own : Cone) (r : Request) → Fit n own
@@ -213,9 +214,9 @@ module _ (k : Known) where
     asked_is n own w f = sym (ap (λ (t : Option Tree). tree_asked k t w) f.cone)
 
     up_wants : (n : Node) (own : Cone) (w : Request) → Fit n own → Fits (k.extent n.id.0) w
-        → levels_in w + 1 < 2 ^ 32 → Wants (asked_at k n.id.0 w) own
-    up_wants n own w f fits l =
-        subst (λ (q : Request). Wants q own) (asked_is n own w f) (asked_wants n own w f fits l)
+        → Wants (asked_at k n.id.0 w) own
+    up_wants n own w f fits =
+        subst (λ (q : Request). Wants q own) (asked_is n own w f) (asked_wants n own w f fits)
 
     up_levels : (n : Node) (own : Cone) (w : Request) → Fit n own
         → levels_in (asked_at k n.id.0 w) ≤ levels_in w + 1
@@ -225,41 +226,42 @@ module _ (k : Known) where
 
     -- ---- what feeds ports
 
-    heads_fit : (c : Cone) (r : Request) → Stands c → Wants r c → Few r c
+    heads_fit : (c : Cone) (r : Request) → Stands c → Wants r c
         → AllByRecursion (FitsAt k r) (heads (ways c))
-    heads_fit none r s w l = tt
-    heads_fit (empty c) r s w l = (tt, heads_fit c r s w l)
-    heads_fit (fed n own c) r s w l =
-        by (passes n.settings) refl (heads_fit c r s.2 w.1 (omega (arith, l)))
-        (λ p. heads_fit own r s.1 (passed_wants n own r p s.0 w.0 (omega (arith, l)))
-        (omega (arith, l)))
+    heads_fit none r s w = tt
+    heads_fit (empty c) r s w = (tt, heads_fit c r s w)
+    heads_fit (fed n own c) r s w =
+        by (passes n.settings) refl (heads_fit c r s.2 w.1)
+        (λ p. heads_fit own r s.1 (passed_wants n own r p s.0 w.0))
       where
         by : (b : Bool) → passes n.settings ≡ b → AllByRecursion (FitsAt k r) (heads (ways c))
             → (passes n.settings ≡ true → AllByRecursion (FitsAt k r) (heads (ways own)))
             → AllByRecursion (FitsAt k r) (heads (way_of b n.id.0 (ways own) (ways c)))
         by true p rest up = passed_heads (FitsAt k r) tt (ways own) (ways c) (up p) rest
-        by false p rest up = (made_fits n own r s.0 w.0, rest)
+        by false p rest up = ((w.0, made_fits n own r s.0 w.0), rest)
+
+    inputs_fit : (n : Node) (own : Cone) (w : Request) → Fit n own → Stands own
+        → Fits (k.extent n.id.0) w
+        → All (FitsAt k (asked_at k n.id.0 w)) (inputs_of k.net n.id.0)
+    inputs_fit n own w f s fits =
+        let up = heads_fit own (asked_at k n.id.0 w) s (up_wants n own w f fits) in
+        All-from_recursion (FitsAt k (asked_at k n.id.0 w)) (inputs_of k.net n.id.0)
+        (subst
+        (λ (t : Option Tree). AllByRecursion (FitsAt k (asked_at k n.id.0 w))
+        (heads (ways_above t)))
+        (sym f.cone) up)
 
     -- ---- tasks
 
     task_fits : (n : Node) (own : Cone) (w : Request) → Fit n own → Stands own
-        → Fits (k.extent n.id.0) w → levels_in w + 1 + height own < 2 ^ 32
-        → IsFittingTask k (n.id.0, w)
-    task_fits n own w f s fits l =
-        let levels = up_levels n own w f in
-        let up = heads_fit own (asked_at k n.id.0 w) s
-        (up_wants n own w f fits (omega (arith, l))) (omega (arith, l, levels)) in
-        record {
-          own = fits;
-          room = has_room w (omega (arith, l));
-          can = subst (λ (t : Option Tree). TreeCanAsk k t w) (sym f.cone)
-              (f.asks.can w fits (has_room w (omega (arith, l))));
-          inputs = All-from_recursion (FitsAt k (asked_at k n.id.0 w)) (inputs_of k.net n.id.0)
-              (subst
-              (λ (t : Option Tree). AllByRecursion (FitsAt k (asked_at k n.id.0 w))
-              (heads (ways_above t)))
-              (sym f.cone) up);
-        }
+        → Fits (k.extent n.id.0) w → levels_in w + 1 < 2 ^ 32 → IsFittingTask k (n.id.0, w)
+    task_fits n own w f s fits l = record {
+      own = fits;
+      room = has_room w l;
+      can = subst (λ (t : Option Tree). TreeCanAsk k t w) (sym f.cone)
+          (f.asks.can w fits (has_room w l));
+      inputs = inputs_fit n own w f s fits;
+    }
 
     needs_fit : (c : Cone) (r : Request) → Stands c → Wants r c → Few r c
         → AllTasks (need (ways c) r)
@@ -267,8 +269,7 @@ module _ (k : Known) where
     needs_fit (empty c) r s w l = needs_fit c r s w l
     needs_fit (fed n own c) r s w l =
         by (passes n.settings) refl (needs_fit c r s.2 w.1 (omega (arith, l)))
-        (λ p. needs_fit own r s.1 (passed_wants n own r p s.0 w.0 (omega (arith, l)))
-        (omega (arith, l)))
+        (λ p. needs_fit own r s.1 (passed_wants n own r p s.0 w.0) (omega (arith, l)))
         (
         let fits = made_fits n own r s.0 w.0 in
         let made = made_levels n own r s.0 in
@@ -277,7 +278,7 @@ module _ (k : Known) where
         (need (ways own) (asked_at k n.id.0 (widened_at k n.id.0 r)))
         ((n.id.0, widened_at k n.id.0 r) ∷ [])
         (needs_fit own (asked_at k n.id.0 (widened_at k n.id.0 r)) s.1
-        (up_wants n own (widened_at k n.id.0 r) s.0 fits (omega (arith, l, made)))
+        (up_wants n own (widened_at k n.id.0 r) s.0 fits)
         (omega (arith, l, made, levels)))
         (task_fits n own (widened_at k n.id.0 r) s.0 s.1 fits (omega (arith, l, made)), tt)
         )
@@ -349,4 +350,23 @@ module _ (one : IsOne InformationRule) (fitting : FittingCanBeAsked) where
       (placed_at k.net sink placed have) (tree_nodes _ (cone_of k.net sink) known) in
       All-from_recursion (FitsAt k r) (heads (ways_to k.net sink))
       (heads_fit k one fitting (port (cone_of k.net sink) none) r s
-      (sink_wants k one fitting sink r is.fits) (few_at k one fitting sink r is.room))
+      (sink_wants k one fitting sink r is.fits))
+
+  -- what a node asks its inputs for fits them
+  tree_asks : (k : Known) (id : ℕ) (r : Request) (t : Option Tree) → cone_of k.net id ≡ t
+      → AllFit k one fitting (port t none) → Fits (k.extent id) r
+      → All (FitsAt k (asked_at k id r)) (inputs_of k.net id)
+  tree_asks k id r None e s fits =
+      subst (λ (t : Option Tree). All (FitsAt k (asked_at k id r)) (heads (ways_above t))) (sym e)
+      (All-from_recursion (FitsAt k (asked_at k id r)) [] tt)
+  tree_asks k id r (Some t) e s fits =
+      let same = foot_is k.net id t e in
+      subst (λ (x : ℕ). All (FitsAt k (asked_at k x r)) (inputs_of k.net x)) same
+      (inputs_fit k one fitting t.0 t.1 r s.0 s.1
+      (subst (λ (x : ℕ). Fits (k.extent x) r) (sym same) fits))
+
+  pub nodes_ask : NodesAsk
+  nodes_ask k id r placed have known fits =
+      tree_asks k id r (cone_of k.net id) refl
+      (all_fit k one fitting (port (cone_of k.net id) none) (placed_at k.net id placed have)
+      (tree_nodes _ (cone_of k.net id) known)) fits

@@ -15,3 +15,4 @@ pub mod ConeLemmas
 pub mod GivenLemmas
 pub mod FitLemmas
 pub mod UpdateLemmas
+pub mod KnownLemmas

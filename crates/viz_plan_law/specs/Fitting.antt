@@ -47,10 +47,16 @@ pub record IsRequestTo (k : Known) (sink : ℕ) (request : Request) : Type 0 whe
   pub fits : Fits (k.extent sink) request
   pub room : HasRoomOnWays request
 
--- what feeds a port, if anything does, makes for the request what fits it
+-- the request, and what is made for it, fits what feeds a port, if anything does
 abbrev pub FitsAt : Known → Request → Option ℕ → Type 0
 FitsAt k request None = Unit {0}
-FitsAt k request (Some id) = Fits (k.extent id) (widened_at k id request)
+FitsAt k request (Some id) =
+    Fits (k.extent id) request × Fits (k.extent id) (widened_at k id request)
+
+-- what feeds a port, if anything does, is known as told, and all upstream of it
+abbrev pub KnownAt : Known → Option ℕ → Type 0
+KnownAt k None = Unit {0}
+KnownAt k (Some id) = AllKnown k id
 
 -- the inputs of the node at the foot of a cone have what it asks them for
 abbrev pub TreeCanAsk : Known → Option Tree → Request → Type 0
@@ -80,7 +86,20 @@ RequestsFit =
     → AllKnown k sink → IsRequestTo k sink request
     → All (FitsAt k request) (heads (ways_to k.net sink))
 
--- those of an update in so many pieces can be made
+-- what is asked of a node's inputs for a request that fits the node fits them
+abbrev pub NodesAsk : Type 0
+NodesAsk =
+    (k : Known) (id : ℕ) (request : Request) → IsPlaced k.net id → HaveOwnPorts k.net
+    → AllKnown k id → Fits (k.extent id) request
+    → All (FitsAt k (asked_at k id request)) (inputs_of k.net id)
+
+-- the node that requests reach, and what feeds its ports, is known as told, where the node is
+abbrev pub InputsKnown : Type 0
+InputsKnown =
+    (k : Known) (id : ℕ) → IsPlaced k.net id → HaveOwnPorts k.net → AllKnown k id
+    → All (KnownAt k) (inputs_of k.net id) × All (KnownAt k) (heads (ways_to k.net id))
+
+-- the requests of an update in so many pieces can be made
 abbrev pub UpdatesFit : Type 0
 UpdatesFit =
     (k : Known) (sink n : ℕ) → IsKnown k sink

@@ -8,7 +8,13 @@ ghost use Rattle.viz_plan_law.specs.Cutting.{
   ServedAreCovered,
   ServedPartsAreCut,
 };
-ghost use Rattle.viz_plan_law.specs.Fitting.{PlansFit, RequestsFit, UpdatesFit};
+ghost use Rattle.viz_plan_law.specs.Fitting.{
+  InputsKnown,
+  NodesAsk,
+  PlansFit,
+  RequestsFit,
+  UpdatesFit,
+};
 ghost use Rattle.viz_plan_law.specs.Kept.{KeptPartsServe};
 ghost use Rattle.viz_plan_law.specs.Ports.{EditsKeepPorts, HistoriesKeepPorts};
 ghost use Rattle.viz_plan_law.specs.Told.{
@@ -59,6 +65,8 @@ pub fn plans_fit()
     ensures tasks { PlansFit }
     ensures requests { RequestsFit }
     ensures update { UpdatesFit }
+    ensures asked { NodesAsk }
+    ensures known { InputsKnown }
     ensures edits { EditsKeepPorts }
     ensures histories { HistoriesKeepPorts }
 {

@@ -1,5 +1,6 @@
 use Rattle.viz_plan_law.proofs.EditPortLemmas.{edits_keep, histories_keep}
 use Rattle.viz_plan_law.proofs.FitLemmas as lemma
+use Rattle.viz_plan_law.proofs.KnownLemmas.{inputs_known}
 use Rattle.viz_plan_law.proofs.UpdateLemmas.{updates_fit}
 use Rattle.viz_plan_law.proofs.laws.plans_fit.Goals as goal
 
@@ -11,6 +12,8 @@ returns c =
       tasks = lemma.plans_fit one fitting;
       requests = lemma.requests_fit one fitting;
       update = updates_fit;
+      asked = lemma.nodes_ask one fitting;
+      known = inputs_known;
       edits = edits_keep;
       histories = histories_keep;
     }
