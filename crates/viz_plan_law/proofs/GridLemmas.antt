@@ -50,7 +50,7 @@ left_is g h e = by (has_points g.extent) e
     by false q = (let bad : ⊥ = cc in absurd bad)
 
 -- so is one with steps that aren't too wide
-short_is : (g h : Grid) → with_steps g ≡ Ok h → g ≡ h
+pub short_is : (g h : Grid) → with_steps g ≡ Ok h → g ≡ h
 short_is g h e = by (is_short g.spacing) e
   where
     by : (b : Bool) → cond b (Ok g) (Err TooWide) ≡ Ok h → g ≡ h

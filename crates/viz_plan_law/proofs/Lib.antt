@@ -6,3 +6,13 @@ pub mod ToldLemmas
 pub mod ServeLemmas
 pub mod CutLemmas
 pub mod KeptLemmas
+pub mod HeaderLemmas
+pub mod InformLemmas
+pub mod AskedLemmas
+pub mod PortLemmas
+pub mod EditPortLemmas
+pub mod ConeLemmas
+pub mod GivenLemmas
+pub mod FitLemmas
+pub mod UpdateLemmas
+pub mod KnownLemmas

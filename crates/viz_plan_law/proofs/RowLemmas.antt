@@ -109,7 +109,7 @@ whole_told w d i m e =
     (ap (λ (g : Grid). OfImage g) (grid_is w m.0 m.1) ∙ e)
 
 -- the grid that is told
-grid_told : (r : Result Grid Cause) (i : Information) → as_image r ≡ Ok i
+pub grid_told : (r : Result Grid Cause) (i : Information) → as_image r ≡ Ok i
     → (g : Grid) × (r ≡ Ok g) × (OfImage g ≡ i)
 grid_told (Ok g) i e = let same : OfImage g ≡ i = cc in (g, refl, same)
 grid_told (Err cause) i e = let bad : ⊥ = cc in absurd bad

@@ -8,7 +8,15 @@ ghost use Rattle.viz_plan_law.specs.Cutting.{
   ServedAreCovered,
   ServedPartsAreCut,
 };
+ghost use Rattle.viz_plan_law.specs.Fitting.{
+  InputsKnown,
+  NodesAsk,
+  PlansFit,
+  RequestsFit,
+  UpdatesFit,
+};
 ghost use Rattle.viz_plan_law.specs.Kept.{KeptPartsServe};
+ghost use Rattle.viz_plan_law.specs.Ports.{EditsKeepPorts, HistoriesKeepPorts};
 ghost use Rattle.viz_plan_law.specs.Told.{
   DatasetsAreTold,
   ToldExtentsAreOwn,
@@ -18,6 +26,7 @@ ghost use Rattle.viz_plan_law.specs.Told.{
 
 use viz_node_division::{divided_by_ports, divisions_share_out};
 use viz_node_meaning::rules_are_one;
+use viz_requests::fitting_can_be_asked;
 
 /// What is told of a node before its numbers are is the information of the dataset that it gives:
 /// an image with the extent that was told, or a mesh.
@@ -48,3 +57,19 @@ pub fn served_parts_are_cut()
 pub fn kept_parts_serve()
     ensures serve { KeptPartsServe }
 {}
+
+/// Where what is known of the extents of a node and of all upstream of it is what is told of them,
+/// and only ports of their kinds are fed, the tasks of a plan fit what their nodes make, and what
+/// they ask for fits what feeds these. In the networks of a history only such ports are fed.
+pub fn plans_fit()
+    ensures tasks { PlansFit }
+    ensures requests { RequestsFit }
+    ensures update { UpdatesFit }
+    ensures asked { NodesAsk }
+    ensures known { InputsKnown }
+    ensures edits { EditsKeepPorts }
+    ensures histories { HistoriesKeepPorts }
+{
+    rules_are_one();
+    fitting_can_be_asked();
+}
