@@ -16,3 +16,4 @@ pub mod GivenLemmas
 pub mod FitLemmas
 pub mod UpdateLemmas
 pub mod KnownLemmas
+pub mod ToldKnownLemmas

@@ -3,13 +3,18 @@
 use Rattle.std.specs.Prelude.{◌≡◌, ℕ, ◌+◌, ◌<◌, ◌^◌, true, List, Option, None, Some, Ok}
 use Rattle.std.specs.List.{All}
 use Rattle.viz_extent.specs.Extent.{Bounds}
+use Rattle.viz_inform.specs.Informed.{AreTold}
+use Rattle.viz_inform.specs.declared.told.Told.{Told}
 use Rattle.viz_network.specs.Cone.{Tree, cone_of, has_node, nodes_limit}
+use Rattle.viz_network.specs.Network.{Network}
 use Rattle.viz_node_meaning.specs.Fold.{IsGiven}
 use Rattle.viz_node_meaning.specs.Information.{InformationRule}
 use Rattle.viz_node_meaning.specs.declared.information.Information.{Information}
 use Rattle.viz_node_meaning.specs.declared.information.Information.TheVariants.{OfImage, OfMesh}
 use Rattle.viz_parts.specs.declared.request.Request.{Request}
+use Rattle.viz_parts.specs.declared.stored.Stored.{Stored}
 use Rattle.viz_parts.specs.declared.request.Request.TheVariants.{Block, Piece}
+use Rattle.viz_plan.specs.Told.{known_with}
 use Rattle.viz_plan_meaning.specs.Known.{Known, asked_at, ports_extent, widened_at}
 use Rattle.viz_plan_meaning.specs.Laws.{IsPlaced, inputs_of, plan_of}
 use Rattle.viz_plan_meaning.specs.Networks.{ways_to}
@@ -34,6 +39,12 @@ pub record IsKnown (k : Known) (id : ℕ) : Type 0 where
 -- so of the node and of all nodes upstream of it
 abbrev pub AllKnown : Known → ℕ → Type 0
 AllKnown k sink = (id : ℕ) → has_node id (cone_of k.net sink) ≡ true → IsKnown k id
+
+-- what an update is told of its node and of all upstream of it is known so
+abbrev pub ToldIsKnown : Type 0
+ToldIsKnown =
+    (net : Network) (sink : ℕ) (told : List Told) (entries : List Stored) → AreTold net sink told
+    → AllKnown (known_with net told entries) sink
 
 -- ---- requests
 

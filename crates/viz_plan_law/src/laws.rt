@@ -13,6 +13,7 @@ ghost use Rattle.viz_plan_law.specs.Fitting.{
   NodesAsk,
   PlansFit,
   RequestsFit,
+  ToldIsKnown,
   UpdatesFit,
 };
 ghost use Rattle.viz_plan_law.specs.Kept.{KeptPartsServe};
@@ -60,13 +61,15 @@ pub fn kept_parts_serve()
 
 /// Where what is known of the extents of a node and of all upstream of it is what is told of them,
 /// and only ports of their kinds are fed, the tasks of a plan fit what their nodes make, and what
-/// they ask for fits what feeds these. In the networks of a history only such ports are fed.
+/// they ask for fits what feeds these. In the networks of a history only such ports are fed, and
+/// what an update is told is known so.
 pub fn plans_fit()
     ensures tasks { PlansFit }
     ensures requests { RequestsFit }
     ensures update { UpdatesFit }
     ensures asked { NodesAsk }
     ensures known { InputsKnown }
+    ensures told { ToldIsKnown }
     ensures edits { EditsKeepPorts }
     ensures histories { HistoriesKeepPorts }
 {

@@ -1,6 +1,7 @@
 use Rattle.viz_plan_law.proofs.EditPortLemmas.{edits_keep, histories_keep}
 use Rattle.viz_plan_law.proofs.FitLemmas as lemma
 use Rattle.viz_plan_law.proofs.KnownLemmas.{inputs_known}
+use Rattle.viz_plan_law.proofs.ToldKnownLemmas.{told_is_known}
 use Rattle.viz_plan_law.proofs.UpdateLemmas.{updates_fit}
 use Rattle.viz_plan_law.proofs.laws.plans_fit.Goals as goal
 
@@ -14,6 +15,7 @@ returns c =
       update = updates_fit;
       asked = lemma.nodes_ask one fitting;
       known = inputs_known;
+      told = told_is_known;
       edits = edits_keep;
       histories = histories_keep;
     }
