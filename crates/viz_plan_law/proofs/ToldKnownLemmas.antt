@@ -1,33 +1,10 @@
 -- What is told of a cone is known of it.
-use Rattle.std.proofs.Common.{
-  ◌≡◌,
-  ℕ,
-  zero,
-  suc,
-  nat_eq,
-  Bool,
-  true,
-  false,
-  cond,
-  List,
-  [],
-  ◌∷◌,
-  slice_get,
-  Option,
-  None,
-  Some,
-  Ok,
-  refl,
-  sym,
-  ap,
-  subst,
-  ◌∙◌,
-}
+use Rattle.std.proofs.Common.{◌≡◌, ℕ, zero, suc, nat_eq, Bool, true, false, cond, List, [], ◌∷◌, slice_get, Option, Some, Ok, refl, sym, ap, subst, ◌∙◌}
 use Rattle.std.proofs.lemmas.Bool.{eqb-true, eq-eqb}
 use Rattle.viz_extent.specs.Extent.{Bounds}
 use Rattle.viz_inform.specs.Informed.{AreTold, IsTold}
 use Rattle.viz_inform.specs.declared.told.Told.{Told}
-use Rattle.viz_network.specs.Cone.{cone_of, has_node}
+use Rattle.viz_network.specs.Cone.{cone_of}
 use Rattle.viz_network.specs.Network.{Network}
 use Rattle.viz_node_meaning.specs.Fold.{IsGiven}
 use Rattle.viz_node_meaning.specs.Information.{InformationRule}
