@@ -1,12 +1,12 @@
 //! Keys that differ in one part, and the entries of a small cache after each call, by hand.
 
+use crate::datasets::image_of;
 use std::alloc::Global;
-use std::process::Abort;
 use std::test::Fail;
 use viz_base::{NodeId, Shared};
 use viz_cache::Cache;
 use viz_column::Column;
-use viz_dataset::{Image, is_origin, is_spacing};
+use viz_dataset::Image;
 use viz_extent::Extent;
 use viz_parts::{Key, Part, Request, Stored};
 
@@ -40,15 +40,14 @@ fn key(node: u32) -> Key {
 
 // An image of one point with this number.
 fn image(alloc: Global, number: i64) -> Result<Image, Fail> {
-    let extent = Extent::new([0; 6]).ok_or("an extent")?;
     let column = Column::of(vec![in alloc; number]?);
-    let (origin, spacing) = ([0; 3], [1; 3]);
-    if !is_origin(&origin) || !is_spacing(&spacing) || column.len() != extent.count() {
-        return Err("an image")?;
+    match Extent::new([0; 6]) {
+        Some(extent) => Ok(image_of(extent, [0; 3], [1; 3], column).ok_or("an image")?),
+        None => Err("an extent")?,
     }
-    Ok(Image::new(extent, origin, spacing, column))
 }
 
+// The part of a node that is such an image.
 fn item(alloc: Global, node: u32, number: i64) -> Result<Stored, Fail> {
     let part = Shared::new(alloc, Part::Image(image(alloc, number)?))?;
     Ok(Stored {
@@ -71,52 +70,54 @@ fn number_of(part: &Part) -> Option<i128> {
     }
 }
 
+// Whether an entry, if there is one, has this node and number, and is missing for filler.
+fn is_entry(entry: Option<&Stored>, (node, number): (u32, i64)) -> bool {
+    match entry {
+        Some(entry) => {
+            entry.key == key(node) && number_of(entry.part.get()) == Some(i128::from(number))
+        }
+        None => (node, number) == NONE,
+    }
+}
+
 // Whether these are the first nodes and numbers, and all others are filler.
 fn lists(entries: &[Stored], want: [(u32, i64); MOST]) -> bool {
-    if MOST < entries.len() {
-        return false;
-    }
-    for (i, (node, number)) in want.iter().enumerate() {
-        match entries.get(i) {
-            Some(entry) => {
-                if entry.key != key(*node)
-                    || number_of(entry.part.get()) != Some(i128::from(*number))
-                {
-                    return false;
-                }
-            }
-            None => {
-                if (*node, *number) != NONE {
-                    return false;
-                }
-            }
+    for (i, entry) in want.iter().enumerate() {
+        if !is_entry(entries.get(i), *entry) {
+            return false;
         }
     }
-    true
+    entries.len() <= MOST
+}
+
+// Does a step, which goes as it says.
+fn is_done(alloc: Global, cache: &mut Cache, step: Step) -> Result<bool, Fail> {
+    match step {
+        Step::Put(node, number) => {
+            let item = item(alloc, node, number)?;
+            cache.put(&item)?;
+            Ok(true)
+        }
+        Step::Find(node, there) => Ok(cache.find(&key(node)) == there),
+    }
 }
 
 // Does a step, and then compares the entries.
 fn takes(
-    rt: &impl Abort,
     alloc: Global,
     cache: &mut Cache,
-    step: Step,
-    want: [(u32, i64); MOST],
-) -> Result<(), Fail> {
-    match step {
-        Step::Put(node, number) => cache.put(&item(alloc, node, number)?)?,
-        Step::Find(node, there) => assert_eq!(rt; cache.find(&key(node)), there, "{step:?}"),
-    }
+    (step, want): &(Step, [(u32, i64); MOST]),
+) -> Result<bool, Fail> {
+    let done = is_done(alloc, cache, *step)?;
     let entries = cache.entries(alloc)?;
-    assert!(rt; lists(&entries, want), "{step:?}");
-    Ok(())
+    Ok(done && lists(&entries, *want))
 }
 
 #[test]
 fn the_entries_are_in_the_order_of_their_last_use(rt: HostRuntime) -> Result<(), Fail> {
     let alloc = rt.alloc();
     let mut cache = Cache::new(alloc, 3)?;
-    let rows = [
+    for row in &[
         (Step::Find(1, false), [NONE, NONE, NONE]),
         (Step::Put(1, 10), [(1, 10), NONE, NONE]),
         (Step::Put(2, 20), [(2, 20), (1, 10), NONE]),
@@ -132,9 +133,8 @@ fn the_entries_are_in_the_order_of_their_last_use(rt: HostRuntime) -> Result<(),
         // a new one drops the last
         (Step::Put(4, 40), [(4, 40), (3, 31), (2, 21)]),
         (Step::Find(1, false), [(4, 40), (3, 31), (2, 21)]),
-    ];
-    for (step, want) in rows.iter() {
-        takes(&rt, alloc, &mut cache, *step, *want)?;
+    ] {
+        assert!(rt; takes(alloc, &mut cache, row)?, "{row:?}");
     }
     Ok(())
 }
@@ -143,15 +143,14 @@ fn the_entries_are_in_the_order_of_their_last_use(rt: HostRuntime) -> Result<(),
 fn a_cache_of_one_entry_keeps_the_last(rt: HostRuntime) -> Result<(), Fail> {
     let alloc = rt.alloc();
     let mut cache = Cache::new(alloc, 1)?;
-    let rows = [
+    for row in &[
         (Step::Put(1, 10), [(1, 10), NONE, NONE]),
         (Step::Put(2, 20), [(2, 20), NONE, NONE]),
         (Step::Put(2, 21), [(2, 21), NONE, NONE]),
         (Step::Find(1, false), [(2, 21), NONE, NONE]),
         (Step::Find(2, true), [(2, 21), NONE, NONE]),
-    ];
-    for (step, want) in rows.iter() {
-        takes(&rt, alloc, &mut cache, *step, *want)?;
+    ] {
+        assert!(rt; takes(alloc, &mut cache, row)?, "{row:?}");
     }
     Ok(())
 }
@@ -160,22 +159,31 @@ fn a_cache_of_one_entry_keeps_the_last(rt: HostRuntime) -> Result<(), Fail> {
 fn entries_share_their_parts(rt: HostRuntime) -> Result<(), Fail> {
     let alloc = rt.alloc();
     let mut cache = Cache::new(alloc, 1)?;
-    cache.put(&item(alloc, 1, 10)?)?;
+    let first = is_done(alloc, &mut cache, Step::Put(1, 10))?;
     let held = cache.entries(alloc)?;
-    cache.put(&item(alloc, 2, 20)?)?;
+    let second = is_done(alloc, &mut cache, Step::Put(2, 20))?;
     // what was handed out stays
-    assert!(rt; lists(&held, [(1, 10), NONE, NONE]));
+    assert!(rt; first && second && lists(&held, [(1, 10), NONE, NONE]));
     Ok(())
+}
+
+// The key of a piece of a mesh.
+fn key_with(node: u32, stamp: u32, [p, n, ghosts]: [u32; 3]) -> Key {
+    Key {
+        node: NodeId(node),
+        stamp,
+        request: Request::Piece { p, n, ghosts },
+    }
+}
+
+// Whether the key of a row is equal to one, as the row says.
+fn is_same((node, stamp, piece, want): &(u32, u32, [u32; 3], bool)) -> bool {
+    (key_with(*node, *stamp, *piece) == key_with(1, 3, [0, 2, 1])) == *want
 }
 
 #[test]
 fn keys_differ_in_each_part(rt: HostRuntime) {
-    let asked = |node, stamp, p, n, ghosts| Key {
-        node: NodeId(node),
-        stamp,
-        request: Request::Piece { p, n, ghosts },
-    };
-    for (node, stamp, [p, n, ghosts], want) in [
+    for row in &[
         (1, 3, [0, 2, 1], true),
         (2, 3, [0, 2, 1], false),
         (1, 4, [0, 2, 1], false),
@@ -183,8 +191,7 @@ fn keys_differ_in_each_part(rt: HostRuntime) {
         (1, 3, [0, 3, 1], false),
         (1, 3, [0, 2, 2], false),
     ] {
-        let other = asked(node, stamp, p, n, ghosts);
-        assert_eq!(rt; other == asked(1, 3, 0, 2, 1), want, "{other:?}");
+        assert!(rt; is_same(row), "{row:?}");
     }
 }
 
@@ -197,16 +204,21 @@ fn key_of(request: Request) -> Key {
     }
 }
 
-// Whether the keys of two blocks of a node are equal.
-fn are_equal(bounds: [u32; 6], others: [u32; 6]) -> Result<bool, Fail> {
-    let a = Extent::new(bounds).ok_or("an extent")?;
-    let b = Extent::new(others).ok_or("an extent")?;
-    Ok(key_of(Request::Block(a)) == key_of(Request::Block(b)))
+// Whether the keys of two blocks of a node are equal, where both are extents.
+fn are_equal(bounds: [u32; 6], others: [u32; 6]) -> Option<bool> {
+    let a = Extent::new(bounds)?;
+    let b = Extent::new(others)?;
+    Some(key_of(Request::Block(a)) == key_of(Request::Block(b)))
+}
+
+// Whether the key of the block of a row is equal to one, as the row says.
+fn is_same_block((bounds, want): &([u32; 6], bool)) -> bool {
+    are_equal(*bounds, [1, 2, 1, 2, 1, 2]) == Some(*want)
 }
 
 #[test]
-fn keys_of_blocks_differ_in_each_bound(rt: HostRuntime) -> Result<(), Fail> {
-    for (bounds, want) in [
+fn keys_of_blocks_differ_in_each_bound(rt: HostRuntime) {
+    for row in &[
         ([1, 2, 1, 2, 1, 2], true),
         ([0, 2, 1, 2, 1, 2], false),
         ([1, 3, 1, 2, 1, 2], false),
@@ -215,8 +227,6 @@ fn keys_of_blocks_differ_in_each_bound(rt: HostRuntime) -> Result<(), Fail> {
         ([1, 2, 1, 2, 0, 2], false),
         ([1, 2, 1, 2, 1, 3], false),
     ] {
-        let got = are_equal(bounds, [1, 2, 1, 2, 1, 2])?;
-        assert_eq!(rt; got, want, "{bounds:?}");
+        assert!(rt; is_same_block(row), "{row:?}");
     }
-    Ok(())
 }

@@ -1,10 +1,17 @@
 //! Points counted and numbered by hand.
-use std::test::Fail;
 use viz_extent::Extent;
 
+// Whether bounds make an extent of so many points.
+fn has_points((bounds, count): &([u32; 6], u64)) -> bool {
+    match Extent::new(*bounds) {
+        Some(extent) => extent.bounds() == *bounds && extent.count() == *count,
+        None => false,
+    }
+}
+
 #[test]
-fn an_extent_has_its_bounds_and_points(rt: HostRuntime) -> Result<(), Fail> {
-    for (bounds, count) in [
+fn an_extent_has_its_bounds_and_points(rt: HostRuntime) {
+    for row in &[
         ([0, 0, 0, 0, 0, 0], 1),
         ([0, 1, 0, 2, 0, 3], 24),
         ([3, 6, 2, 2, 5, 9], 20),
@@ -14,16 +21,18 @@ fn an_extent_has_its_bounds_and_points(rt: HostRuntime) -> Result<(), Fail> {
         ([0, 2_147_483_646, 0, 0, 0, 0], 2_147_483_647),
         ([0, 0, 1, 3, 0, 715_827_881], 2_147_483_646),
     ] {
-        let extent = Extent::new(bounds).ok_or("an extent")?;
-        assert_eq!(rt; extent.bounds(), bounds);
-        assert_eq!(rt; extent.count(), count, "{bounds:?}");
+        assert!(rt; has_points(row), "{row:?}");
     }
-    Ok(())
+}
+
+// Whether bounds make an extent.
+fn is_extent(bounds: &[u32; 6]) -> bool {
+    Extent::new(*bounds).is_some()
 }
 
 #[test]
 fn other_bounds_make_no_extent(rt: HostRuntime) {
-    for bounds in [
+    for bounds in &[
         // A lower bound above its upper one.
         [1, 0, 0, 0, 0, 0],
         [0, 0, 1, 0, 0, 0],
@@ -39,13 +48,24 @@ fn other_bounds_make_no_extent(rt: HostRuntime) {
         // 2^64 points, which 64 bits would take for none.
         [0, 2_147_483_647, 0, 2_147_483_647, 0, 3],
     ] {
-        assert_eq!(rt; Extent::new(bounds), None, "{bounds:?}");
+        assert!(rt; !is_extent(bounds), "{bounds:?}");
+    }
+}
+
+// Whether the point at a place of an extent has this number, and the other way round.
+fn is_numbered((bounds, index, place): &([u32; 6], u64, (u32, u32, u32))) -> bool {
+    match Extent::new(*bounds) {
+        Some(extent) if *index < extent.count() => {
+            let (i, j, k) = extent.place_of(*index);
+            (i, j, k) == *place && extent.index_of(i, j, k) == *index
+        }
+        _ => false,
     }
 }
 
 #[test]
-fn numbers_go_with_x_fastest(rt: HostRuntime) -> Result<(), Fail> {
-    for (bounds, index, place) in [
+fn numbers_go_with_x_fastest(rt: HostRuntime) {
+    for row in &[
         // Three by two by two points, all in order.
         ([1, 3, 5, 6, 2, 3], 0, (1, 5, 2)),
         ([1, 3, 5, 6, 2, 3], 1, (2, 5, 2)),
@@ -70,18 +90,25 @@ fn numbers_go_with_x_fastest(rt: HostRuntime) -> Result<(), Fail> {
             (2_147_483_646, 0, 0),
         ),
     ] {
-        let extent = Extent::new(bounds).ok_or("an extent")?;
-        assert!(rt; index < extent.count(), "{bounds:?} {index}");
-        let (i, j, k) = extent.place_of(index);
-        assert_eq!(rt; (i, j, k), place, "{bounds:?} {index}");
-        assert_eq!(rt; extent.index_of(i, j, k), index, "{bounds:?} {place:?}");
+        assert!(rt; is_numbered(row), "{row:?}");
     }
-    Ok(())
+}
+
+// Whether an extent contains another one, where both are extents.
+fn contains(bounds: [u32; 6], other: [u32; 6]) -> Option<bool> {
+    let extent = Extent::new(bounds)?;
+    let part = Extent::new(other)?;
+    Some(extent.contains(&part))
+}
+
+// Whether a row says so of two extents.
+fn is_said((bounds, other, want): &([u32; 6], [u32; 6], bool)) -> bool {
+    contains(*bounds, *other) == Some(*want)
 }
 
 #[test]
-fn an_extent_contains_what_lies_in_it(rt: HostRuntime) -> Result<(), Fail> {
-    for (bounds, other, want) in [
+fn an_extent_contains_what_lies_in_it(rt: HostRuntime) {
+    for row in &[
         ([1, 4, 2, 5, 3, 6], [1, 4, 2, 5, 3, 6], true),
         ([1, 4, 2, 5, 3, 6], [2, 3, 4, 4, 5, 6], true),
         // One plane too many on each face.
@@ -92,29 +119,37 @@ fn an_extent_contains_what_lies_in_it(rt: HostRuntime) -> Result<(), Fail> {
         ([1, 4, 2, 5, 3, 6], [1, 4, 2, 5, 2, 6], false),
         ([1, 4, 2, 5, 3, 6], [1, 4, 2, 5, 3, 7], false),
     ] {
-        let extent = Extent::new(bounds).ok_or("an extent")?;
-        let part = Extent::new(other).ok_or("another extent")?;
-        assert_eq!(rt; extent.contains(&part), want, "{bounds:?} {other:?}");
+        assert!(rt; is_said(row), "{row:?}");
     }
-    Ok(())
+}
+
+// The bounds of what a box leaves of an extent, if that is one point or more.
+fn clipped(bounds: [u32; 6]) -> Option<[u32; 6]> {
+    let extent = Extent::new([1, 4, 2, 5, 3, 6])?;
+    let rest = extent.clip(bounds)?;
+    Some(rest.bounds())
+}
+
+// Whether a box leaves what a row says.
+fn is_clipped((bounds, want): &([u32; 6], Option<[u32; 6]>)) -> bool {
+    clipped(*bounds) == *want
 }
 
 #[test]
-fn a_box_clips_an_extent(rt: HostRuntime) -> Result<(), Fail> {
-    let extent = Extent::new([1, 4, 2, 5, 3, 6]).ok_or("an extent")?;
-    for (bounds, want) in [
-        ([0, 9, 0, 9, 0, 9], Extent::new([1, 4, 2, 5, 3, 6])),
+fn a_box_clips_an_extent(rt: HostRuntime) {
+    for row in &[
+        ([0, 9, 0, 9, 0, 9], Some([1, 4, 2, 5, 3, 6])),
         // Clipped at each face in turn.
-        ([2, 9, 0, 9, 0, 9], Extent::new([2, 4, 2, 5, 3, 6])),
-        ([0, 2, 0, 9, 0, 9], Extent::new([1, 2, 2, 5, 3, 6])),
-        ([0, 9, 4, 9, 0, 9], Extent::new([1, 4, 4, 5, 3, 6])),
-        ([0, 9, 0, 4, 0, 9], Extent::new([1, 4, 2, 4, 3, 6])),
-        ([0, 9, 0, 9, 6, 9], Extent::new([1, 4, 2, 5, 6, 6])),
-        ([0, 9, 0, 9, 0, 3], Extent::new([1, 4, 2, 5, 3, 3])),
+        ([2, 9, 0, 9, 0, 9], Some([2, 4, 2, 5, 3, 6])),
+        ([0, 2, 0, 9, 0, 9], Some([1, 2, 2, 5, 3, 6])),
+        ([0, 9, 4, 9, 0, 9], Some([1, 4, 4, 5, 3, 6])),
+        ([0, 9, 0, 4, 0, 9], Some([1, 4, 2, 4, 3, 6])),
+        ([0, 9, 0, 9, 6, 9], Some([1, 4, 2, 5, 6, 6])),
+        ([0, 9, 0, 9, 0, 3], Some([1, 4, 2, 5, 3, 3])),
         // The largest box, and bounds past 2^31.
         (
             [0, u32::MAX, 0, u32::MAX, 0, u32::MAX],
-            Extent::new([1, 4, 2, 5, 3, 6]),
+            Some([1, 4, 2, 5, 3, 6]),
         ),
         ([2_147_483_648, u32::MAX, 0, 9, 0, 9], None),
         // Beside each face, and a lower bound above its upper one.
@@ -126,7 +161,6 @@ fn a_box_clips_an_extent(rt: HostRuntime) -> Result<(), Fail> {
         ([0, 9, 0, 9, 7, 9], None),
         ([3, 2, 0, 9, 0, 9], None),
     ] {
-        assert_eq!(rt; extent.clip(bounds), want, "{bounds:?}");
+        assert!(rt; is_clipped(row), "{row:?}");
     }
-    Ok(())
 }

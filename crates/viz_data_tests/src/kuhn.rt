@@ -1,11 +1,18 @@
 //! Cubes and tetrahedra numbered by hand.
-use std::test::Fail;
 use viz_extent::Extent;
 use viz_kuhn::{cubes, even, tet};
 
+// Whether an extent has so many cubes.
+fn has_cubes((bounds, count): &([u32; 6], u64)) -> bool {
+    match Extent::new(*bounds) {
+        Some(whole) => cubes(&whole) == *count,
+        None => false,
+    }
+}
+
 #[test]
-fn cubes_lie_between_points(rt: HostRuntime) -> Result<(), Fail> {
-    for (bounds, count) in [
+fn cubes_lie_between_points(rt: HostRuntime) {
+    for row in &[
         ([0, 1, 0, 1, 0, 1], 1),
         ([0, 2, 0, 2, 0, 1], 4),
         ([4, 7, 1, 3, 2, 7], 30),
@@ -16,15 +23,18 @@ fn cubes_lie_between_points(rt: HostRuntime) -> Result<(), Fail> {
         // Of 4 * 536,870,911 points, which is 4 less than 2^31.
         ([0, 1, 0, 1, 0, 536_870_910], 536_870_910),
     ] {
-        let whole = Extent::new(bounds).ok_or("an extent")?;
-        assert_eq!(rt; cubes(&whole), count, "{bounds:?}");
+        assert!(rt; has_cubes(row), "{row:?}");
     }
-    Ok(())
+}
+
+// Whether the order of a row is even as the row says.
+fn is_order((p, is_even): &(u8, bool)) -> bool {
+    *p < 6 && even(*p) == *is_even
 }
 
 #[test]
 fn orders_are_even_or_odd(rt: HostRuntime) {
-    for (p, is_even) in [
+    for row in &[
         (0, true), // x y z
         (1, false), // x z y
         (2, false), // y x z
@@ -32,14 +42,21 @@ fn orders_are_even_or_odd(rt: HostRuntime) {
         (4, true), // z x y
         (5, false), // z y x
     ] {
-        assert!(rt; p < 6, "{p}");
-        assert_eq!(rt; even(p), is_even, "{p}");
+        assert!(rt; is_order(row), "{row:?}");
+    }
+}
+
+// Whether a tetrahedron of a cube of an extent has these leaves.
+fn is_tet((bounds, cube, p, leaves): &([u32; 6], u64, u8, [u64; 4])) -> bool {
+    match Extent::new(*bounds) {
+        Some(whole) if *cube < cubes(&whole) && *p < 6 => tet(&whole, *cube, *p) == *leaves,
+        _ => false,
     }
 }
 
 #[test]
-fn tetrahedra_go_along_paths(rt: HostRuntime) -> Result<(), Fail> {
-    for (bounds, cube, p, leaves) in [
+fn tetrahedra_go_along_paths(rt: HostRuntime) {
+    for row in &[
         // One cube between eight points.
         ([0, 1, 0, 1, 0, 1], 0, 0, [0, 1, 3, 7]),
         ([0, 1, 0, 1, 0, 1], 0, 1, [0, 5, 1, 7]),
@@ -58,9 +75,6 @@ fn tetrahedra_go_along_paths(rt: HostRuntime) -> Result<(), Fail> {
         ([7, 8, 3, 5, 5, 7], 2, 2, [6, 9, 8, 15]),
         ([7, 8, 3, 5, 5, 7], 3, 3, [8, 10, 16, 17]),
     ] {
-        let whole = Extent::new(bounds).ok_or("an extent")?;
-        assert!(rt; cube < cubes(&whole) && p < 6, "{bounds:?} {cube} {p}");
-        assert_eq!(rt; tet(&whole, cube, p), leaves, "{bounds:?} {cube} {p}");
+        assert!(rt; is_tet(row), "{row:?}");
     }
-    Ok(())
 }
