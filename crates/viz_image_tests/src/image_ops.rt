@@ -5,10 +5,8 @@ ghost use Rattle.viz_extent.specs.Parts.{IsAxisRate, IsRate, rate_of, sampled};
 ghost use Rattle.viz_dataset.specs.Images.{vector_of, IsStep, IsSpacing};
 ghost use Rattle.viz_meaning.specs.ImageFilters.{wider_steps};
 
-use crate::test_images::{image_of, is_image, is_part};
+use crate::test_images::{STEPS, Side, image_of, is_image, is_part};
 use std::alloc::Global;
-use std::process::Abort;
-use std::test::Fail;
 use viz_column::Kind8;
 use viz_dataset::{Image, is_spacing};
 use viz_extent::Extent;
@@ -19,247 +17,210 @@ const BLOCK: [u32; 6] = [1, 2, 5, 6, 2, 3];
 
 const EIGHT: [i128; 8] = [0, 1, 2, 3, 4, 5, 6, 7];
 
+// The upper row in y of each of its planes.
+const UPPER: [u32; 6] = [1, 2, 6, 6, 2, 3];
+
 // A crop, where the image has the part.
-fn cropped(alloc: Global, image: &Image, out: [u32; 6]) -> Result<Image, Fail> {
-    let out = Extent::new(out).ok_or("an extent")?;
+fn cropped(alloc: Global, image: &Image, part: [u32; 6]) -> Option<Image> {
+    let out = Extent::new(part)?;
     if !is_part(&image.extent(), &out) {
-        return Err("a part of the image")?;
+        return None;
     }
-    let image = crop(alloc, image, &out)?;
-    Ok(image)
+    crop(alloc, image, &out).ok()
+}
+
+// Whether a crop of the block has these numbers.
+fn crops(alloc: Global, part: [u32; 6], want: &[i128]) -> bool {
+    match image_of(alloc, Kind8::U8, BLOCK, &EIGHT) {
+        Some(image) => is_image(cropped(alloc, &image, part), part, STEPS, Kind8::U8, want),
+        None => false,
+    }
 }
 
 #[test]
-fn a_crop_keeps_indices_and_numbers(rt: HostRuntime) -> Result<(), Fail> {
-    let alloc = rt.alloc();
-    let image = image_of(alloc, Kind8::U8, BLOCK, &EIGHT)?;
-    let all = cropped(alloc, &image, BLOCK)?;
-    is_image(&rt, &all, BLOCK, [1, 2, 3], Kind8::U8, &EIGHT);
-    // The upper row in y of each plane.
-    let row = [1, 2, 6, 6, 2, 3];
-    let rows = cropped(alloc, &image, row)?;
-    is_image(&rt, &rows, row, [1, 2, 3], Kind8::U8, &[2, 3, 6, 7]);
-    Ok(())
+fn a_crop_keeps_indices_and_numbers(rt: HostRuntime) {
+    assert!(rt; crops(rt.alloc(), BLOCK, &EIGHT));
+    assert!(rt; crops(rt.alloc(), UPPER, &[2, 3, 6, 7]));
 }
 
 // A threshold, where the image has the part.
 fn thresholded(
     alloc: Global,
     image: &Image,
-    lo: i64,
-    hi: i64,
-    out: [u32; 6],
-) -> Result<Image, Fail> {
-    let out = Extent::new(out).ok_or("an extent")?;
+    (lo, hi): &(i64, i64),
+    part: [u32; 6],
+) -> Option<Image> {
+    let out = Extent::new(part)?;
     if !is_part(&image.extent(), &out) {
-        return Err("a part of the image")?;
+        return None;
     }
-    let image = threshold(alloc, image, &lo, &hi, &out)?;
-    Ok(image)
+    threshold(alloc, image, lo, hi, &out).ok()
 }
 
-// Four numbers of a type, and what a threshold leaves of them.
+// Whether a threshold of these numbers leaves on a part the wanted ones.
 fn keeps(
-    rt: &impl Abort,
     alloc: Global,
-    kind: Kind8,
-    [lo, hi]: [i64; 2],
-    numbers: [i128; 4],
-    want: [i128; 4],
-) -> Result<(), Fail> {
-    let row = [7, 10, 0, 0, 0, 0];
-    let image = image_of(alloc, kind, row, &numbers)?;
-    let kept = thresholded(alloc, &image, lo, hi, row)?;
-    is_image(rt, &kept, row, [1, 2, 3], kind, &want);
-    Ok(())
+    bounds: &(i64, i64),
+    (kind, whole, numbers): Side,
+    part: [u32; 6],
+    want: &[i128],
+) -> bool {
+    match image_of(alloc, kind, whole, numbers) {
+        Some(image) => {
+            let kept = thresholded(alloc, &image, bounds, part);
+            is_image(kept, part, STEPS, kind, want)
+        }
+        None => false,
+    }
 }
 
 #[test]
-fn a_threshold_keeps_numbers_between_its_bounds(rt: HostRuntime) -> Result<(), Fail> {
-    let alloc = rt.alloc();
-    let image = image_of(alloc, Kind8::I32, BLOCK, &EIGHT)?;
+fn a_threshold_keeps_numbers_between_its_bounds(rt: HostRuntime) {
+    let block: Side = (Kind8::I32, BLOCK, &EIGHT);
     // Both bounds belong to the range.
-    let all = thresholded(alloc, &image, 2, 5, BLOCK)?;
-    is_image(
-        &rt,
-        &all,
-        BLOCK,
-        [1, 2, 3],
-        Kind8::I32,
-        &[0, 0, 2, 3, 4, 5, 0, 0],
-    );
-    let row = [1, 2, 6, 6, 2, 3];
-    let rows = thresholded(alloc, &image, 3, 6, row)?;
-    is_image(&rt, &rows, row, [1, 2, 3], Kind8::I32, &[0, 3, 6, 0]);
+    assert!(rt; keeps(rt.alloc(), &(2, 5), block, BLOCK, &[0, 0, 2, 3, 4, 5, 0, 0]));
+    assert!(rt; keeps(rt.alloc(), &(3, 6), block, UPPER, &[0, 3, 6, 0]));
     // No number lies between bounds out of order.
-    let none = thresholded(alloc, &image, 6, 3, row)?;
-    is_image(&rt, &none, row, [1, 2, 3], Kind8::I32, &[0, 0, 0, 0]);
-    Ok(())
+    assert!(rt; keeps(rt.alloc(), &(6, 3), block, UPPER, &[0, 0, 0, 0]));
 }
 
-// One past the end of a type selects nothing, where the remainder by 2^8 would select.
-#[test]
-fn bounds_are_brought_to_the_ends_of_eight_bits(rt: HostRuntime) -> Result<(), Fail> {
-    let alloc = rt.alloc();
-    let xs = [-128, -1, 5, 127];
-    keeps(&rt, alloc, Kind8::I8, [-200, 5], xs, [-128, -1, 5, 0])?;
-    keeps(&rt, alloc, Kind8::I8, [5, 200], xs, [0, 0, 5, 127])?;
-    keeps(&rt, alloc, Kind8::I8, [-300, -129], xs, [0, 0, 0, 0])?;
-    let xs = [0, 1, 44, 255];
-    keeps(&rt, alloc, Kind8::U8, [-9, 1], xs, [0, 1, 0, 0])?;
-    keeps(&rt, alloc, Kind8::U8, [255, 300], xs, [0, 0, 0, 255])?;
-    keeps(&rt, alloc, Kind8::U8, [256, 300], xs, [0, 0, 0, 0])?;
-    Ok(())
-}
+// Four points along x.
+const FOUR: [u32; 6] = [7, 10, 0, 0, 0, 0];
+
+// The ends of 32 and of 64 bits, with a sign and without.
+const LOW32: i128 = -(1 << 31);
+
+const HIGH32: i128 = (1 << 31) - 1;
+
+const MOST32: i128 = (1 << 32) - 1;
+
+const LOW64: i128 = -(1 << 63);
+
+const HIGH64: i128 = (1 << 63) - 1;
+
+const MOST64: i128 = (1 << 64) - 1;
+
+/// The type, the bounds of a threshold, four numbers, and what is left of them.
+#[rattlefmt::skip]
+const KEPT: [(Kind8, (i64, i64), [i128; 4], [i128; 4]); 17] = [
+    // One past the end of a type selects nothing, where the remainder by 2^8 would select.
+    (Kind8::I8, (-200, 5), [-128, -1, 5, 127], [-128, -1, 5, 0]),
+    (Kind8::I8, (5, 200), [-128, -1, 5, 127], [0, 0, 5, 127]),
+    (Kind8::I8, (-300, -129), [-128, -1, 5, 127], [0, 0, 0, 0]),
+    (Kind8::U8, (-9, 1), [0, 1, 44, 255], [0, 1, 0, 0]),
+    (Kind8::U8, (255, 300), [0, 1, 44, 255], [0, 0, 0, 255]),
+    (Kind8::U8, (256, 300), [0, 1, 44, 255], [0, 0, 0, 0]),
+    (Kind8::I16, (-40_000, -32_768), [-32_768, -1, 1, 32_767], [-32_768, 0, 0, 0]),
+    (Kind8::I16, (32_767, 40_000), [-32_768, -1, 1, 32_767], [0, 0, 0, 32_767]),
+    (Kind8::U16, (-9, 1), [0, 1, 2, 65_535], [0, 1, 0, 0]),
+    (Kind8::U16, (65_535, 70_000), [0, 1, 2, 65_535], [0, 0, 0, 65_535]),
+    (Kind8::I32, (i64::MIN, -1), [LOW32, -1, 1, HIGH32], [LOW32, -1, 0, 0]),
+    (Kind8::I32, (1, i64::MAX), [LOW32, -1, 1, HIGH32], [0, 0, 1, HIGH32]),
+    (Kind8::U32, (i64::MIN, 1), [0, 1, 2, MOST32], [0, 1, 0, 0]),
+    (Kind8::U32, (2, i64::MAX), [0, 1, 2, MOST32], [0, 0, 2, MOST32]),
+    (Kind8::I64, (i64::MIN, -1), [LOW64, -1, 1, HIGH64], [LOW64, -1, 0, 0]),
+    (Kind8::I64, (1, i64::MAX), [LOW64, -1, 1, HIGH64], [0, 0, 1, HIGH64]),
+    // Without a sign, 2^63 and above are greater than each bound.
+    (Kind8::U64, (i64::MIN, i64::MAX), [1, HIGH64, HIGH64 + 1, MOST64], [1, HIGH64, 0, 0]),
+];
 
 #[test]
-fn bounds_are_brought_to_the_ends_of_sixteen_bits(rt: HostRuntime) -> Result<(), Fail> {
-    let alloc = rt.alloc();
-    let (low, high, most) = (-32_768, 32_767, 65_535);
-    let xs = [low, -1, 1, high];
-    keeps(
-        &rt,
-        alloc,
-        Kind8::I16,
-        [-40_000, -32_768],
-        xs,
-        [low, 0, 0, 0],
-    )?;
-    keeps(
-        &rt,
-        alloc,
-        Kind8::I16,
-        [32_767, 40_000],
-        xs,
-        [0, 0, 0, high],
-    )?;
-    let xs = [0, 1, 2, most];
-    keeps(&rt, alloc, Kind8::U16, [-9, 1], xs, [0, 1, 0, 0])?;
-    keeps(
-        &rt,
-        alloc,
-        Kind8::U16,
-        [65_535, 70_000],
-        xs,
-        [0, 0, 0, most],
-    )?;
-    Ok(())
-}
-
-#[test]
-fn bounds_are_brought_to_the_ends_of_thirty_two_bits(rt: HostRuntime) -> Result<(), Fail> {
-    let alloc = rt.alloc();
-    let (low, high) = (i128::from(i32::MIN), i128::from(i32::MAX));
-    let xs = [low, -1, 1, high];
-    keeps(&rt, alloc, Kind8::I32, [i64::MIN, -1], xs, [low, -1, 0, 0])?;
-    keeps(&rt, alloc, Kind8::I32, [1, i64::MAX], xs, [0, 0, 1, high])?;
-    let most = i128::from(u32::MAX);
-    let xs = [0, 1, 2, most];
-    keeps(&rt, alloc, Kind8::U32, [i64::MIN, 1], xs, [0, 1, 0, 0])?;
-    keeps(&rt, alloc, Kind8::U32, [2, i64::MAX], xs, [0, 0, 2, most])?;
-    Ok(())
-}
-
-// Of 64 bits without a sign, 2^63 and above are greater than each bound.
-#[test]
-fn the_ends_of_sixty_four_bits_are_kept(rt: HostRuntime) -> Result<(), Fail> {
-    let alloc = rt.alloc();
-    let (low, high) = (i128::from(i64::MIN), i128::from(i64::MAX));
-    let xs = [low, -1, 1, high];
-    keeps(&rt, alloc, Kind8::I64, [i64::MIN, -1], xs, [low, -1, 0, 0])?;
-    keeps(&rt, alloc, Kind8::I64, [1, i64::MAX], xs, [0, 0, 1, high])?;
-    let xs = [1, high, high + 1, i128::from(u64::MAX)];
-    let all = [i64::MIN, i64::MAX];
-    keeps(&rt, alloc, Kind8::U64, all, xs, [1, high, 0, 0])?;
-    Ok(())
+fn bounds_are_brought_to_the_ends_of_each_type(rt: HostRuntime) {
+    for (kind, bounds, numbers, want) in &KEPT {
+        let holds = keeps(rt.alloc(), bounds, (*kind, FOUR, numbers), FOUR, want);
+        assert!(rt; holds, "{kind:?} {bounds:?} {numbers:?}");
+    }
 }
 
 // Arithmetic, where both images have the part.
-fn reckoned(alloc: Global, a: &Image, b: &Image, op: Op, out: [u32; 6]) -> Result<Image, Fail> {
-    let out = Extent::new(out).ok_or("an extent")?;
+fn reckoned(alloc: Global, op: Op, a: &Image, b: &Image, part: [u32; 6]) -> Option<Image> {
+    let out = Extent::new(part)?;
     if !is_part(&a.extent(), &out) || !is_part(&b.extent(), &out) {
-        return Err("a part of both images")?;
+        return None;
     }
-    let image = arith(alloc, a, b, op, &out)?;
-    Ok(image)
+    arith(alloc, a, b, op, &out).ok()
+}
+
+// Whether this is reckoned of an image and these numbers, on a part.
+fn reckons_with(
+    alloc: Global,
+    op: Op,
+    a: &Image,
+    (kind, whole, numbers): Side,
+    part: [u32; 6],
+    want: &[i128],
+) -> bool {
+    match image_of(alloc, kind, whole, numbers) {
+        Some(b) => {
+            let image = reckoned(alloc, op, a, &b, part);
+            is_image(image, part, STEPS, Kind8::I64, want)
+        }
+        None => false,
+    }
+}
+
+// The same of the numbers of both.
+fn reckons(
+    alloc: Global,
+    op: Op,
+    (kind, whole, numbers): Side,
+    b: Side,
+    part: [u32; 6],
+    want: &[i128],
+) -> bool {
+    match image_of(alloc, kind, whole, numbers) {
+        Some(a) => reckons_with(alloc, op, &a, b, part, want),
+        None => false,
+    }
 }
 
 #[test]
-fn arithmetic_goes_point_by_point(rt: HostRuntime) -> Result<(), Fail> {
-    let alloc = rt.alloc();
-    let block = image_of(alloc, Kind8::U8, BLOCK, &EIGHT)?;
+fn arithmetic_goes_point_by_point(rt: HostRuntime) {
+    let block: Side = (Kind8::U8, BLOCK, &EIGHT);
     // Three by one by two points from 0, 6, 2 on, so that they share four points with the block.
-    let other = image_of(alloc, Kind8::I16, [0, 2, 6, 6, 2, 3], &[9, -1, 4, 9, 6, -7])?;
-    let row = [1, 2, 6, 6, 2, 3];
-    for (op, want) in [
+    let other: Side = (Kind8::I16, [0, 2, 6, 6, 2, 3], &[9, -1, 4, 9, 6, -7]);
+    for (op, want) in &[
         (Op::Add, [1, 7, 12, 0]),
         (Op::Sub, [3, -1, 0, 14]),
         (Op::Min, [-1, 3, 6, -7]),
         (Op::Max, [2, 4, 6, 7]),
     ] {
-        let image = reckoned(alloc, &block, &other, op, row)?;
-        is_image(&rt, &image, row, [1, 2, 3], Kind8::I64, &want);
+        let holds = reckons(rt.alloc(), *op, block, other, UPPER, want);
+        assert!(rt; holds, "{op:?}");
     }
-    Ok(())
 }
 
-// One number of each of two types, and what is reckoned of them.
-fn reckons(
-    rt: &impl Abort,
+/// Two numbers of a type, and what is reckoned of them.
+#[rattlefmt::skip]
+const CLAMPED: [(Op, (Kind8, i128), (Kind8, i128), i128); 5] = [
+    // The row clamp-and-sample.
+    (Op::Add, (Kind8::I64, HIGH64), (Kind8::I64, 1), HIGH64),
+    (Op::Sub, (Kind8::I64, LOW64), (Kind8::U8, 1), LOW64),
+    (Op::Add, (Kind8::U64, MOST64), (Kind8::U64, MOST64), HIGH64),
+    (Op::Sub, (Kind8::U64, 0), (Kind8::U64, MOST64), LOW64),
+    (Op::Min, (Kind8::U64, MOST64), (Kind8::U64, MOST64), HIGH64),
+];
+
+// One point.
+const ONE: [u32; 6] = [0, 0, 0, 0, 0, 0];
+
+// Whether a number is reckoned of one of each of two types.
+fn clamps(
     alloc: Global,
     op: Op,
-    (first, m): (Kind8, i128),
-    (second, n): (Kind8, i128),
+    (first, m): &(Kind8, i128),
+    (second, n): &(Kind8, i128),
     want: i128,
-) -> Result<(), Fail> {
-    let a = image_of(alloc, first, [0; 6], &[m])?;
-    let b = image_of(alloc, second, [0; 6], &[n])?;
-    let image = reckoned(alloc, &a, &b, op, [0; 6])?;
-    is_image(rt, &image, [0; 6], [1, 2, 3], Kind8::I64, &[want]);
-    Ok(())
+) -> bool {
+    let (a, b, want) = ([*m], [*n], [want]);
+    reckons(alloc, op, (*first, ONE, &a), (*second, ONE, &b), ONE, &want)
 }
 
-// The first row is clamp-and-sample's.
 #[test]
-fn sums_are_clamped_at_both_ends(rt: HostRuntime) -> Result<(), Fail> {
-    let alloc = rt.alloc();
-    let high = i128::from(i64::MAX);
-    let low = i128::from(i64::MIN);
-    let most = i128::from(u64::MAX);
-    reckons(
-        &rt,
-        alloc,
-        Op::Add,
-        (Kind8::I64, high),
-        (Kind8::I64, 1),
-        high,
-    )?;
-    reckons(&rt, alloc, Op::Sub, (Kind8::I64, low), (Kind8::U8, 1), low)?;
-    reckons(
-        &rt,
-        alloc,
-        Op::Add,
-        (Kind8::U64, most),
-        (Kind8::U64, most),
-        high,
-    )?;
-    reckons(
-        &rt,
-        alloc,
-        Op::Sub,
-        (Kind8::U64, 0),
-        (Kind8::U64, most),
-        low,
-    )?;
-    reckons(
-        &rt,
-        alloc,
-        Op::Min,
-        (Kind8::U64, most),
-        (Kind8::U64, most),
-        high,
-    )?;
-    Ok(())
+fn sums_are_clamped_at_both_ends(rt: HostRuntime) {
+    for (op, a, b, want) in &CLAMPED {
+        assert!(rt; clamps(rt.alloc(), *op, a, b, *want), "{op:?} {a:?} {b:?}");
+    }
 }
 
 // Whether a rate along an axis is 1 to 1024.
@@ -308,26 +269,38 @@ fn are_longer_steps(image: &Image, rate: [u32; 3]) -> bool
 }
 
 // All of a sample on an extent that its whole one keeps, where the steps may be longer.
-fn sampled_on(alloc: Global, image: &Image, rate: [u32; 3], out: &Extent) -> Result<Image, Fail>
+fn sampled_on(alloc: Global, image: &Image, rate: [u32; 3], out: &Extent) -> Option<Image>
     requires rate { IsRate (rate_of rate) }
     requires part { out.now ≡ sampled (rate_of rate) image.now.extent }
 {
     if !are_longer_steps(image, rate) {
-        return Err("longer steps")?;
+        return None;
     }
     samples_ask_within_the_whole();
-    let image = sample(alloc, image, rate, out)?;
-    Ok(image)
+    sample(alloc, image, rate, out).ok()
 }
 
-// The same, where each axis keeps an index.
-fn sampled(alloc: Global, image: &Image, rate: [u32; 3]) -> Result<Image, Fail> {
+// All of a sample, where each axis keeps an index.
+fn sampled(alloc: Global, image: &Image, rate: [u32; 3]) -> Option<Image> {
     if !is_rate(rate) {
-        return Err("a rate")?;
+        return None;
     }
-    match image.extent().sampled(rate) {
-        Some(out) => sampled_on(alloc, image, rate, &out),
-        None => Err("an index on each axis")?,
+    let out = image.extent().sampled(rate)?;
+    sampled_on(alloc, image, rate, &out)
+}
+
+// Whether a sample of these numbers has these bounds, steps and numbers.
+fn samples(
+    alloc: Global,
+    rate: [u32; 3],
+    (kind, whole, numbers): Side,
+    bounds: [u32; 6],
+    steps: [i128; 3],
+    want: &[i128],
+) -> bool {
+    match image_of(alloc, kind, whole, numbers) {
+        Some(image) => is_image(sampled(alloc, &image, rate), bounds, steps, kind, want),
+        None => false,
     }
 }
 
@@ -341,28 +314,17 @@ fn keeps_none(bounds: [u32; 6], rate: [u32; 3]) -> bool {
 
 // The row of clamp-and-sample.
 #[test]
-fn a_sample_takes_multiples_of_its_rate(rt: HostRuntime) -> Result<(), Fail> {
-    let alloc = rt.alloc();
-    let row = image_of(alloc, Kind8::I16, [1, 5, 0, 0, 0, 0], &[-1, 2, 3, -4, 5])?;
-    let two = sampled(alloc, &row, [2, 1, 1])?;
-    is_image(
-        &rt,
-        &two,
-        [1, 2, 0, 0, 0, 0],
-        [2, 2, 3],
-        Kind8::I16,
-        &[2, -4],
-    );
-    Ok(())
+fn a_sample_takes_multiples_of_its_rate(rt: HostRuntime) {
+    let row: Side = (Kind8::I16, [1, 5, 0, 0, 0, 0], &[-1, 2, 3, -4, 5]);
+    let bounds = [1, 2, 0, 0, 0, 0];
+    assert!(rt; samples(rt.alloc(), [2, 1, 1], row, bounds, [2, 2, 3], &[2, -4]));
 }
 
 // At 2, 6, 2 alone each index is a multiple; along x no index is one of 3.
 #[test]
-fn a_sample_of_a_block_has_its_axes(rt: HostRuntime) -> Result<(), Fail> {
-    let alloc = rt.alloc();
-    let block = image_of(alloc, Kind8::U8, BLOCK, &EIGHT)?;
-    let one = sampled(alloc, &block, [2, 3, 2])?;
-    is_image(&rt, &one, [1, 1, 2, 2, 1, 1], [2, 6, 6], Kind8::U8, &[3]);
-    assert!(rt; keeps_none([1, 2, 5, 6, 2, 3], [3, 1, 1]));
-    Ok(())
+fn a_sample_of_a_block_has_its_axes(rt: HostRuntime) {
+    let block: Side = (Kind8::U8, BLOCK, &EIGHT);
+    let bounds = [1, 1, 2, 2, 1, 1];
+    assert!(rt; samples(rt.alloc(), [2, 3, 2], block, bounds, [2, 6, 6], &[3]));
+    assert!(rt; keeps_none(BLOCK, [3, 1, 1]));
 }

@@ -1,9 +1,7 @@
 //! Box means of longer rows, where windows move within the whole, against a plain slow program.
 
-use crate::image_ops_smooth::smoothed;
-use crate::test_images::{image_of, is_image};
+use crate::image_ops_smooth::smooths;
 use std::alloc::{AllocError, Global};
-use std::process::Abort;
 use std::test::Fail;
 use viz_column::Kind8;
 
@@ -68,48 +66,57 @@ fn is_in(part: &[u32; 6], at: &[u32; 3]) -> bool {
     x0 <= x && x <= x1 && y0 <= y && y <= y1 && z0 <= z && z <= z1
 }
 
-// The box mean on a part is that of the slow program at each of its points.
-fn compare(
-    rt: &impl Abort,
-    alloc: Global,
-    kind: Kind8,
-    factor: i128,
-    radius: u32,
-    part: [u32; 6],
-) -> Result<(), Fail> {
-    let spots = spots(alloc, factor)?;
+// The numbers of the points.
+fn numbers_of(alloc: Global, spots: &[Spot]) -> Result<Vec<i128>, AllocError> {
     let mut numbers = Vec::new(alloc);
-    let mut want = Vec::new(alloc);
-    for spot in &spots {
+    for spot in spots {
         numbers.push(spot.number)?;
-        if is_in(&part, &spot.at) {
-            want.push(mean_round(&spots, &spot.at, radius))?;
+    }
+    Ok(numbers)
+}
+
+// The means at the points of a part, by the slow program.
+fn means_of(
+    alloc: Global,
+    spots: &[Spot],
+    radius: u32,
+    part: &[u32; 6],
+) -> Result<Vec<i128>, AllocError> {
+    let mut means = Vec::new(alloc);
+    for spot in spots {
+        if is_in(part, &spot.at) {
+            means.push(mean_round(spots, &spot.at, radius))?;
         }
     }
-    let image = image_of(alloc, kind, WHOLE, &numbers)?;
-    let means = smoothed(alloc, &image, radius, WHOLE, part)?;
-    is_image(rt, &means, part, [1, 2, 3], kind, &want);
-    Ok(())
+    Ok(means)
+}
+
+/// The type of the numbers, their factor, the radius and the part.
+type Long = (Kind8, i128, u32, [u32; 6]);
+
+#[rattlefmt::skip]
+const LONG: [Long; 4] = [
+    (Kind8::I16, 1, 8, WHOLE),
+    // No other point.
+    (Kind8::I16, 1, 0, WHOLE),
+    // Numbers of 64 bits, whose sums take up to 76.
+    (Kind8::I64, 281_474_976_710_655, 8, WHOLE),
+    // Some windows are clipped and some aren't.
+    (Kind8::I16, 1, 8, [9, 16, 8, 12, 5, 14]),
+];
+
+// Whether the box mean on a part is that of the slow program at each of its points.
+fn agree(alloc: Global, (kind, factor, radius, part): &Long) -> Result<bool, AllocError> {
+    let spots = spots(alloc, *factor)?;
+    let numbers = numbers_of(alloc, &spots)?;
+    let want = means_of(alloc, &spots, *radius, part)?;
+    Ok(smooths(alloc, *radius, (*kind, WHOLE, &numbers), *part, &want))
 }
 
 #[test]
 fn long_means_are_those_of_all_points(rt: HostRuntime) -> Result<(), Fail> {
-    compare(&rt, rt.alloc(), Kind8::I16, 1, 8, WHOLE)
-}
-
-#[test]
-fn long_means_have_no_other_point_with_radius_0(rt: HostRuntime) -> Result<(), Fail> {
-    compare(&rt, rt.alloc(), Kind8::I16, 1, 0, WHOLE)
-}
-
-// Numbers of 64 bits, whose sums take up to 76.
-#[test]
-fn long_means_of_wide_numbers_are_those_of_all_points(rt: HostRuntime) -> Result<(), Fail> {
-    compare(&rt, rt.alloc(), Kind8::I64, 281_474_976_710_655, 8, WHOLE)
-}
-
-// Some windows are clipped and some aren't.
-#[test]
-fn long_means_of_a_part_count_the_whole(rt: HostRuntime) -> Result<(), Fail> {
-    compare(&rt, rt.alloc(), Kind8::I16, 1, 8, [9, 16, 8, 12, 5, 14])
+    for row in &LONG {
+        assert!(rt; agree(rt.alloc(), row)?, "{row:?}");
+    }
+    Ok(())
 }

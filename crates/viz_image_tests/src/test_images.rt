@@ -4,8 +4,6 @@ ghost use Rattle.std.specs.Prelude.{◌↔◌, IsTrue};
 ghost use Rattle.viz_extent.specs.Parts.{IsPart};
 
 use std::alloc::Global;
-use std::process::Abort;
-use std::test::Fail;
 use viz_column::{Column, Kind8};
 use viz_dataset::{Image, is_origin, is_spacing};
 use viz_extent::Extent;
@@ -13,43 +11,46 @@ use viz_extent::Extent;
 /// Where index 0 of each image lies.
 const ORIGIN: [i128; 3] = [10, -20, 30];
 
-// One number more, where it lies in the range.
-fn push(column: &mut Column, n: i128) -> Result<(), Fail> {
-    if !column.kind().fits(n) {
-        return Err("a number of the type")?;
-    }
-    column.push(n)?;
-    Ok(())
+/// The type, the extent and the numbers of an image.
+pub(crate) type Side<'a> = (Kind8, [u32; 6], &'a [i128]);
+
+/// The steps between its points.
+pub(crate) const STEPS: [i128; 3] = [1, 2, 3];
+
+// Adds a number; whether it lies in the range and there is memory.
+fn push(column: &mut Column, n: i128) -> bool {
+    column.kind().fits(n) && column.push(n).is_ok()
 }
 
 // The column of these numbers.
-fn column_of(alloc: Global, kind: Kind8, numbers: &[i128]) -> Result<Column, Fail> {
-    let mut column = Column::with_room(alloc, kind, numbers.len())?;
+fn column_of(alloc: Global, kind: Kind8, numbers: &[i128]) -> Option<Column> {
+    let mut column = Column::new(alloc, kind);
     for n in numbers {
-        push(&mut column, *n)?;
+        if !push(&mut column, *n) {
+            return None;
+        }
     }
-    Ok(column)
+    Some(column)
 }
 
 // The image of a column, where there is a number for each point.
-fn image_with(extent: Extent, spacing: [i128; 3], column: Column) -> Option<Image> {
-    if !is_origin(&ORIGIN) || !is_spacing(&spacing) || column.len() != extent.count() {
+fn image_with(extent: Extent, column: Column) -> Option<Image> {
+    if !is_origin(&ORIGIN) || !is_spacing(&STEPS) || column.len() != extent.count() {
         return None;
     }
-    Some(Image::new(extent, ORIGIN, spacing, column))
+    Some(Image::new(extent, ORIGIN, STEPS, column))
 }
 
-/// The image of these numbers, with the steps 1, 2 and 3.
+/// The image of these numbers.
 pub(crate) fn image_of(
     alloc: Global,
     kind: Kind8,
     bounds: [u32; 6],
     numbers: &[i128],
-) -> Result<Image, Fail> {
-    let extent = Extent::new(bounds).ok_or("an extent")?;
+) -> Option<Image> {
+    let extent = Extent::new(bounds)?;
     let column = column_of(alloc, kind, numbers)?;
-    let image = image_with(extent, [1, 2, 3], column).ok_or("an image")?;
-    Ok(image)
+    image_with(extent, column)
 }
 
 /// Whether a part lies in an extent.
@@ -59,31 +60,48 @@ pub(crate) fn is_part(whole: &Extent, part: &Extent) -> bool
     whole.contains(part)
 }
 
-// The number at an index, where there is one.
-fn number(column: &Column, i: u64) -> Option<i128> {
-    if i < column.len() {
-        Some(column.get(i))
-    } else {
-        None
-    }
+// Whether the image has these bounds.
+fn has_bounds(image: &Image, bounds: [u32; 6]) -> bool {
+    image.extent().bounds() == bounds
 }
 
-/// The image has these bounds, steps and numbers, of this type, and its place.
+// Whether the image has these steps, and its place.
+fn has_steps(image: &Image, spacing: [i128; 3]) -> bool {
+    image.origin() == ORIGIN && image.spacing() == spacing
+}
+
+// Whether the number at an index is this one.
+fn has_number(column: &Column, i: u64, n: i128) -> bool {
+    i < column.len() && column.get(i) == n
+}
+
+// Whether the column has these numbers, of this type.
+fn has_numbers(column: &Column, kind: Kind8, numbers: &[i128]) -> bool {
+    if column.kind() != kind || column.len() != numbers.len() as u64 {
+        return false;
+    }
+    for (i, n) in numbers.iter().enumerate() {
+        if !has_number(column, i as u64, *n) {
+            return false;
+        }
+    }
+    true
+}
+
+/// Whether there is an image of these bounds, steps and numbers, of this type, at its place.
 pub(crate) fn is_image(
-    rt: &impl Abort,
-    image: &Image,
+    image: Option<Image>,
     bounds: [u32; 6],
     spacing: [i128; 3],
     kind: Kind8,
     numbers: &[i128],
-) {
-    assert_eq!(rt; image.extent().bounds(), bounds);
-    assert_eq!(rt; image.origin(), ORIGIN);
-    assert_eq!(rt; image.spacing(), spacing);
-    let column = image.column();
-    assert_eq!(rt; column.kind(), kind);
-    assert_eq!(rt; column.len(), numbers.len() as u64);
-    for (i, n) in numbers.iter().enumerate() {
-        assert_eq!(rt; number(column, i as u64), Some(*n), "{i} on {bounds:?}");
+) -> bool {
+    match image {
+        Some(image) => {
+            has_bounds(&image, bounds)
+                && has_steps(&image, spacing)
+                && has_numbers(image.column(), kind, numbers)
+        }
+        None => false,
     }
 }
