@@ -1,112 +1,54 @@
 //! Selections and joined meshes of few cells, by hand.
 
+use crate::sheets::{Cells, Five, halves, one, sheet_at, sheet_by, wide};
+use crate::shows::{is_of, only};
 use std::alloc::Global;
-use std::process::Abort;
-use std::test::Fail;
-use viz_fraction::{Point5, point, small};
 use viz_select::{append, copied_sheets, select};
-use viz_sheet::{Leaves, Mesh, Mixed, Places, Ranks, Sheet, are_cells, sheet_of};
+use viz_sheet::{Mesh, Places, Sheet};
 
-// The point of five numbers x, y, z, s, w.
-fn point_of(five: &[i128; 5]) -> Result<Point5, Fail> {
-    let [x, y, z, s, w] = *five;
-    if w <= 0 {
-        return Err("a positive weight")?;
-    }
-    match point(x, y, z, s, w) {
-        Ok(p) => Ok(p),
-        Err(_) => Err("a narrow point")?,
+// The selection of one sheet.
+fn selected(alloc: Global, sheet: Option<Sheet>, lo: i64, hi: i64, all: bool) -> Option<Sheet> {
+    match one(alloc, sheet) {
+        Some(sheets) => only(select(alloc, &sheets, lo, hi, all).ok()),
+        None => None,
     }
 }
 
-// These points in all the room.
-fn places_of(alloc: Global, points: &[[i128; 5]]) -> Result<Places, Fail> {
-    let mut places = Vec::new(alloc);
-    for five in points {
-        places.push(point_of(five)?)?;
-    }
-    Ok(Places::Wide(places))
-}
-
-// These points in half the room.
-fn halves_of(alloc: Global, points: &[[i128; 5]]) -> Result<Places, Fail> {
-    let mut places = Vec::new(alloc);
-    for five in points {
-        match small(&point_of(five)?) {
-            Some(half) => places.push(half)?,
-            None => Err("a small point")?,
-        }
-    }
-    Ok(Places::Small(places))
-}
-
-// The sheet of these points, named by their numbers, and cells.
-fn sheet_by(alloc: Global, points: &[[i128; 5]], ranks: Ranks) -> Result<Sheet, Fail> {
-    sheet_at(alloc, places_of(alloc, points)?, ranks)
-}
-
-// The same of points in an array.
-fn sheet_at(alloc: Global, places: Places, ranks: Ranks) -> Result<Sheet, Fail> {
-    if places.len() > 9 {
-        return Err("few points")?;
-    }
-    let leaves = Leaves::of_points(alloc, places.len() as u32)?;
-    if !are_cells(&leaves, &places, &ranks) {
-        return Err("cells of ascending names")?;
-    }
-    let sheet = sheet_of(alloc, leaves, places, ranks)?;
-    Ok(sheet)
-}
-
-// The sheet has these names and these cells.
-fn shows(rt: &impl Abort, sheet: &Sheet, names: &[&[u32]], cells: &[&[u32]]) {
-    assert_eq!(rt; sheet.point_count(), names.len(), "{names:?}");
-    for (rank, name) in names.iter().enumerate() {
-        assert!(rt; rank < sheet.point_count(), "{names:?}");
-        assert_eq!(rt; sheet.name(rank), *name, "{names:?}");
-    }
-    assert_eq!(rt; sheet.cell_count(), cells.len(), "{cells:?}");
-    for (i, cell) in cells.iter().enumerate() {
-        assert!(rt; i < sheet.cell_count(), "{cells:?}");
-        assert_eq!(rt; sheet.cell(i), *cell, "{cells:?}");
+// Whether a sheet has so many cells.
+fn has_cells(sheet: Option<Sheet>, count: usize) -> bool {
+    match sheet {
+        Some(sheet) => sheet.cell_count() == count,
+        None => false,
     }
 }
 
-// How many cells the selection of one sheet has.
-fn count_of(alloc: Global, sheet: Sheet, lo: i64, hi: i64, all: bool) -> Result<usize, Fail> {
-    let sheets = vec![in alloc; sheet]?;
-    let mesh = select(alloc, &sheets, lo, hi, all)?;
-    match mesh.sheets() {
-        [only] => Ok(only.cell_count()),
-        _ => Err("one sheet")?,
-    }
-}
+/// Four points with the scalars 0, 5, 5 and 9.
+const CORNERS: [Five; 4] = [
+    [0, 0, 0, 0, 1],
+    [1, 0, 0, 5, 1],
+    [0, 1, 0, 5, 1],
+    [0, 0, 1, 9, 1],
+];
 
-// A tetrahedron with the scalars 0, 5, 5 and 9.
-fn tetrahedron(alloc: Global) -> Result<Sheet, Fail> {
-    let corners = [
-        [0, 0, 0, 0, 1],
-        [1, 0, 0, 5, 1],
-        [0, 1, 0, 5, 1],
-        [0, 0, 1, 9, 1],
-    ];
-    let cells = vec![in alloc; [0, 1, 2, 3]]?;
-    sheet_by(alloc, &corners, Ranks::Tetrahedra(cells))
+// A tetrahedron of them.
+fn tetrahedron(alloc: Global) -> Option<Sheet> {
+    sheet_by(alloc, &CORNERS, &Cells::Tetrahedra(&[[0, 1, 2, 3]]))
 }
 
 // The row select-any-all.
 #[test]
-fn any_corner_keeps_what_all_drop(rt: HostRuntime) -> Result<(), Fail> {
-    for (all, want) in [(false, 1), (true, 0)] {
-        let sheet = tetrahedron(rt.alloc())?;
-        let count = count_of(rt.alloc(), sheet, 5, 9, all)?;
-        assert_eq!(rt; count, want, "{all}");
-    }
-    Ok(())
+fn any_corner_keeps_what_all_drop(rt: HostRuntime) {
+    assert!(rt;
+        has_cells(
+            selected(rt.alloc(), tetrahedron(rt.alloc()), 5, 9, false),
+            1
+        )
+    );
+    assert!(rt; has_cells(selected(rt.alloc(), tetrahedron(rt.alloc()), 5, 9, true), 0));
 }
 
 /// Five points with the scalars 2, 5/2, 3, -2 and -5/2.
-const FIVE: [[i128; 5]; 5] = [
+const FIVE: [Five; 5] = [
     [0, 0, 0, 2, 1],
     [1, 0, 0, 5, 2],
     [2, 0, 0, 3, 1],
@@ -115,14 +57,21 @@ const FIVE: [[i128; 5]; 5] = [
 ];
 
 // A vertex at each of these five.
-fn five_vertices(alloc: Global, places: Places) -> Result<Sheet, Fail> {
-    let cells = vec![in alloc; [0], [1], [2], [3], [4]]?;
-    sheet_at(alloc, places, Ranks::Vertices(cells))
+fn vertices(alloc: Global, places: Option<Places>) -> Option<Sheet> {
+    sheet_at(alloc, places, &Cells::Vertices(&[[0], [1], [2], [3], [4]]))
+}
+
+// Whether so many of the five lie between two bounds.
+fn selects(alloc: Global, places: Option<Places>, lo: i64, hi: i64, count: usize) -> bool {
+    has_cells(
+        selected(alloc, vertices(alloc, places), lo, hi, true),
+        count,
+    )
 }
 
 #[test]
-fn both_bounds_belong_to_the_range(rt: HostRuntime) -> Result<(), Fail> {
-    for (lo, hi, want) in [
+fn both_bounds_belong_to_the_range(rt: HostRuntime) {
+    for (lo, hi, count) in &[
         (2, 3, 3),
         (3, 3, 1),
         (3, 2, 0),
@@ -130,57 +79,95 @@ fn both_bounds_belong_to_the_range(rt: HostRuntime) -> Result<(), Fail> {
         (-3, -2, 2),
         (-2, -2, 1),
     ] {
-        let wide = five_vertices(rt.alloc(), places_of(rt.alloc(), &FIVE)?)?;
-        let count = count_of(rt.alloc(), wide, lo, hi, true)?;
-        assert_eq!(rt; count, want, "{lo} {hi}");
-        let halves = five_vertices(rt.alloc(), halves_of(rt.alloc(), &FIVE)?)?;
-        let count = count_of(rt.alloc(), halves, lo, hi, true)?;
-        assert_eq!(rt; count, want, "{lo} {hi}");
+        let alloc = rt.alloc();
+        assert!(rt;
+            selects(alloc, wide(alloc, &FIVE), *lo, *hi, *count),
+            "{lo} {hi}"
+        );
+        assert!(rt;
+            selects(alloc, halves(alloc, &FIVE), *lo, *hi, *count),
+            "{lo} {hi}"
+        );
     }
-    Ok(())
 }
 
+/// Five points of which the first and the fourth have the scalar 0.
+const SEVENS: [Five; 5] = [
+    [0, 0, 0, 0, 1],
+    [1, 0, 0, 7, 1],
+    [2, 0, 0, 7, 1],
+    [3, 0, 0, 0, 1],
+    [4, 0, 0, 7, 1],
+];
+
 #[test]
-fn names_of_dropped_cells_go(rt: HostRuntime) -> Result<(), Fail> {
-    let points = [
-        [0, 0, 0, 0, 1],
-        [1, 0, 0, 7, 1],
-        [2, 0, 0, 7, 1],
-        [3, 0, 0, 0, 1],
-        [4, 0, 0, 7, 1],
-    ];
-    let cells = vec![in rt.alloc();
-        Mixed::new(1, [0, 9, 9, 9]),
-        Mixed::new(2, [4, 1, 9, 9]),
-        Mixed::new(3, [1, 2, 3, 9]),
-        Mixed::new(2, [2, 1, 9, 9]),
-    ]?;
-    let sheets = vec![in rt.alloc(); sheet_by(rt.alloc(), &points, Ranks::Any(cells))?]?;
-    let mesh = select(rt.alloc(), &sheets, 7, 7, true)?;
-    assert_eq!(rt; mesh.sheets().len(), 1);
-    for sheet in mesh.sheets() {
-        shows(&rt, sheet, &[&[1], &[2], &[4]], &[&[2, 0], &[1, 0]]);
-    }
-    Ok(())
+fn names_of_dropped_cells_go(rt: HostRuntime) {
+    let cells = Cells::Any(&[
+        (1, [0, 9, 9, 9]),
+        (2, [4, 1, 9, 9]),
+        (3, [1, 2, 3, 9]),
+        (2, [2, 1, 9, 9]),
+    ]);
+    let sheet = sheet_by(rt.alloc(), &SEVENS, &cells);
+    let found = selected(rt.alloc(), sheet, 7, 7, true);
+    assert!(rt; is_of(found, &[&[1], &[2], &[4]], &[&[2, 0], &[1, 0]]));
 }
 
 // A mesh of this one sheet.
-fn mesh_of(alloc: Global, sheet: Sheet) -> Result<Mesh, Fail> {
-    Ok(Mesh::new(vec![in alloc; sheet]?))
+fn mesh_of(alloc: Global, sheet: Option<Sheet>) -> Option<Mesh> {
+    match one(alloc, sheet) {
+        Some(sheets) => Some(Mesh::new(sheets)),
+        None => None,
+    }
+}
+
+// These meshes joined, with one of no sheet behind the first.
+fn joined(alloc: Global, first: Mesh, last: Mesh, again: Mesh) -> Option<Mesh> {
+    let none = Mesh::new(Vec::new(alloc));
+    match vec![in alloc; first, none, last, again] {
+        Ok(meshes) => append(alloc, meshes).ok(),
+        Err(_) => None,
+    }
+}
+
+// The same with the last one's sheets once more.
+fn joined_twice(alloc: Global, first: Mesh, last: Mesh) -> Option<Mesh> {
+    match copied_sheets(alloc, last.sheets()) {
+        Ok(again) => joined(alloc, first, last, again),
+        Err(_) => None,
+    }
+}
+
+// The five vertices, and the tetrahedron twice.
+fn all(alloc: Global) -> Option<Mesh> {
+    match mesh_of(alloc, vertices(alloc, halves(alloc, &FIVE))) {
+        Some(first) => match mesh_of(alloc, tetrahedron(alloc)) {
+            Some(last) => joined_twice(alloc, first, last),
+            None => None,
+        },
+        None => None,
+    }
+}
+
+// Whether sheets have so many cells.
+fn have_cells(sheets: &[Sheet], counts: &[usize]) -> bool {
+    for (sheet, count) in sheets.iter().zip(counts) {
+        if sheet.cell_count() != *count {
+            return false;
+        }
+    }
+    sheets.len() == counts.len()
+}
+
+// Whether a mesh has sheets of so many cells.
+fn has_sheets(mesh: Option<Mesh>, counts: &[usize]) -> bool {
+    match mesh {
+        Some(mesh) => have_cells(mesh.sheets(), counts),
+        None => false,
+    }
 }
 
 #[test]
-fn meshes_are_joined_in_turn(rt: HostRuntime) -> Result<(), Fail> {
-    let first = five_vertices(rt.alloc(), halves_of(rt.alloc(), &FIVE)?)?;
-    let first = mesh_of(rt.alloc(), first)?;
-    let none = Mesh::new(Vec::new(rt.alloc()));
-    let last = mesh_of(rt.alloc(), tetrahedron(rt.alloc())?)?;
-    let again = copied_sheets(rt.alloc(), last.sheets())?;
-    let mesh = append(rt.alloc(), vec![in rt.alloc(); first, none, last, again]?)?;
-    let want = [5, 1, 1];
-    assert_eq!(rt; mesh.sheets().len(), want.len());
-    for (sheet, count) in mesh.sheets().iter().zip(&want) {
-        assert_eq!(rt; sheet.cell_count(), *count);
-    }
-    Ok(())
+fn meshes_are_joined_in_turn(rt: HostRuntime) {
+    assert!(rt; has_sheets(all(rt.alloc()), &[5, 1, 1]));
 }
