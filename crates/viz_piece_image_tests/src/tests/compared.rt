@@ -3,6 +3,7 @@
 use crate::tests::images::{image_with, mixed_numbers};
 use crate::tests::pieces::{sections_of, tets_of};
 use std::alloc::Global;
+use std::process::Abort;
 use std::test::Fail;
 use viz_column::Kind8;
 use viz_dataset::Image;
@@ -11,7 +12,7 @@ use viz_parts::Part;
 use viz_piece_plain::{Piece, is_piece};
 
 /// What is made of an image.
-#[derive(Clone, Copy)]
+#[derive(Clone, Copy, Debug)]
 enum Filter {
     Tets,
     /// By a contour and by a plane.
@@ -58,61 +59,38 @@ pub(super) fn layer_size([x0, x1, y0, y1, _, _]: [u32; 6]) -> u32 {
     cubes.saturating_mul(6)
 }
 
-// What is made for a piece of an image is that piece of what is made of all its tetrahedra.
-fn is_made(
+// What is made for each piece of an image is that piece of what is made of the image.
+fn shows_pieces(
+    rt: &impl Abort,
     alloc: Global,
-    image: &Image,
+    bounds: [u32; 6],
     filter: Filter,
-    (tets, made): (&Part, &Part),
-    asked: Piece,
-) -> Result<bool, Fail> {
-    let part = made_piece(alloc, image, filter, (asked.p, asked.n, asked.ghosts))?;
-    Ok(is_piece(alloc, tets, made, &part, asked)?)
-}
-
-// The same of each of so many pieces, with 0 to 2 ghost levels.
-fn are_made(
-    alloc: Global,
-    image: &Image,
-    filter: Filter,
-    whole: (&Part, &Part),
-    (unit, n): (u32, u32),
-) -> Result<bool, Fail> {
-    for p in 0..n {
-        for ghosts in 0..3 {
-            let asked = Piece {
-                p,
-                n,
-                ghosts,
-                unit,
-                fewer: 0,
-            };
-            if !is_made(alloc, image, filter, whole, asked)? {
-                return Ok(false);
+) -> Result<(), Fail> {
+    let image = image_with(alloc, Kind8::U8, bounds, &mixed_numbers(alloc, bounds)?)?;
+    let input = made_piece(alloc, &image, Filter::Tets, (0, 1, 0))?;
+    let made = made_piece(alloc, &image, filter, (0, 1, 0))?;
+    for n in 1..8 {
+        for p in 0..n {
+            for ghosts in 0..3 {
+                let part = made_piece(alloc, &image, filter, (p, n, ghosts))?;
+                let asked = Piece {
+                    p,
+                    n,
+                    ghosts,
+                    unit: layer_size(bounds),
+                    fewer: 0,
+                };
+                let found = is_piece(alloc, &input, &made, &part, asked)?;
+                assert!(rt; found, "{filter:?} {asked:?} {bounds:?}");
             }
         }
     }
-    Ok(true)
-}
-
-// The same of an image in 1 to 7 pieces.
-fn shows_pieces(alloc: Global, bounds: [u32; 6], filter: Filter) -> Result<bool, Fail> {
-    let numbers = mixed_numbers(alloc, bounds)?;
-    let image = image_with(alloc, Kind8::U8, bounds, &numbers)?;
-    let tets = made_piece(alloc, &image, Filter::Tets, (0, 1, 0))?;
-    let made = made_piece(alloc, &image, filter, (0, 1, 0))?;
-    let (whole, unit) = ((&tets, &made), layer_size(bounds));
-    for n in 1..8 {
-        if !are_made(alloc, &image, filter, whole, (unit, n))? {
-            return Ok(false);
-        }
-    }
-    Ok(true)
+    Ok(())
 }
 
 #[test]
 fn pieces_go_by_layers(rt: HostRuntime) -> Result<(), Fail> {
-    for bounds in &[
+    for bounds in [
         [0, 2, 0, 2, 0, 2],
         // Other sides, and an extent that begins elsewhere.
         [1, 3, 0, 3, 2, 6],
@@ -122,10 +100,8 @@ fn pieces_go_by_layers(rt: HostRuntime) -> Result<(), Fail> {
         // A single plane, which has no layer.
         [0, 2, 0, 2, 3, 3],
     ] {
-        let tets = shows_pieces(rt.alloc(), *bounds, Filter::Tets)?;
-        assert!(rt; tets, "{bounds:?}");
-        let sections = shows_pieces(rt.alloc(), *bounds, Filter::Sections)?;
-        assert!(rt; sections, "{bounds:?}");
+        shows_pieces(&rt, rt.alloc(), bounds, Filter::Tets)?;
+        shows_pieces(&rt, rt.alloc(), bounds, Filter::Sections)?;
     }
     Ok(())
 }

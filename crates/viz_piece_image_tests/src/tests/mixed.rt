@@ -3,9 +3,11 @@
 use crate::tests::images::{image_with, mixed_numbers};
 use crate::tests::pieces::slab_of;
 use std::alloc::{AllocError, Global};
+use std::process::Abort;
 use std::test::Fail;
 use viz_column::Kind8;
 use viz_dataset::Image;
+use viz_extent::Extent;
 use viz_lanes::Bits;
 use viz_mixed::mixed;
 
@@ -18,18 +20,13 @@ fn list(alloc: Global, bits: &Bits) -> Result<Vec<bool>, AllocError> {
     Ok(all)
 }
 
-// The number of a point, as x goes fastest, then y, then z.
-fn index_of([x0, x1, y0, y1, z0, _]: [u32; 6], i: u32, j: u32, k: u32) -> usize {
-    let width = x1.saturating_sub(x0).saturating_add(1);
-    let height = y1.saturating_sub(y0).saturating_add(1);
-    let plane = k.saturating_sub(z0).saturating_mul(height);
-    let row = plane.saturating_add(j.saturating_sub(y0));
-    row.saturating_mul(width)
-        .saturating_add(i.saturating_sub(x0)) as usize
-}
-
-// Whether the number at an index is at least a level.
-fn is_inside(numbers: &[i128], index: usize, level: i64) -> bool {
+// Whether the number of a point is at least a level.
+fn is_inside(extent: &Extent, numbers: &[i128], level: i64, (i, j, k): (u32, u32, u32)) -> bool {
+    let [x0, x1, y0, y1, z0, z1] = extent.bounds();
+    if i < x0 || i > x1 || j < y0 || j > y1 || k < z0 || k > z1 {
+        return false;
+    }
+    let index = extent.index_of(i, j, k) as usize;
     match numbers.get(index) {
         Some(number) => *number >= i128::from(level),
         None => false,
@@ -37,72 +34,53 @@ fn is_inside(numbers: &[i128], index: usize, level: i64) -> bool {
 }
 
 // How many of a cube's eight corners are inside.
-fn count_inside(bounds: [u32; 6], numbers: &[i128], level: i64, (i, j, k): (u32, u32, u32)) -> u32 {
+fn count_inside(extent: &Extent, numbers: &[i128], level: i64, (i, j, k): (u32, u32, u32)) -> u32 {
     let mut count: u32 = 0;
-    for bits in 0..8_u32 {
-        let (x, y, z) = (bits % 2, bits / 2 % 2, bits / 4);
-        let index = index_of(
-            bounds,
-            i.saturating_add(x),
-            j.saturating_add(y),
-            k.saturating_add(z),
-        );
-        if is_inside(numbers, index, level) {
-            count = count.saturating_add(1);
+    for x in [i, i.saturating_add(1)] {
+        for y in [j, j.saturating_add(1)] {
+            for z in [k, k.saturating_add(1)] {
+                if is_inside(extent, numbers, level, (x, y, z)) {
+                    count = count.saturating_add(1);
+                }
+            }
         }
     }
     count
 }
 
-// Of each cube of a row, whether some corners are inside and some are not.
-fn push_row(
-    all: &mut Vec<bool>,
-    bounds: [u32; 6],
-    numbers: &[i128],
-    level: i64,
-    (j, k): (u32, u32),
-) -> Result<(), AllocError> {
-    let [x0, x1, _, _, _, _] = bounds;
-    for i in x0..x1 {
-        let count = count_inside(bounds, numbers, level, (i, j, k));
-        all.push(count > 0 && count < 8)?;
-    }
-    Ok(())
-}
-
-// The same of each cube.
+// Of each cube, whether some corners are inside and some are not.
 fn plain(
     alloc: Global,
-    bounds: [u32; 6],
+    extent: &Extent,
     numbers: &[i128],
     level: i64,
 ) -> Result<Vec<bool>, AllocError> {
-    let [_, _, y0, y1, z0, z1] = bounds;
+    let [x0, x1, y0, y1, z0, z1] = extent.bounds();
     let mut all = Vec::new(alloc);
     for k in z0..z1 {
         for j in y0..y1 {
-            push_row(&mut all, bounds, numbers, level, (j, k))?;
+            for i in x0..x1 {
+                let count = count_inside(extent, numbers, level, (i, j, k));
+                all.push(count > 0 && count < 8)?;
+            }
         }
     }
     Ok(all)
 }
 
-// The mixed cubes of an image at a level.
-fn mixed_list(alloc: Global, image: &Image, level: i64) -> Result<Vec<bool>, AllocError> {
-    let bits = mixed(alloc, image, &level)?;
-    list(alloc, &bits)
-}
-
 // The mixed cubes of an image at a level are these.
 fn mixes(
+    rt: &impl Abort,
     alloc: Global,
     (kind, bounds, level): (Kind8, [u32; 6], i64),
     numbers: &[i128],
     want: &[bool],
-) -> Result<bool, Fail> {
+) -> Result<(), Fail> {
     let image = image_with(alloc, kind, bounds, numbers)?;
-    let found = mixed_list(alloc, &image, level)?;
-    Ok(found.as_slice() == want)
+    let bits = mixed(alloc, &image, &level)?;
+    let found = list(alloc, &bits)?;
+    assert_eq!(rt; found.as_slice(), want, "{bounds:?} {level}");
+    Ok(())
 }
 
 /// One cube of points, and four of them, one above the other.
@@ -121,81 +99,64 @@ fn four() -> [i128; 20] {
     numbers
 }
 
-// Whether a cube with one corner of 9, and 0 at all others, is mixed as a row says.
-fn is_mixed(alloc: Global, (kind, level, want): &(Kind8, i64, bool)) -> Result<bool, Fail> {
-    let corner = [0, 0, 0, 0, 0, 0, 0, 9];
-    mixes(alloc, (*kind, CUBE, *level), &corner, &[*want])
-}
-
 #[test]
 fn a_cube_with_corners_at_both_sides_is_mixed(rt: HostRuntime) -> Result<(), Fail> {
-    for row in &[
-        (Kind8::I32, 5, true),
-        (Kind8::I32, 9, true),
-        (Kind8::I32, 10, false),
-        (Kind8::I32, 0, false),
-        (Kind8::I32, 1, true),
-        // Levels that 8 bits without a sign can't hold.
-        (Kind8::U8, -1, false),
-        (Kind8::U8, 300, false),
-    ] {
-        assert!(rt; is_mixed(rt.alloc(), row)?, "{row:?}");
+    let alloc = rt.alloc();
+    let corner = [0, 0, 0, 0, 0, 0, 0, 9];
+    for (level, want) in [(5, true), (9, true), (10, false), (0, false), (1, true)] {
+        mixes(&rt, alloc, (Kind8::I32, CUBE, level), &corner, &[want])?;
+    }
+    mixes(
+        &rt,
+        alloc,
+        (Kind8::U64, COLUMN, LEVEL),
+        &four(),
+        &[true, false, false, true],
+    )?;
+    // Levels that 8 bits without a sign can't hold.
+    for level in [-1, 300] {
+        mixes(&rt, alloc, (Kind8::U8, CUBE, level), &corner, &[false])?;
     }
     Ok(())
 }
 
-// The mixed cubes of the block that a piece of an image asks for, at the level above.
-fn mixed_in(alloc: Global, image: &Image, p: u32, n: u32, ghosts: u32) -> Result<Vec<bool>, Fail> {
+// The mixed cubes of the block that piece `p` of `n` asks for, at the level of the row above.
+fn mixed_in(
+    alloc: Global,
+    image: &Image,
+    (p, n, ghosts): (u32, u32, u32),
+) -> Result<Vec<bool>, Fail> {
     if p >= n {
         return Err("a piece of some")?;
     }
     let slab = slab_of(alloc, image, p, n, ghosts)?;
-    Ok(mixed_list(alloc, &slab, LEVEL)?)
+    let bits = mixed(alloc, &slab, &LEVEL)?;
+    Ok(list(alloc, &bits)?)
 }
-
-// Whether those of piece `p` of `n` are as a row says.
-fn has_mixed(
-    alloc: Global,
-    image: &Image,
-    (p, n, ghosts, want): &(u32, u32, u32, &[bool]),
-) -> Result<bool, Fail> {
-    let found = mixed_in(alloc, image, *p, *n, *ghosts)?;
-    Ok(found.as_slice() == *want)
-}
-
-/// Pieces of four layers, and which of their cubes are mixed.
-const PIECES: [(u32, u32, u32, &[bool]); 6] = [
-    (0, 1, 0, &[true, false, false, true]),
-    (0, 4, 0, &[true]),
-    (1, 4, 0, &[false]),
-    (2, 4, 1, &[false, false, true]),
-    (3, 4, 2, &[false, false, true]),
-    // More pieces than layers: the lowest plane alone.
-    (0, 7, 2, &[]),
-];
 
 #[test]
 fn a_piece_has_the_mixed_cubes_of_its_block(rt: HostRuntime) -> Result<(), Fail> {
-    let image = image_with(rt.alloc(), Kind8::U64, COLUMN, &four())?;
-    for row in &PIECES {
-        assert!(rt; has_mixed(rt.alloc(), &image, row)?, "{row:?}");
+    let alloc = rt.alloc();
+    let image = image_with(alloc, Kind8::U64, COLUMN, &four())?;
+    for (asked, want) in [
+        ((0, 1, 0), [true, false, false, true].as_slice()),
+        ((0, 4, 0), [true].as_slice()),
+        ((1, 4, 0), [false].as_slice()),
+        ((2, 4, 1), [false, false, true].as_slice()),
+        ((3, 4, 2), [false, false, true].as_slice()),
+        // More pieces than layers: the lowest plane alone.
+        ((0, 7, 2), [].as_slice()),
+    ] {
+        let found = mixed_in(alloc, &image, asked)?;
+        assert_eq!(rt; found.as_slice(), want, "{asked:?}");
     }
     Ok(())
 }
 
-// Whether the mixed cubes of numbers in no order are those of the plain program.
-fn mixes_as_plain(
-    alloc: Global,
-    (bounds, kind, level): &([u32; 6], Kind8, i64),
-) -> Result<bool, Fail> {
-    let numbers = mixed_numbers(alloc, *bounds)?;
-    let want = plain(alloc, *bounds, &numbers, *level)?;
-    mixes(alloc, (*kind, *bounds, *level), &numbers, &want)
-}
-
 #[test]
 fn cubes_are_mixed_as_one_by_one(rt: HostRuntime) -> Result<(), Fail> {
-    for row in &[
+    let alloc = rt.alloc();
+    for (bounds, kind, level) in [
         // Rows shorter than a word, of a word of cubes, and longer.
         ([0, 4, 0, 3, 0, 2], Kind8::I8, 50),
         ([2, 66, 1, 3, 5, 7], Kind8::U16, 30),
@@ -205,7 +166,10 @@ fn cubes_are_mixed_as_one_by_one(rt: HostRuntime) -> Result<(), Fail> {
         // No cubes.
         ([0, 3, 0, 3, 2, 2], Kind8::U8, 50),
     ] {
-        assert!(rt; mixes_as_plain(rt.alloc(), row)?, "{row:?}");
+        let extent = Extent::new(bounds).ok_or("an extent")?;
+        let numbers = mixed_numbers(alloc, bounds)?;
+        let want = plain(alloc, &extent, &numbers, level)?;
+        mixes(&rt, alloc, (kind, bounds, level), &numbers, &want)?;
     }
     Ok(())
 }

@@ -7,6 +7,7 @@ use crate::tests::compared::layer_size;
 use crate::tests::images::image_with;
 use crate::tests::pieces::{sections_of, tets_of};
 use std::alloc::Global;
+use std::process::Abort;
 use std::test::Fail;
 use viz_base::Shared;
 use viz_column::Kind8;
@@ -34,10 +35,7 @@ const CONTOUR: Form = Form {
 fn mesh(part: Part) -> Result<Part, Fail>
     ensures { IfOk result IsOfMesh }
 {
-    match of_mesh(part) {
-        Some(part) => Ok(part),
-        None => Err("a part of a mesh")?,
-    }
+    Ok(of_mesh(part).ok_or("a part of a mesh")?)
 }
 
 // How many cells and points a part has.
@@ -84,34 +82,23 @@ fn bounded(alloc: Global, part: &Part, ghosts: u32) -> Result<Part, Fail>
 }
 
 // The boundary of a piece's tetrahedra is that piece of the boundary of all, and has none.
-fn has_boundary(
+fn shows_boundary(
+    rt: &impl Abort,
     alloc: Global,
     image: &Image,
-    (tets, boundary): (&Part, &Part),
+    tets: &Part,
+    boundary: &Part,
     (p, n): (u32, u32),
-) -> Result<bool, Fail> {
+) -> Result<(), Fail> {
     let part = tets_piece(alloc, image, p, n, 2)?;
     let first = bounded(alloc, &part, 1)?;
+    assert!(rt;
+        is_piece(alloc, tets, boundary, &first, asked(BOX, p, n, 1, 1))?,
+        "{p} {n}"
+    );
     let second = bounded(alloc, &first, 0)?;
-    Ok(
-        counts(&second) == (0, 0)
-            && is_piece(alloc, tets, boundary, &first, asked(BOX, p, n, 1, 1))?,
-    )
-}
-
-// The same of each of so many pieces.
-fn have_boundaries(
-    alloc: Global,
-    image: &Image,
-    whole: (&Part, &Part),
-    n: u32,
-) -> Result<bool, Fail> {
-    for p in 0..n {
-        if !has_boundary(alloc, image, whole, (p, n))? {
-            return Ok(false);
-        }
-    }
-    Ok(true)
+    assert_eq!(rt; counts(&second), (0, 0), "{p} {n}");
+    Ok(())
 }
 
 #[test]
@@ -119,52 +106,29 @@ fn boundary_of_tets(rt: HostRuntime) -> Result<(), Fail> {
     let alloc = rt.alloc();
     let image = image_with(alloc, Kind8::U8, BOX, &[0; 64])?;
     let tets = tets_piece(alloc, &image, 0, 1, 0)?;
-    assert!(rt; counts(&tets) == (162, 64));
+    assert_eq!(rt; counts(&tets), (162, 64));
     let boundary = bounded(alloc, &tets, 0)?;
-    assert!(rt; counts(&boundary) == (108, 56));
-    for n in &[1, 3, 7] {
-        assert!(rt;
-            have_boundaries(alloc, &image, (&tets, &boundary), *n)?,
-            "{n}"
-        );
+    assert_eq!(rt; counts(&boundary), (108, 56));
+    for n in [1, 3, 7] {
+        for p in 0..n {
+            shows_boundary(&rt, alloc, &image, &tets, &boundary, (p, n))?;
+        }
     }
     Ok(())
 }
 
-// The contour of a piece of an image.
-fn contour_piece(alloc: Global, image: &Image, p: u32, n: u32) -> Result<Part, Fail>
+// The contour of a piece of an image, twice.
+fn joined(alloc: Global, image: &Image, p: u32, n: u32) -> Result<Part, Fail>
     ensures { IfOk result IsOfMesh }
 {
     if p >= n {
         return Err("a piece of some")?;
     }
-    mesh(sections_of(alloc, image, p, n, 0, &[CONTOUR])?)
-}
-
-// The same twice.
-fn joined(alloc: Global, image: &Image, p: u32, n: u32) -> Result<Part, Fail>
-    ensures { IfOk result IsOfMesh }
-{
-    let one = Shared::new(alloc, contour_piece(alloc, image, p, n)?)?;
+    let part = mesh(sections_of(alloc, image, p, n, 0, &[CONTOUR])?)?;
+    let one = Shared::new(alloc, part)?;
     let two = one.copy()?;
     let inputs = vec![in alloc; one, two]?;
     mesh(append_parts(alloc, &inputs)?)
-}
-
-// The contour of each of so many pieces, twice, is that piece of the contour of all, twice.
-fn are_joined(
-    alloc: Global,
-    image: &Image,
-    (tets, all): (&Part, &Part),
-    n: u32,
-) -> Result<bool, Fail> {
-    for p in 0..n {
-        let part = joined(alloc, image, p, n)?;
-        if !is_piece(alloc, tets, all, &part, asked(CUBE, p, n, 0, 0))? {
-            return Ok(false);
-        }
-    }
-    Ok(true)
 }
 
 #[test]
@@ -173,11 +137,14 @@ fn append_then_merge(rt: HostRuntime) -> Result<(), Fail> {
     let image = image_with(alloc, Kind8::I32, CUBE, &[0, 0, 0, 0, 0, 0, 0, 9])?;
     let tets = tets_piece(alloc, &image, 0, 1, 0)?;
     let all = joined(alloc, &image, 0, 1)?;
-    assert!(rt; counts(&all) == (12, 14));
-    for n in &[1, 3] {
-        assert!(rt; are_joined(alloc, &image, (&tets, &all), *n)?, "{n}");
+    assert_eq!(rt; counts(&all), (12, 14));
+    assert_eq!(rt; counts(&merge_part(alloc, &all)?), (12, 7));
+    for n in [1, 3] {
+        for p in 0..n {
+            let part = joined(alloc, &image, p, n)?;
+            let found = is_piece(alloc, &tets, &all, &part, asked(CUBE, p, n, 0, 0))?;
+            assert!(rt; found, "{p} {n}");
+        }
     }
-    let merged = merge_part(alloc, &all)?;
-    assert!(rt; counts(&merged) == (12, 7));
     Ok(())
 }

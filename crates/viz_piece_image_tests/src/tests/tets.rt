@@ -21,31 +21,21 @@ fn levels_in(sheet: &PartSheet) -> [u32; 3] {
     counts
 }
 
-// The same of the first sheet of a part, if it has one.
-fn levels_of(part: &Part) -> Option<[u32; 3]> {
-    match part {
-        Part::Mesh(sheets) => Some(levels_in(sheets.first()?)),
-        Part::Image(_) => None,
-    }
-}
-
-// Whether a piece of an image's tetrahedra has as many as a row says.
-fn has_levels(
-    alloc: Global,
-    image: &Image,
-    (p, n, ghosts, want): &(u32, u32, u32, [u32; 3]),
-) -> Result<bool, Fail> {
-    if *p >= *n {
+// The same of the only sheet of a piece of an image's tetrahedra.
+fn found(alloc: Global, image: &Image, p: u32, n: u32, ghosts: u32) -> Result<[u32; 3], Fail> {
+    if p >= n {
         return Err("a piece of some")?;
     }
-    let part = tets_of(alloc, image, *p, *n, *ghosts)?;
-    Ok(levels_of(&part) == Some(*want))
+    match tets_of(alloc, image, p, n, ghosts)? {
+        Part::Mesh(sheets) => Ok(levels_in(sheets.first().ok_or("a sheet")?)),
+        Part::Image(_) => Err("a piece of a mesh")?,
+    }
 }
 
 #[test]
 fn a_column_is_cut_by_layers(rt: HostRuntime) -> Result<(), Fail> {
     let image = image_with(rt.alloc(), Kind8::U8, [0, 1, 0, 1, 0, 4], &[0; 20])?;
-    for row in &[
+    for (p, n, ghosts, want) in [
         (0, 1, 0, [24, 0, 0]),
         (0, 4, 0, [6, 0, 0]),
         (1, 4, 1, [6, 12, 0]),
@@ -55,7 +45,8 @@ fn a_column_is_cut_by_layers(rt: HostRuntime) -> Result<(), Fail> {
         (0, 7, 2, [0, 0, 0]),
         (6, 7, 0, [6, 0, 0]),
     ] {
-        assert!(rt; has_levels(rt.alloc(), &image, row)?, "{row:?}");
+        let levels = found(rt.alloc(), &image, p, n, ghosts)?;
+        assert_eq!(rt; levels, want, "{p} {n} {ghosts}");
     }
     Ok(())
 }

@@ -71,22 +71,15 @@ fn told(made: Result<Part, WorkStop>) -> Answer {
     }
 }
 
-// What the cut of a part answers, where it fits.
-fn cut(alloc: Global, part: Part) -> Answer {
-    match of_mesh(part) {
-        Some(part) if is_fit_part(&part) => told(section_part(alloc, &part, &[CUT])),
-        _ => Answer::Other,
-    }
-}
-
 // What the cut of a piece of the contour answers, where that has a part.
-fn cut_of(alloc: Global, image: &Image, p: u32, n: u32) -> Answer {
+fn cut_of(alloc: Global, image: &Image, p: u32, n: u32) -> Result<Answer, Fail> {
     if p >= n {
-        return Answer::Other;
+        return Err("a piece of some")?;
     }
-    match sections_of(alloc, image, p, n, 0, &[CONTOUR]) {
-        Ok(part) => cut(alloc, part),
-        Err(_) => Answer::Other,
+    let part = sections_of(alloc, image, p, n, 0, &[CONTOUR])?;
+    match of_mesh(part) {
+        Some(part) if is_fit_part(&part) => Ok(told(section_part(alloc, &part, &[CUT]))),
+        _ => Err("a part that fits")?,
     }
 }
 
@@ -98,29 +91,19 @@ fn column(alloc: Global) -> Result<Image, Fail> {
     image_with(alloc, Kind8::U64, [0, 1, 0, 1, 0, 4], &numbers)
 }
 
-// Whether the cut of a piece of four answers as a row says.
-fn is_cut(alloc: Global, image: &Image, (p, want): &(u32, Answer)) -> bool {
-    cut_of(alloc, image, *p, 4) == *want
-}
-
 #[test]
 fn the_cut_of_a_narrow_contour_may_be_too_wide(rt: HostRuntime) -> Result<(), Fail> {
     let image = column(rt.alloc())?;
-    for row in &[(0, Answer::TooWide), (1, Answer::Cells(0))] {
-        assert!(rt; is_cut(rt.alloc(), &image, row), "{row:?}");
+    for (p, want) in [(0, Answer::TooWide), (1, Answer::Cells(0))] {
+        assert_eq!(rt; cut_of(rt.alloc(), &image, p, 4)?, want, "{p}");
     }
     Ok(())
-}
-
-// Whether a piece answers as a row says.
-fn answers(alloc: Global, image: &Image, (p, n, ghosts, want): &(u32, u32, u32, Answer)) -> bool {
-    answer_of(alloc, image, *p, *n, *ghosts) == *want
 }
 
 #[test]
 fn a_piece_is_too_wide_by_its_own_block(rt: HostRuntime) -> Result<(), Fail> {
     let image = column(rt.alloc())?;
-    for row in &[
+    for (p, n, ghosts, want) in [
         (0, 1, 0, Answer::TooWide),
         (0, 4, 0, Answer::Cells(2)),
         (1, 4, 0, Answer::Cells(0)),
@@ -135,7 +118,8 @@ fn a_piece_is_too_wide_by_its_own_block(rt: HostRuntime) -> Result<(), Fail> {
         (0, 7, 2, Answer::Cells(0)),
         (6, 7, 0, Answer::TooWide),
     ] {
-        assert!(rt; answers(rt.alloc(), &image, row), "{row:?}");
+        let found = answer_of(rt.alloc(), &image, p, n, ghosts);
+        assert_eq!(rt; found, want, "{p} {n} {ghosts}");
     }
     Ok(())
 }
