@@ -13,11 +13,11 @@ use Rattle.viz_fraction.specs.Points.{Point}
 use Rattle.viz_sheet.specs.Kept.{AreMarks, is_used, kept, renumbered, sheet_with, used_marks}
 use Rattle.viz_sheet.specs.PairNames.{AreNames}
 use Rattle.viz_sheet.specs.Ranked.{AreCells, IsCell, leaf_names, names_at}
-use Rattle.viz_sheet.specs.Sheet.{IsFit, IsSheet, most_names}
-use Rattle.viz_sheet.proofs.CompactedLemmas.{compacted}
-use Rattle.viz_sheet.proofs.KeptLemmas.{kept-sorted}
+use Rattle.viz_sheet.specs.Sheet.{AreAscending, IsFit, IsSheet, most_names}
+use Rattle.viz_sheet.proofs.CompactedLemmas.{compacted-cells, compacted-same, compacted-used}
+use Rattle.viz_sheet.proofs.KeptLemmas.{kept-lengths, kept-sorted}
 use Rattle.viz_sheet.proofs.LeafLemmas.{leaf_names-ascend}
-use Rattle.viz_sheet.proofs.SheetLemmas.{is_sheet}
+use Rattle.viz_sheet.proofs.SheetLemmas.{ranked_is-sheet}
 use Rattle.viz_meaning.proofs.ListLemmas.{all-flat}
 
 -- marks of the ranks that cells have mark just these
@@ -40,12 +40,14 @@ marks-used count cells h =
     }
 
 -- cells with their own names alone are a sheet
-pub sheet_with-sheet : (names : List (List ℕ)) (points : List Point) (cells : List (List ℕ)) → AreCells names points cells → IsSheet (sheet_with names points cells)
-sheet_with-sheet names points cells h =
+sheet_with-sheet : (names : List (List ℕ)) (points : List Point) (cells : List (List ℕ)) → AreAscending names → length points ≡ length names → All (IsCell (length names)) cells → IsSheet (sheet_with names points cells)
+sheet_with-sheet names points cells ascending matched each =
     let marks = used_marks (length names) cells in
-    let k = compacted names points cells marks h (marks-used (length names) cells h.each) in
-    subst (λ by. IsSheet (record { names = kept marks names; points = kept marks points; cells = by })) k.same
-    (is_sheet (kept marks names) (kept marks points) (renumbered marks cells) k.sheet)
+    let used = marks-used (length names) cells each in
+    subst (λ by. IsSheet (record { names = kept marks names; points = kept marks points; cells = by })) (compacted-same names cells marks used)
+    (ranked_is-sheet (kept marks names) (kept marks points) (renumbered marks cells)
+    (kept-sorted (slice_cmp nat_cmp) marks names ascending) (kept-lengths marks points names matched)
+    (compacted-cells names cells marks each used) (compacted-used names cells marks used))
 
 -- ---- leaves
 
@@ -64,6 +66,11 @@ leaf-cells count points cells few matched each =
       few = omega (arith, names, few);
       each = subst (λ n. All (IsCell n) cells) (sym names) each;
     }
+
+pub leaves-sheet : (count : ℕ) (points : List Point) (cells : List (List ℕ)) → length points ≡ count → All (IsCell count) cells → IsSheet (sheet_with (leaf_names count) points cells)
+leaves-sheet count points cells matched each =
+    let names = count-leaves count in
+    sheet_with-sheet (leaf_names count) points cells (leaf_names-ascend count) (matched ∙ sym names) (subst (λ n. All (IsCell n) cells) (sym names) each)
 
 -- ---- names of one leaf
 

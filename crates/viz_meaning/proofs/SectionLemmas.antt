@@ -1,5 +1,5 @@
 -- A section of a sheet is a sheet again: its cells, its names and their lengths.
-use Rattle.std.proofs.Common.{◌≡◌, ℕ, suc, ◌+◌, ◌<◌, ◌≤◌, ◌^◌, Bool, List, [], ◌∷◌, length, get_or, sym, subst, arith}
+use Rattle.std.proofs.Common.{◌≡◌, ℕ, suc, ◌+◌, ◌<◌, ◌≤◌, Bool, List, [], ◌∷◌, length, get_or, sym, subst, arith}
 use Rattle.std.specs.List.{All, Contains, flat_map}
 use Rattle.std.proofs.lemmas.Bool.Decides.{nat_tests}
 use Rattle.std.proofs.lemmas.List.{length-map}
@@ -48,13 +48,12 @@ section-named f s size h names =
     all-cells IsNamedCell (cells_in (flag_of f s)) s.cells (λ k d l.
     named-pieces size (flag_of f s) (get_or s.cells k d) (sized-cells size s h names k d l) (h.each k d l))
 
-pub section-sheet : (f : Form) (s : SheetData) (size : ℕ) → IsSheet s → AreNames size s.names → length (section_of f s).names ≤ 2 ^ 32 → IsSheet (section_of f s)
-section-sheet f s size h names few =
+pub section-sheet : (f : Form) (s : SheetData) (size : ℕ) → IsSheet s → AreNames size s.names → IsSheet (section_of f s)
+section-sheet f s size h names =
     let all = flat_map (λ (cell : List (List ℕ)). cell) (section_cells f s) in
     record {
       ascending = sorted-each_once all;
       matched = length-map (names_of (section_cells f s)) (crossing_at f s);
-      few = few;
       each = section-named f s size h names;
       used = λ n. (of-each_once all n, in-each_once all n);
     }

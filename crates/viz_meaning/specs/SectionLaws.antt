@@ -1,16 +1,14 @@
 -- A section of a sheet is a sheet again, and wide just where it is in some cell (docs/FORMATS.md, "Exact points").
-use Rattle.std.specs.Prelude.{◌↔◌, ℕ, ◌+◌, ◌≤◌, ◌^◌, length, All}
+use Rattle.std.specs.Prelude.{◌↔◌, ℕ, ◌+◌, All}
 use Rattle.viz_fraction.specs.declared.forms.Form.{Form}
 use Rattle.viz_sheet.specs.PairNames.{AreNames}
 use Rattle.viz_sheet.specs.Sheet.{SheetData, IsFit, IsSheet}
 use Rattle.viz_meaning.specs.Narrow.{IsNarrowCell, IsNarrowSection}
 use Rattle.viz_meaning.specs.Section.{section_of}
 
--- the section of a sheet of names of one level is a sheet, if its names have ranks of 32 bits
+-- the section of a sheet of names of one level is a sheet
 abbrev pub SectionIsSheet : Type 0
-SectionIsSheet =
-    (f : Form) (s : SheetData) (size : ℕ) → IsSheet s → AreNames size s.names → length (section_of f s).names ≤ 2 ^ 32
-    → IsSheet (section_of f s)
+SectionIsSheet = (f : Form) (s : SheetData) (size : ℕ) → IsSheet s → AreNames size s.names → IsSheet (section_of f s)
 
 -- its names have twice as many leaves
 abbrev pub SectionHasNextNames : Type 0

@@ -1,15 +1,10 @@
 -- Cells of names of a sheet, with the points that these have there.
-use Rattle.std.proofs.Common.{◌≡◌, ℕ, ◌<◌, ◌≤◌, ⊎_elim, List, [], ◌∷◌, length, get_or, map, Ordering, Less, is_lt, sym, ap, subst, ◌∙◌, true≢false, arith}
-use Rattle.std.specs.Cmp.{IsTotalOrder}
-use Rattle.std.specs.List.Sorted.{IsStrictlySortedBy}
-use Rattle.std.proofs.lemmas.Cmp.{nat_list_cmp_total, tied_itself}
-use Rattle.std.proofs.lemmas.Map.Keys.{sorted_tail}
+use Rattle.std.proofs.Common.{◌≡◌, ℕ, ◌<◌, List, [], length, get_or, map, sym, ap, ◌∙◌, arith}
 use Rattle.std.specs.List.{All, Contains, flat_map}
 use Rattle.std.proofs.lemmas.List.{get_or-map, length-map, same_lists, get_or_default}
 use Rattle.std.proofs.lemmas.List.Elements.{All-contains, Contains-get_or}
 use Rattle.viz_fraction.specs.Points.{Point}
 use Rattle.viz_sheet.specs.Sheet.{SheetData, IsNamedCell, IsSheet, KeepPoints, AreAscending}
-use Rattle.viz_sheet.proofs.MemberLemmas.{all_after, here, member_cases, no_member, there}
 use Rattle.viz_sheet.proofs.RankLemmas.{rank-at}
 use Rattle.viz_meaning.specs.Names.{names_of}
 use Rattle.viz_meaning.specs.Section.{point_of, zero_point}
@@ -45,37 +40,6 @@ made-is s t h k keep =
     let names = names-are t k in
     same_sheet t (names_of t.cells) (map (point_of s) (names_of t.cells)) names (points-are s t h k keep ∙ ap (map (point_of s)) names)
 
--- a list that strictly ascends is no longer than one that has its items
-module _ {X : Type 0} {R : X → X → Ordering} (o : IsTotalOrder R) where
-  not_itself : (u : X) → R u u ≡ Less → ⊥
-  not_itself u h = true≢false (ap is_lt (sym h ∙ tied_itself o u))
-
-  in_rest : (x : X) (xs : List X) (y : X) (ys : List X) → IsStrictlySortedBy R (x ∷ xs) → x ≡ y → (z : X) → Contains xs z → Contains (y ∷ ys) z → Contains ys z
-  in_rest x xs y ys s e z c d =
-      ⊎_elim
-      (λ is_head. absurd (not_itself z (subst (λ u. R u z ≡ Less) (e ∙ is_head) (all_after o x xs s z c))))
-      (λ in_ys. in_ys)
-      (member_cases y ys z d)
-
-  past_head : (x : X) (xs : List X) (y : X) (ys : List X) → IsStrictlySortedBy R (x ∷ xs) → IsStrictlySortedBy R (y ∷ ys) → Contains ys x → (z : X) → Contains (x ∷ xs) z → Contains (y ∷ ys) z → Contains ys z
-  past_head x xs y ys s t in_ys z c d =
-      ⊎_elim
-      (λ is_head. ⊎_elim
-      (λ is_x. subst (Contains ys) is_x in_ys)
-      (λ in_xs. absurd (not_itself x (o.trans x y x (subst (λ u. R x u ≡ Less) (sym is_head) (all_after o x xs s z in_xs)) (all_after o y ys t x in_ys))))
-      (member_cases x xs z c))
-      (λ in_tail. in_tail)
-      (member_cases y ys z d)
-
-  pub no-longer : (xs ys : List X) → IsStrictlySortedBy R xs → IsStrictlySortedBy R ys → ((z : X) → Contains xs z → Contains ys z) → length xs ≤ length ys
-  no-longer [] ys s t there_too = omega arith
-  no-longer (x ∷ xs) [] s t there_too = absurd (no_member x (there_too x (here x xs)))
-  no-longer (x ∷ xs) (y ∷ ys) s t there_too =
-      ⊎_elim
-      (λ (e : y ≡ x). let rest : length xs ≤ length ys = no-longer xs ys (sorted_tail R x xs s) (sorted_tail R y ys t) (λ z c. in_rest x xs y ys s (sym e) z c (there_too z (there x xs z c))) in omega arith)
-      (λ in_ys. let rest : length (x ∷ xs) ≤ length ys = no-longer (x ∷ xs) ys s (sorted_tail R y ys t) (λ z c. past_head x xs y ys s t in_ys z c (there_too z c)) in omega arith)
-      (member_cases y ys x (there_too x (here x xs)))
-
 -- ---- cells of names of a sheet are a sheet
 
 name-is_one : (s : SheetData) (cells : List Cell) (n : List ℕ) → AreOfNames s cells → Contains (names_of cells) n → Contains s.names n
@@ -95,7 +59,6 @@ cells-made s cells h named among =
       sheet = record {
         ascending = sorted-each_once all;
         matched = simp length-map;
-        few = omega (arith, no-longer nat_list_cmp_total (names_of cells) s.names (sorted-each_once all) h.ascending (λ n c. name-is_one s cells n among c), h.few);
         each = named;
         used = λ n. (of-each_once all n, in-each_once all n);
       };

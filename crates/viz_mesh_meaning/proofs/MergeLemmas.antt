@@ -12,10 +12,10 @@ use Rattle.std.proofs.lemmas.Map.Views.{list_any-from_Contains}
 use Rattle.viz_fraction.specs.Points.{Point}
 use Rattle.viz_fraction.specs.Places.{place_of}
 use Rattle.viz_sheet.specs.Sheet.{SheetData, AreApart, IsSheet}
-use Rattle.viz_sheet.specs.Ranked.{IsCell, leaf_names}
+use Rattle.viz_sheet.specs.Ranked.{IsCell}
 use Rattle.viz_sheet.proofs.MemberLemmas.{member_cases, no_member}
 use Rattle.viz_meaning.specs.Section.{point_of}
-use Rattle.viz_meaning.proofs.LeafCells.{leaf-cells, sheet_with-sheet}
+use Rattle.viz_meaning.proofs.LeafCells.{leaves-sheet}
 use Rattle.viz_meaning.proofs.SectionLemmas.{all-cells, corners}
 use Rattle.viz_mesh_meaning.specs.Merge.{all_points, cells_by_leaves, firsts, group_of, has_no_repeat, is_same_place, leaf_in, merged}
 use Rattle.viz_mesh_meaning.proofs.CellLemmas.{point-at}
@@ -158,8 +158,8 @@ merged-cells sheets h =
 
 -- ---- the merge
 
-pub merged-sheet : (sheets : List SheetData) → All IsSheet sheets → length (firsts (all_points sheets)) ≤ 2 ^ 32 → IsSheet (merged sheets)
-merged-sheet sheets h few =
+pub merged-sheet : (sheets : List SheetData) → All IsSheet sheets → IsSheet (merged sheets)
+merged-sheet sheets h =
     let gs = firsts (all_points sheets) in
     let cells = filter has_no_repeat (flat_map (cells_by_leaves gs) sheets) in
-    sheet_with-sheet (leaf_names (length gs)) gs cells (leaf-cells (length gs) gs cells few refl (merged-cells sheets h))
+    leaves-sheet (length gs) gs cells refl (merged-cells sheets h)

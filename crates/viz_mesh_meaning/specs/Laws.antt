@@ -1,12 +1,12 @@
 -- Laws of filters of meshes: what they give is a sheet, each of its cells comes from one cell, and its points stay.
-use Rattle.std.specs.Prelude.{◌≡◌, ◌↔◌, ◌+◌, ◌≤◌, ◌^◌, ℤ, Bool, true, List, length, All, Contains}
+use Rattle.std.specs.Prelude.{◌≡◌, ◌↔◌, ◌+◌, ℤ, Bool, true, List, length, All, Contains}
 use Rattle.std.specs.List.{flat_map}
 use Rattle.viz_fraction.specs.Points.{Point}
 use Rattle.viz_fraction.specs.Places.{IsWithin}
 use Rattle.viz_sheet.specs.Sheet.{SheetData, IsNamedCell, IsSheet, KeepPoints}
 use Rattle.viz_mesh_meaning.specs.Cells.{Cell, with_cells}
 use Rattle.viz_mesh_meaning.specs.Facets.{boundary_of, is_same_name, lone_facets}
-use Rattle.viz_mesh_meaning.specs.Merge.{all_points, firsts, merged}
+use Rattle.viz_mesh_meaning.specs.Merge.{merged}
 use Rattle.viz_mesh_meaning.specs.Select.{has_scalar_within, if_selected, selected}
 
 -- a sheet whose points are those of another is made of its own cells at the points of the other
@@ -54,6 +54,6 @@ abbrev pub BoundaryHasFacets : Type 0
 BoundaryHasFacets =
     (cells : List Cell) (cell : Cell) → IsNamedCell cell → All (IsFacetOf cell) (lone_facets is_same_name cells cell)
 
--- a merge of sheets is a sheet, where there are as many places as leaves or fewer
+-- a merge of sheets is a sheet
 abbrev pub MergeIsSheet : Type 0
-MergeIsSheet = (sheets : List SheetData) → All IsSheet sheets → length (firsts (all_points sheets)) ≤ 2 ^ 32 → IsSheet (merged sheets)
+MergeIsSheet = (sheets : List SheetData) → All IsSheet sheets → IsSheet (merged sheets)

@@ -22,7 +22,7 @@ pub fn boundaries_have_facets()
     ensures facets { BoundaryHasFacets }
 {}
 
-/// A merge of sheets is a sheet, where their points have at most 2^32 places.
+/// A merge of sheets is a sheet.
 pub fn merges_are_sheets()
     ensures sheet { MergeIsSheet }
 {}

@@ -21,6 +21,7 @@ use Rattle.std.proofs.Common.{
   ◌∙◌,
   arith,
 }
+use Rattle.std.specs.List.{All}
 use Rattle.viz_dataset.specs.Images.{ImageData}
 use Rattle.viz_dataset.specs.declared.dataset.Dataset.{Dataset}
 use Rattle.viz_dataset.specs.declared.dataset.Dataset.TheVariants as dataset
@@ -76,7 +77,7 @@ use Rattle.viz_piece_divisions.specs.Divisions.{
   section_owns,
   selected_owns,
 }
-use Rattle.viz_piece_divisions.specs.Pieces.{HaveSections}
+use Rattle.viz_piece_divisions.specs.Pieces.{HasLevel}
 use Rattle.viz_piece_section.specs.Sections.{own_section, sections_by_layers}
 use Rattle.viz_piece_tets.specs.Asked.{asked}
 use Rattle.viz_piece_tets.specs.Tets.{by_layers}
@@ -215,12 +216,12 @@ section_made settings.Merge forms first made e m = let bad : ⊥ = cc in absurd 
 section_made (settings.Writer binary digits) forms first made e m = let bad : ⊥ = cc in absurd bad
 
 pub section_answers : SectionAnswers
-section_answers s forms first made e m have p n ghosts input part is h =
+section_answers s forms first made e m levels p n ghosts input part is h =
     let made_is = section_made s forms first made e m in
     handed_first (sections_of forms)
     (section_owns forms) first made p n ghosts ghosts input part made_is.whole made_is.division
     (λ sheets division same a. is.answers sheets division p n ghosts
-    (subst (HaveSections forms) same have) a) h
+    (subst (All HasLevel) same levels) a) h
 
 -- ---- images
 
@@ -253,7 +254,7 @@ by_layers_are (f ∷ fs) image p n =
     ap (λ r. own_section f image p n ∷ r) (by_layers_are fs image p n)
 
 pub image_section_answers : ImageSectionAnswers
-image_section_answers s forms image first made e w m few p n ghosts block part is h =
+image_section_answers s forms image first made e w m p n ghosts block part is h =
     let made_is = section_made s forms first made e m in
     let sheets = tetrahedra_sheet image ∷ [] in
     let made_whole = dataset.Mesh (sections_of forms sheets) in
@@ -265,7 +266,7 @@ image_section_answers s forms image first made e w m few p n ghosts block part i
     ∙ ap (λ z. handed_at (section_owns forms) (Some (shared_as z first.division))) w in
     let answer =
     is.each image refl
-    (image_whole image first (Block (asked p n ghosts image.extent)) block w h) few in
+    (image_whole image first (Block (asked p n ghosts image.extent)) block w h) in
     as_made (sections_of forms sheets)
     (handed_division (section_owns forms) sheets
     (by_layers image.extent)) made same shared p n ghosts part

@@ -1,5 +1,5 @@
 -- Of true parts of what feeds a node, a part of what it makes (VTK User's Guide, "Streaming").
-use Rattle.std.specs.Prelude.{◌≡◌, ℕ, ◌+◌, ◌<◌, ℤ, Bool, List, [], ◌∷◌, Option, None, Some}
+use Rattle.std.specs.Prelude.{◌≡◌, ℕ, ◌+◌, ◌<◌, ℤ, Bool, List, [], ◌∷◌, All, Option, None, Some}
 use Rattle.viz_dataset.specs.Images.{ImageData}
 use Rattle.viz_dataset.specs.declared.dataset.Dataset.TheVariants.{Image as WholeImage}
 use Rattle.viz_fraction.specs.declared.forms.Form.{Form}
@@ -22,8 +22,8 @@ use Rattle.viz_piece_divisions.specs.Answers.{
   IsSectionAnswer,
   IsSelectedAnswer,
 }
-use Rattle.viz_piece_divisions.specs.Pieces.{HaveSections}
-use Rattle.viz_piece_section.specs.Sections.{AnswersSections, AreFew}
+use Rattle.viz_piece_divisions.specs.Pieces.{HasLevel}
+use Rattle.viz_piece_section.specs.Sections.{AnswersSections}
 use Rattle.viz_piece_tets.specs.Asked.{asked}
 use Rattle.viz_piece_tets.specs.Tets.{AnswersTets}
 
@@ -72,7 +72,7 @@ forms_of _ = None
 abbrev pub SectionAnswers : Type 0
 SectionAnswers =
     (s : Settings) (forms : List Form) (first made : Divided) → forms_of s ≡ Some forms
-    → IsMadeFrom s first made → HaveSections forms (sheets_of first.whole)
+    → IsMadeFrom s first made → All HasLevel (sheets_of first.whole)
     → (p n ghosts : ℕ) (input part : Part) → IsSectionAnswer forms input part
     → IsPartFor first (Piece p n ghosts) input → IsPartFor made (Piece p n ghosts) part
 
@@ -115,7 +115,7 @@ abbrev pub ImageSectionAnswers : Type 0
 ImageSectionAnswers =
     (s : Settings) (forms : List Form) (image : ImageData) (first made : Divided)
     → forms_of s ≡ Some forms → first.whole ≡ WholeImage image
-    → IsMadeFrom s first made → AreFew forms image
+    → IsMadeFrom s first made
     → (p n ghosts : ℕ) (block : ImageData) (part : Part)
     → AnswersSections forms p n ghosts image.extent block part
     → IsPartFor first (Block (asked p n ghosts image.extent)) (Image block)

@@ -78,9 +78,9 @@ use Rattle.viz_requests.specs.Upstream.{
 use Rattle.viz_extent.specs.Parts.{grown, spread}
 use Rattle.viz_node_parts.specs.Answering.{
   AreAnswered,
-  CanCut,
   CanMerge,
   IsGivenAnywhere,
+  IsLeveledAt,
   PartsMadeAnswer,
   extent_at_ports,
   dataset_extent,
@@ -247,18 +247,18 @@ tets_row law file inputs made m request parts part given gives =
 
 section_row : SectionAnswers → ImageSectionAnswers → (s : Settings) (forms : List Form)
     → forms_of s ≡ Some forms → (file : Option (List ℕ)) (inputs : Inputs Divided)
-    (made : Divided) → IsMadeOf s file inputs made → CanCut forms (fed_at 1 inputs)
+    (made : Divided) → IsMadeOf s file inputs made → IsLeveledAt (fed_at 1 inputs)
     → (request : Request) (parts : Inputs Part) (part : Part)
     → AreAnswered inputs (layers_request (extent_at_ports inputs) request) parts
     → MakesSections forms (extent_at_ports inputs) request (fed_at 1 parts) part
     → IsPartFor made request part
-section_row law image_law s forms is file inputs made m can request parts part given gives =
+section_row law image_law s forms is file inputs made m levels request parts part given gives =
     let e = extent_at_ports inputs in
     let at = at_first (λ o. MakesSections forms e request o part) (no_sections forms e request part)
     inputs (layers_request e request) parts given gives in
     sections_answer law image_law s forms is at.first made
     (record { file = file; inputs = inputs; fed = at.fed; made_of = m }) at.first.whole refl
-    (subst (CanCut forms) at.fed can) request at.input part
+    (subst IsLeveledAt at.fed levels) request at.input part
     (subst (λ x. IsPartFor at.first (layers_request x request) at.input) at.extent at.answers)
     (subst (λ x. MakesSections forms x request (Some at.input) part) at.extent
     (subst (λ o. MakesSections forms e request o part) at.given gives))

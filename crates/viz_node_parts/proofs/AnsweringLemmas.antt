@@ -17,6 +17,7 @@ use Rattle.std.proofs.Common.{
   subst,
   ◌∙◌,
 }
+use Rattle.std.specs.List.{All}
 use Rattle.std.specs.Option.{option_map_or}
 use Rattle.viz_dataset.specs.Images.{ImageData}
 use Rattle.viz_dataset.specs.declared.dataset.Dataset.{Dataset}
@@ -67,7 +68,7 @@ use Rattle.viz_piece_divisions.specs.Answers.{
   IsMergedAnswer,
   IsSelectedAnswer,
 }
-use Rattle.viz_piece_divisions.specs.Pieces.{HaveSections}
+use Rattle.viz_piece_divisions.specs.Pieces.{HasLevel}
 use Rattle.viz_piece_tets.specs.Asked as slabs
 use Rattle.viz_requests.specs.Upstream.{
   Fits,
@@ -80,7 +81,7 @@ use Rattle.viz_requests.specs.Upstream.{
 use Rattle.viz_sheet.specs.Sheet.{SheetData}
 use Rattle.viz_node_parts.specs.Answering.{
   AreAnswered,
-  CanBeCut,
+  HasLeveledSheets,
   extent_at_ports,
   dataset_extent,
 }
@@ -302,23 +303,23 @@ tets_answers law first made m (dataset.Mesh sheets) is request input part given 
 
 pub sections_answer : SectionAnswers → ImageSectionAnswers → (s : Settings) (forms : List Form)
     → forms_of s ≡ Some forms → (first made : Divided) → IsMadeFrom s first made
-    → (w : Dataset) → first.whole ≡ w → CanBeCut forms w
+    → (w : Dataset) → first.whole ≡ w → HasLeveledSheets w
     → (request : Request) (input part : Part)
     → IsPartFor first (layers_request (dataset_extent w) request) input
     → MakesSections forms (dataset_extent w) request (Some input) part → IsPartFor made request part
-sections_answer law image_law s forms e first made m (dataset.Image image) is can
+sections_answer law image_law s forms e first made m (dataset.Image image) is levels
     (Piece p n ghosts) (Image slab) part given gives =
-    image_law s forms image first made e is m can p n ghosts slab part gives
+    image_law s forms image first made e is m p n ghosts slab part gives
     (slab_given first p n ghosts image.extent (Image slab) given)
-sections_answer law image_law s forms e first made m (dataset.Image image) is can
+sections_answer law image_law s forms e first made m (dataset.Image image) is levels
     (Piece p n ghosts) (Mesh parts) part given gives = absurd gives
-sections_answer law image_law s forms e first made m (dataset.Image image) is can (Block out)
+sections_answer law image_law s forms e first made m (dataset.Image image) is levels (Block out)
     input part given gives = absurd gives
-sections_answer law image_law s forms e first made m (dataset.Mesh sheets) is can
+sections_answer law image_law s forms e first made m (dataset.Mesh sheets) is levels
     (Piece p n ghosts) input part given gives =
-    law s forms first made e m (subst (λ w. HaveSections forms (sheets_of w)) (sym is) can) p n
+    law s forms first made e m (subst (λ w. All HasLevel (sheets_of w)) (sym is) levels) p n
     ghosts input part gives given
-sections_answer law image_law s forms e first made m (dataset.Mesh sheets) is can (Block out)
+sections_answer law image_law s forms e first made m (dataset.Mesh sheets) is levels (Block out)
     input part given gives = absurd (no_block first sheets is out input given)
 
 -- ---- filters of meshes

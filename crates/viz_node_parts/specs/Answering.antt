@@ -4,22 +4,19 @@ use Rattle.std.specs.Prelude.{ℕ, List, [], ◌∷◌, All, Option, None, Some,
 use Rattle.viz_dataset.specs.declared.dataset.Dataset.{Dataset}
 use Rattle.viz_dataset.specs.declared.dataset.Dataset.TheVariants as dataset
 use Rattle.viz_extent.specs.Extent.{Bounds}
-use Rattle.viz_fraction.specs.declared.forms.Form.{Form}
 use Rattle.viz_kinds.specs.declared.settings.Settings.{Settings}
 use Rattle.viz_kinds.specs.declared.settings.Settings.TheVariants as settings
 use Rattle.viz_meaning.specs.Tetrahedra.{sheets_of}
 use Rattle.viz_network.specs.Cone.{Tree}
 use Rattle.viz_node_answers.specs.Answers.{IsPartFor}
 use Rattle.viz_node_division.specs.Divided.{Divided, IsDivided, IsMadeOf}
-use Rattle.viz_node_meaning.specs.Data.{contour_forms, cut_forms}
 use Rattle.viz_node_meaning.specs.Information.{fed_at}
 use Rattle.viz_node_meaning.specs.Rules.{Inputs}
 use Rattle.viz_node_meaning.specs.Scratch.{IsScratchOf}
 use Rattle.viz_parts.specs.Pieces.{SharesOut}
 use Rattle.viz_parts.specs.declared.request.Part.{Part}
 use Rattle.viz_parts.specs.declared.request.Request.{Request}
-use Rattle.viz_piece_divisions.specs.Pieces.{HaveSections}
-use Rattle.viz_piece_section.specs.Sections.{AreFew}
+use Rattle.viz_piece_divisions.specs.Pieces.{HasLevel}
 use Rattle.viz_requests.specs.Upstream.{Fits, asked, widened}
 use Rattle.viz_sheet.specs.Sheet.{IsFit}
 use Rattle.viz_node_parts.specs.Made.{MakesPart}
@@ -46,15 +43,15 @@ AreAnswered _ _ _ = ⊥
 
 -- ---- premises of some kinds
 
--- sections of a dataset have names of 32 bits
-abbrev pub CanBeCut : List Form → Dataset → Type 0
-CanBeCut forms (dataset.Image image) = AreFew forms image
-CanBeCut forms (dataset.Mesh sheets) = HaveSections forms sheets
+-- each sheet of a mesh has names of one level
+abbrev pub HasLeveledSheets : Dataset → Type 0
+HasLeveledSheets (dataset.Image image) = Unit {0}
+HasLeveledSheets (dataset.Mesh sheets) = All HasLevel sheets
 
 -- so it is of what feeds a port
-abbrev pub CanCut : List Form → Option Divided → Type 0
-CanCut forms (Some d) = CanBeCut forms d.whole
-CanCut forms None = Unit {0}
+abbrev pub IsLeveledAt : Option Divided → Type 0
+IsLeveledAt (Some d) = HasLeveledSheets d.whole
+IsLeveledAt None = Unit {0}
 
 -- the only piece of what feeds a port is all of it
 abbrev pub CanMerge : Option Divided → Type 0
@@ -70,13 +67,12 @@ pub record IsGivenBy (cone : Option Tree) (made : Divided) : Type 0 where
 abbrev pub IsGivenAnywhere : Divided → Type 0
 IsGivenAnywhere made = (cone : Option Tree) × IsGivenBy cone made
 
--- what a kind asks for beside: sections of names of 32 bits, a merge of all that it is made of, and
--- a file that its node reads in a network
+-- what a kind asks for beside: sections of sheets of names of one level each, a merge of all that it
+-- is made of, and a file that its node reads in a network
 abbrev pub Suits : Settings → Inputs Divided → Divided → Type 0
 Suits (settings.File array unit) inputs made = IsGivenAnywhere made
-Suits (settings.Contour count levels) inputs made =
-    CanCut (contour_forms count levels) (fed_at 1 inputs)
-Suits (settings.Cut a b c r) inputs made = CanCut (cut_forms a b c r) (fed_at 1 inputs)
+Suits (settings.Contour count levels) inputs made = IsLeveledAt (fed_at 1 inputs)
+Suits (settings.Cut a b c r) inputs made = IsLeveledAt (fed_at 1 inputs)
 Suits settings.Merge inputs made = CanMerge (fed_at 1 inputs)
 Suits _ inputs made = Unit {0}
 

@@ -9,12 +9,12 @@ ghost use Rattle.viz_node_meaning.specs.Information.{rate_with};
 ghost use Rattle.viz_node_parts.specs.Made.{MakesImage, MakesMean, MakesOfBoth};
 ghost use Rattle.viz_node_parts.specs.Taken.{HasMultiples, HasPointsAround, HoldsBlock, TakesImage};
 
-use crate::parameters::{op_with, radius_with, rate_with};
 use crate::ports::{block_of, image_of};
 use std::alloc::{AllocError, Global};
 use viz_extent::Extent;
 use viz_image_ops::{arith, crop, sample, smooth, threshold};
 use viz_kinds::Op;
+use viz_node_rules::{op_with, radius_with, rate_with};
 use viz_parts::{Part, Request};
 
 /// The block of a crop, whatever its box is.

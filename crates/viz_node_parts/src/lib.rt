@@ -13,7 +13,6 @@ mod files;
 mod laws;
 mod meshes;
 mod node;
-mod parameters;
 mod ports;
 mod sections;
 

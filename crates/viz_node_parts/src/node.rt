@@ -7,7 +7,6 @@ ghost use Rattle.viz_node_parts.specs.Taken.{TakesParts};
 use crate::blocks::{arith_block, crop_block, sample_block, smooth_block, threshold_block};
 use crate::files::file_part;
 use crate::meshes::{append_pieces, boundary_piece, merge_piece, select_piece};
-use crate::parameters::plane_form;
 use crate::ports::part_at;
 use crate::sections::{contour_piece, cut_piece, tets_piece};
 use std::alloc::Global;
@@ -15,7 +14,7 @@ use viz_base::Shared;
 use viz_extent::Extent;
 use viz_kinds::Settings;
 use viz_network::Node;
-use viz_node_rules::OwnStop;
+use viz_node_rules::{OwnStop, plane_form};
 use viz_parts::{Part, Request};
 
 /// What a node makes for a request of the parts at its ports, port 1 first, which are those that it

@@ -7,7 +7,6 @@ ghost use Rattle.viz_node_parts.specs.Made.{IsWide, MakesNarrow, MakesTets, MayS
 ghost use Rattle.viz_node_parts.specs.Taken.{TakesEither, TakesFitMesh, TakesSlab};
 ghost use Rattle.viz_node_parts.specs.Steps.{AreSections, stop_of};
 
-use crate::parameters::{contour_forms, plane_form};
 use crate::ports::{image_of, mesh_of, piece_of};
 use std::alloc::{AllocError, Global};
 use viz_extent::Extent;
@@ -15,7 +14,7 @@ use viz_fraction::Form;
 use viz_meaning::WorkStop;
 use viz_mesh_parts::section_part;
 use viz_network::Cause;
-use viz_node_rules::OwnStop;
+use viz_node_rules::{OwnStop, contour_forms};
 use viz_parts::{Part, Request};
 use viz_piece_section::section_image;
 use viz_piece_tets::tets;

@@ -1,6 +1,6 @@
 //! Sections of what feeds a port: contours at levels, and the cut by a plane.
 
-ghost use Rattle.std.specs.Prelude.{◌≡◌, ◌∷◌, [], All, IfOk, IfSome, Some, min, take};
+ghost use Rattle.std.specs.Prelude.{◌≡◌, ◌∷◌, [], All, IfOk, IfSome, Some};
 ghost use Rattle.std.specs.Option.{option_copied};
 ghost use Rattle.viz_legacy_read.specs.Reading.{IsSound};
 ghost use Rattle.viz_node_rules.specs.Makes.{Makes};
@@ -86,16 +86,5 @@ pub fn cut_input(
     match input {
         Some(dataset) => dataset_sections(alloc, &[form], dataset.get()),
         None => Err(OwnStop::Cause(Cause::Unconnected(1))),
-    }
-}
-
-/// The first levels of eight.
-pub fn first_levels(count: u8, levels: &[i64; 8]) -> &[i64]
-    ensures { result.now ≡ take (min count 8) levels.now }
-{
-    if count < 8 {
-        &levels[..count as usize]
-    } else {
-        levels
     }
 }

@@ -8,13 +8,12 @@ ghost use Rattle.viz_node_rules.specs.Places.{AreSoundIn, value_at};
 ghost use Rattle.viz_node_rules.specs.Makes.{Makes};
 ghost use Rattle.viz_node_rules.specs.Steps.Made.{IsPassed, IsShared};
 
-use crate::contours::{contours, cut_input, first_levels};
+use crate::contours::{contours, cut_input};
 use crate::files::file_dataset;
 use crate::filters::{arith_inputs, crop_input, sample_input, smooth_input, threshold_input};
-use crate::information::rate_with;
 use crate::joining::append_inputs;
 use crate::meshes::{boundary_input, merge_input, select_input, tets_input};
-use crate::section::plane_form;
+use crate::parameters::{first_levels, plane_form, rate_with};
 use crate::stop::OwnStop;
 use std::alloc::Global;
 use viz_base::Shared;

@@ -1,6 +1,6 @@
 //! Loaded files: what their headers say, and what they are read as.
 
-ghost use Rattle.std.specs.Prelude.{◌≡◌, ◌≤◌, IfOk};
+ghost use Rattle.std.specs.Prelude.{◌≡◌, IfOk};
 ghost use Rattle.viz_legacy_read.specs.Reading.{IsSound};
 ghost use Rattle.viz_node_meaning.specs.Data.{IsReadingOf, unit_with};
 ghost use Rattle.viz_node_meaning.specs.Information.{IsHeaderOf};
@@ -8,6 +8,7 @@ ghost use Rattle.viz_node_rules.specs.Makes.{Makes};
 ghost use Rattle.viz_node_rules.specs.Steps.Made.{of_read};
 
 use crate::information::of_header;
+use crate::parameters::unit_with;
 use crate::stop::OwnStop;
 use std::alloc::Global;
 use viz_base::{Bytes, Pick, Shared};
@@ -29,13 +30,6 @@ pub fn file_information(node: &Node) -> Result<Information, Cause>
     }
 }
 
-fn unit_with(unit: u8) -> u8
-    ensures value { result ≡ unit_with unit }
-    ensures most { result ≤ 9 }
-{
-    if unit < 9 { unit } else { 9 }
-}
-
 // A stop of reading.
 fn of_read(stop: ReadStop) -> OwnStop
     ensures { result ≡ of_read stop }
@@ -46,7 +40,12 @@ fn of_read(stop: ReadStop) -> OwnStop
     }
 }
 
-/// What a loaded file is read as.
+/// What a loaded file is read as, with coordinates in units of 10^-unit of a point's, where a unit
+/// past 9 is 9.
+///
+/// # Errors
+///
+/// `Cause` exactly where there is no file, or it has a fault; want of memory may come in place of it.
 pub fn file_dataset(
     alloc: Global,
     file: &Option<Shared<Bytes>>,

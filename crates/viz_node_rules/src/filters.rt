@@ -12,7 +12,8 @@ ghost use Rattle.viz_node_meaning.specs.Information.{cropped, thinned};
 ghost use Rattle.viz_node_rules.specs.Makes.{Makes};
 ghost use Rattle.viz_node_rules.specs.Steps.Made.{IsFromOne, IsFromTwo, IsNoImage};
 
-use crate::information::{cropped, grid_of_image, shared_grid, thinned, within};
+use crate::information::{cropped, grid_of_image, shared_grid, thinned};
+use crate::parameters::{op_with, radius_with};
 use crate::stop::OwnStop;
 use std::alloc::Global;
 use viz_base::Shared;
@@ -102,18 +103,7 @@ pub fn smooth_input(
 {
     let image = image_in(1, input)?;
     let whole = image.extent();
-    Ok(whole_image(smooth(alloc, image, within(0, 8, radius), &whole, &whole)?))
-}
-
-fn op_with(op: Op) -> viz_meaning::Op
-    ensures { result ≡ op_with op }
-{
-    match op {
-        Op::Add => viz_meaning::Op::Add,
-        Op::Sub => viz_meaning::Op::Sub,
-        Op::Min => viz_meaning::Op::Min,
-        Op::Max => viz_meaning::Op::Max,
-    }
+    Ok(whole_image(smooth(alloc, image, radius_with(radius), &whole, &whole)?))
 }
 
 /// The arithmetic of what feeds two ports.

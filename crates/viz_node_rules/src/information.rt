@@ -4,7 +4,7 @@ ghost use Rattle.std.specs.Prelude.{◌≡◌};
 ghost use Rattle.viz_dataset.specs.Images.{vector_of, IsImage};
 ghost use Rattle.viz_extent.specs.Extent.{bounds_of};
 ghost use Rattle.viz_extent.specs.Parts.{rate_of, IsRate};
-ghost use Rattle.viz_node_meaning.specs.Information.{information_of, information_in, grid_of, lengths_of, within, rate_with, is_short, cropped, thinned, longer, longer_step, shared_grid, same_lengths, same_extent};
+ghost use Rattle.viz_node_meaning.specs.Information.{information_of, information_in, grid_of, lengths_of, is_short, cropped, thinned, longer, longer_step, shared_grid, same_lengths, same_extent};
 
 use viz_dataset::{Dataset, Image, Info};
 use viz_extent::Extent;
@@ -62,21 +62,6 @@ pub fn of_dataset(dataset: &Dataset) -> Information
         Dataset::Image(image) => Information::OfImage(grid_of_image(image)),
         Dataset::Mesh(_) => Information::OfMesh,
     }
-}
-
-/// A number of a parameter, or the nearer end of the parameter's range.
-pub fn within(least: u32, most: u32, n: u32) -> u32
-    ensures { result ≡ within least most n }
-{
-    least.max(most.min(n))
-}
-
-/// The rate of a sample.
-pub fn rate_with(x: u32, y: u32, z: u32) -> [u32; 3]
-    ensures value { rate_of result ≡ rate_with x y z }
-    ensures valid { IsRate (rate_of result) }
-{
-    [within(1, 1024, x), within(1, 1024, y), within(1, 1024, z)]
 }
 
 /// The points of a crop, unless none is left.

@@ -4,7 +4,8 @@ ghost use Rattle.std.specs.Prelude.{◌≡◌};
 ghost use Rattle.viz_node_meaning.specs.Information.{filter_information, InformationRule};
 
 use crate::files::file_information;
-use crate::information::{cropped, rate_with, shared_grid, thinned};
+use crate::information::{cropped, shared_grid, thinned};
+use crate::parameters::rate_with;
 use crate::ports::{either_in, grid_in, mesh_in, meshes_at};
 use viz_kinds::Settings;
 use viz_network::{Cause, Node};

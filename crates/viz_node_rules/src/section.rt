@@ -1,7 +1,7 @@
 //! Sections of sheets and of images by several forms.
 
 ghost use Rattle.std.specs.Prelude.{◌≡◌, ◌∷◌, [], All, IfOk, IsErrOf, OnOk, map};
-ghost use Rattle.viz_fraction.specs.Forms.{contour_form, plane_form};
+ghost use Rattle.viz_fraction.specs.Forms.{contour_form};
 ghost use Rattle.viz_meaning.specs.Narrow.{AreNarrowSections};
 ghost use Rattle.viz_fraction.specs.declared.forms.Form.{Form as Formed};
 ghost use Rattle.viz_meaning.specs.Section.{section_of, sections_of};
@@ -9,7 +9,8 @@ ghost use Rattle.viz_meaning.specs.Tetrahedra.{tetrahedra_sheet};
 ghost use Rattle.viz_sheet.specs.Sheet.{IsFit, IsSheet};
 ghost use Rattle.viz_node_rules.specs.Steps.Made.{HasFitSections};
 
-use std::alloc::{AllocError, Global};
+use crate::parameters::forms_of;
+use std::alloc::Global;
 use viz_cells::sections;
 use viz_contour::contour;
 use viz_dataset::Image;
@@ -17,42 +18,6 @@ use viz_fraction::Form;
 use viz_meaning::{WorkStop, sections_are_sheets, tetrahedra_are_a_sheet};
 use viz_sheet::{Mesh, Sheet};
 use viz_tets::tets;
-
-/// The form of a contour: how far the scalar lies above the level.
-fn contour_form(level: &i64) -> Form
-    ensures { result ≡ contour_form level.now }
-{
-    Form {
-        a: 0,
-        b: 0,
-        c: 0,
-        q: 1,
-        r: *level,
-    }
-}
-
-/// The form of a plane: how far a x + b y + c z lies above r.
-pub fn plane_form(a: &i64, b: &i64, c: &i64, r: &i64) -> Form
-    ensures { result ≡ plane_form a.now b.now c.now r.now }
-{
-    Form {
-        a: *a,
-        b: *b,
-        c: *c,
-        q: 0,
-        r: *r,
-    }
-}
-
-fn forms_of(alloc: Global, levels: &[i64]) -> Result<Vec<Form>, AllocError>
-    ensures { IfOk result (λ forms. forms.items ≡ map contour_form levels.now) }
-{
-    let mut forms = Vec::with_capacity(alloc, levels.len())?;
-    for level in levels {
-        forms.push(contour_form(level))?;
-    }
-    Ok(forms)
-}
 
 // The tetrahedra of an image fit.
 pub fn tetrahedra_are_fit(image: &Image)

@@ -4,7 +4,6 @@ use Rattle.std.specs.List.{All, flat_map}
 use Rattle.std.proofs.lemmas.List.Elements.{All-contains, All-head, All-tail, Contains-get_or}
 use Rattle.viz_fraction.specs.declared.forms.Form.{Form}
 use Rattle.viz_meaning.specs.Section.{section_of, sections_of}
-use Rattle.viz_meaning.proofs.ListLemmas.{back, front}
 use Rattle.viz_mesh_meaning.specs.Cells.{Cell}
 use Rattle.viz_mesh_meaning.specs.Facets.{boundary_of}
 use Rattle.viz_mesh_meaning.specs.Select.{selected}
@@ -13,7 +12,7 @@ use Rattle.viz_parts.specs.Pieces.{IsPieceOf, IsSheetPart}
 use Rattle.viz_piece_filters.specs.Filters.{boundary_part, handed_boundary, handed_section, kept_selected, section_part, selected_part}
 use Rattle.viz_piece_filters.proofs.ChainLemmas.{boundaries_chain, sections_chain, selections_chain}
 use Rattle.viz_piece_filters.proofs.MadeLemmas.{in_whole}
-use Rattle.viz_sheet.specs.Sheet.{SheetData, IsSheet, most_names}
+use Rattle.viz_sheet.specs.Sheet.{SheetData, most_names}
 use Rattle.viz_piece_divisions.specs.Divisions.{Owns, appended_owns, handed_each, section_owns, section_parts}
 use Rattle.viz_piece_divisions.specs.Pieces.{AppendedPieces, BoundariesOfPieces, HasLevel, PartsFit, SectionsOfPieces, SelectionsOfPieces}
 
@@ -109,19 +108,8 @@ boundaries_of_pieces ghosts parts = record {
 
 -- ---- sections by forms
 
--- a sheet by names of one level, whose section is a sheet
-record HasSection (f : Form) (s : SheetData) : Type 0 where
-  level : HasLevel s
-  made : IsSheet (section_of f s)
-
-section-part : (f : Form) (g : ℕ) → TakesParts (HasSection f) (section_of f) (handed_section f) g g (section_part f)
-section-part f g s own part has is = (sections_chain f has.level.size s own g part has.level.names has.made.few is).part_is
-
-have-section : (f : Form) (sheets : List SheetData) → All HasLevel sheets → All IsSheet (map (section_of f) sheets) → All (HasSection f) sheets
-have-section f [] h j k d l = absurd (omega (arith, l))
-have-section f (s ∷ ss) h j zero d l = record { level = All-head HasLevel s ss h; made = All-head IsSheet (section_of f s) (map (section_of f) ss) j }
-have-section f (s ∷ ss) h j (suc k) d l =
-    have-section f ss (All-tail HasLevel s ss h) (All-tail IsSheet (section_of f s) (map (section_of f) ss) j) k d (omega (arith, l))
+section-part : (f : Form) (g : ℕ) → TakesParts HasLevel (section_of f) (handed_section f) g g (section_part f)
+section-part f g s own part has is = (sections_chain f has.size s own g part has.names is).part_is
 
 -- pieces of two meshes, one behind the other
 pub parts-append : (sheets : List SheetData) (owns : Owns) (g : ℕ) (parts : List PartSheetData) (more : List SheetData) (others : Owns) (rest : List PartSheetData)
@@ -133,21 +121,20 @@ parts-append (s ∷ ss) [] g ps more others rest h j = absurd h
 parts-append (s ∷ ss) (o ∷ os) g [] more others rest h j = absurd h
 parts-append (s ∷ ss) (o ∷ os) g (p ∷ ps) more others rest h j = (h.0, parts-append ss os g ps more others rest h.1 j)
 
-section-parts : (forms : List Form) (sheets : List SheetData) (owns : Owns) (g : ℕ) (parts : List PartSheetData) → All HasLevel sheets → All IsSheet (sections_of forms sheets)
+section-parts : (forms : List Form) (sheets : List SheetData) (owns : Owns) (g : ℕ) (parts : List PartSheetData) → All HasLevel sheets
     → AreParts sheets owns g parts → AreParts (sections_of forms sheets) (section_owns forms sheets owns) g (section_parts forms parts)
-section-parts [] sheets owns g parts levels made h = tt
-section-parts (f ∷ fs) sheets owns g parts levels made h =
+section-parts [] sheets owns g parts levels h = tt
+section-parts (f ∷ fs) sheets owns g parts levels h =
     parts-append (map (section_of f) sheets) (handed_each (handed_section f) sheets owns) g (map (section_part f) parts)
     (sections_of fs sheets) (section_owns fs sheets owns) (section_parts fs parts)
-    (parts-made (HasSection f) (section_of f) (handed_section f) g g (section_part f) (section-part f g) sheets owns parts
-    (have-section f sheets levels (front IsSheet (map (section_of f) sheets) (sections_of fs sheets) made)) h)
-    (section-parts fs sheets owns g parts levels (back IsSheet (map (section_of f) sheets) (sections_of fs sheets) made) h)
+    (parts-made HasLevel (section_of f) (handed_section f) g g (section_part f) (section-part f g) sheets owns parts levels h)
+    (section-parts fs sheets owns g parts levels h)
 
 pub sections_of_pieces : SectionsOfPieces
 sections_of_pieces forms parts = record {
-  each = λ sheets owns ghosts have h.
+  each = λ sheets owns ghosts levels h.
       from_parts (sections_of forms sheets) (section_owns forms sheets owns) ghosts (section_parts forms parts)
-      (section-parts forms sheets owns ghosts parts have.levels have.made (to_parts sheets owns ghosts parts h));
+      (section-parts forms sheets owns ghosts parts levels (to_parts sheets owns ghosts parts h));
 }
 
 -- ---- joined meshes

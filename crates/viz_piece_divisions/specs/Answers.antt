@@ -16,7 +16,7 @@ use Rattle.viz_parts.specs.declared.request.Request.TheVariants.{Piece}
 use Rattle.viz_sheet.specs.Sheet.{SheetData, IsFit}
 use Rattle.viz_piece_divisions.specs.Divisions.{appended_division, boundary_owns, handed_division, section_owns, selected_owns}
 use Rattle.viz_piece_divisions.specs.Narrow.{sheets_of_parts}
-use Rattle.viz_piece_divisions.specs.Pieces.{HaveSections}
+use Rattle.viz_piece_divisions.specs.Pieces.{HasLevel}
 
 -- the parts of the sheets of a mesh, as a part has them
 abbrev pub parts_in : Part → List PartSheetData
@@ -43,9 +43,9 @@ pub record IsSelectedAnswer (all : Bool) (lo hi : ℤ) (input made : Part) : Typ
       → IsAnswer (WholeMesh (selections all lo hi sheets)) (handed_division (selected_owns all lo hi) sheets division)
       (Piece p n ghosts) made
 
--- of the sections of a mesh, a part for each request that the input is a part of the mesh for
+-- of the sections of a mesh by names of one level each, a part for each request that the input is a part of the mesh for
 pub record IsSectionAnswer (forms : List Form) (input made : Part) : Type 0 where
-  pub answers : (sheets : List SheetData) (division : Division) (p n ghosts : ℕ) → HaveSections forms sheets
+  pub answers : (sheets : List SheetData) (division : Division) (p n ghosts : ℕ) → All HasLevel sheets
       → IsAnswer (WholeMesh sheets) division (Piece p n ghosts) input
       → IsAnswer (WholeMesh (sections_of forms sheets)) (handed_division (section_owns forms) sheets division)
       (Piece p n ghosts) made

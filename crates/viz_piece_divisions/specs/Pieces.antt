@@ -10,7 +10,7 @@ use Rattle.viz_parts.specs.Parts.{PartSheetData}
 use Rattle.viz_parts.specs.Pieces.{IsPieceOf, IsSheetPart}
 use Rattle.viz_piece_filters.specs.Filters.{boundary_part, selected_part}
 use Rattle.viz_sheet.specs.PairNames.{AreNames}
-use Rattle.viz_sheet.specs.Sheet.{SheetData, IsFit, IsSheet}
+use Rattle.viz_sheet.specs.Sheet.{SheetData, IsFit}
 use Rattle.viz_piece_divisions.specs.Divisions.{Owns, appended_owns, boundary_owns, section_owns, section_parts, selected_owns}
 
 -- a piece of the selections of sheets, whatever these are, where it is made of one of these
@@ -28,14 +28,9 @@ pub record HasLevel (s : SheetData) : Type 0 where
   pub size : ℕ
   pub names : AreNames size s.names
 
--- sheets of names of one level each, whose sections by forms have names of 32 bits
-pub record HaveSections (forms : List Form) (sheets : List SheetData) : Type 0 where
-  pub levels : All HasLevel sheets
-  pub made : All IsSheet (sections_of forms sheets)
-
--- a piece of the sections of sheets by forms, where it is made of one of these
+-- a piece of the sections by forms of sheets by names of one level each, where it is made of one of these
 pub record IsSectionPiece (forms : List Form) (parts made : List PartSheetData) : Type 0 where
-  pub each : (sheets : List SheetData) (owns : Owns) (ghosts : ℕ) → HaveSections forms sheets
+  pub each : (sheets : List SheetData) (owns : Owns) (ghosts : ℕ) → All HasLevel sheets
       → IsPieceOf sheets owns ghosts parts
       → IsPieceOf (sections_of forms sheets) (section_owns forms sheets owns) ghosts made
 

@@ -1,19 +1,16 @@
 -- Filters one after the other.
-use Rattle.std.proofs.Common.{◌≡◌, ℕ, suc, ◌+◌, ◌≤◌, Option, Some, None, List, [], ◌∷◌, ◌++◌, length, get_or, refl, sym, ap, ◌∙◌, arith}
+use Rattle.std.proofs.Common.{◌≡◌, ℕ, suc, ◌+◌, Option, Some, None, List, [], ◌∷◌, ◌++◌, length, get_or, refl, sym, ap, ◌∙◌, arith}
 use Rattle.std.specs.List.{All, Contains, flat_map}
-use Rattle.std.proofs.lemmas.Cmp.{nat_list_cmp_total}
 use Rattle.std.proofs.lemmas.List.{get_or_default}
 use Rattle.std.proofs.lemmas.List.Elements.{All-contains, Contains-get_or}
 use Rattle.viz_fraction.specs.Points.{Point}
-use Rattle.viz_meaning.specs.Section.{section_of, zero_point}
+use Rattle.viz_meaning.specs.Section.{zero_point}
 use Rattle.viz_meaning.proofs.ListLemmas.{all-among}
-use Rattle.viz_meaning.proofs.NameSets.{sorted-each_once}
-use Rattle.viz_meaning.specs.Section.{section_cells}
 use Rattle.viz_meaning.proofs.SectionLemmas.{section-names, section-sheet}
 use Rattle.viz_mesh_meaning.specs.Facets.{boundary_of, is_same_name, lone_facets}
 use Rattle.viz_mesh_meaning.specs.Laws.{IsFacetOf}
 use Rattle.viz_mesh_meaning.specs.Select.{is_selected}
-use Rattle.viz_mesh_meaning.proofs.CellLemmas.{cells-made, no-longer, of-names}
+use Rattle.viz_mesh_meaning.proofs.CellLemmas.{cells-made, of-names}
 use Rattle.viz_mesh_meaning.proofs.FacetLemmas.{boundary-sheet, lone-facets_of}
 use Rattle.viz_mesh_meaning.proofs.SelectLemmas.{selection-sheet}
 use Rattle.viz_sheet.specs.PairNames.{AreNames}
@@ -89,7 +86,7 @@ kept_name ns ps ms qs h n c =
     (from.0, from.1, get_or_default ms from.0 n [] from.1 ∙ sym from.2 ∙ get_or_default ns c.0 [] n c.1 ∙ c.2)
 
 pub sections_chain : SectionsChain
-sections_chain f size whole own ghosts part names few h =
+sections_chain f size whole own ghosts part names h =
     let w = part.sheet in
     let hw = h.sheet_is in
     let kept = h.part_is.points in
@@ -99,16 +96,10 @@ sections_chain f size whole own ghosts part names few h =
       sized = all_from (λ n. length n ≡ size) w.names (λ n c. All-contains (λ m. length m ≡ size) whole.names n names.sized (in_whole n c));
       ascending = hw.ascending;
     } in
-    let a = section_of f w in
-    let b = section_of f whole in
-    let fewer : length a.names ≤ length b.names =
-    no-longer nat_list_cmp_total a.names b.names
-    (sorted-each_once (flat_map (λ (cell : Cell). cell) (section_cells f w))) (sorted-each_once (flat_map (λ (cell : Cell). cell) (section_cells f whole)))
-    (kept_name a.names a.points b.names b.points made.points) in
     record {
       part_is = record {
-        whole_is = section-sheet f whole size h.whole_is names few;
-        sheet_is = section-sheet f w size hw part_names (omega (arith, fewer, few));
+        whole_is = section-sheet f whole size h.whole_is names;
+        sheet_is = section-sheet f w size hw part_names;
         part_is = made;
       };
       names_are = section-names f whole size h.whole_is names;

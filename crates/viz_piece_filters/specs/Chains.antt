@@ -1,5 +1,5 @@
 -- Filters one after the other: what each of them asks for is kept.
-use Rattle.std.specs.Prelude.{◌≡◌, ℕ, ◌+◌, ◌≤◌, ◌^◌, ℤ, Bool, List, length}
+use Rattle.std.specs.Prelude.{◌≡◌, ℕ, ◌+◌, ◌≤◌, ℤ, Bool, List}
 use Rattle.viz_fraction.specs.declared.forms.Form.{Form}
 use Rattle.viz_meaning.specs.Section.{section_of}
 use Rattle.viz_mesh_meaning.specs.Facets.{boundary_of}
@@ -42,8 +42,7 @@ pub record IsSectionPart (size : ℕ) (whole : SheetData) (own : List Bool) (gho
 abbrev pub SectionsChain : Type 0
 SectionsChain =
     (f : Form) (size : ℕ) (whole : SheetData) (own : List Bool) (ghosts : ℕ) (part : PartSheetData)
-    → AreNames size whole.names → length (section_of f whole).names ≤ 2 ^ 32
-    → IsSheetPart whole own ghosts part
+    → AreNames size whole.names → IsSheetPart whole own ghosts part
     → IsSectionPart size (section_of f whole) (handed_section f whole own) ghosts
     (section_part f part)
 

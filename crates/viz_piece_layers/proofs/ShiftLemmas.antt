@@ -1,5 +1,5 @@
 -- A sheet whose leaves' numbers are all so much greater is a sheet.
-use Rattle.std.proofs.Common.{◌≡◌, ◌≢◌, ℕ, ◌+◌, ◌-◌, ◌^◌, ◌≤◌, List, [], ◌∷◌, map, Less, Ordering, refl, sym, ap, ap₂, subst, ◌∙◌, arith}
+use Rattle.std.proofs.Common.{◌≡◌, ◌≢◌, ℕ, ◌+◌, ◌-◌, ◌≤◌, List, [], ◌∷◌, map, Less, Ordering, refl, sym, ap, ap₂, subst, ◌∙◌, arith}
 use Rattle.std.specs.List.{AllByRecursion, Contains, flat_map}
 use Rattle.std.specs.List.Sorted.{IsStrictlySortedBy}
 use Rattle.std.specs.Cmp.Lexicographic.{slice_cmp}
@@ -52,7 +52,6 @@ shifted_is_sheet by s is =
     record {
       ascending = sorted-map (slice_cmp nat_cmp) (slice_cmp nat_cmp) moved (names-compare by) s.names is.ascending;
       matched = is.matched ∙ sym (length-map s.names moved);
-      few = subst (λ k. k ≤ 2 ^ 32) (sym (length-map s.names moved)) is.few;
       each = all-map IsNamedCell (map moved) s.cells (λ k d l. cell _ (is.each k d l));
       used = λ n. (
         λ c.

@@ -33,7 +33,7 @@ use Rattle.viz_piece_tets.specs.Tets.{LayersShareOut, TetsAreParts, tets_part}
 use Rattle.viz_piece_tets.proofs.PlaneLemmas.{ArePlanes, levels-are, low-is}
 use Rattle.viz_sheet.specs.Sheet.{SheetData}
 use Rattle.viz_sheet.proofs.MemberLemmas.{here, there}
-use Rattle.viz_piece_section.specs.Sections.{AreFew, IsFew, SectionsAreParts, SectionsShareOut, own_section, section_piece, sections_by_layers}
+use Rattle.viz_piece_section.specs.Sections.{SectionsAreParts, SectionsShareOut, own_section, section_piece, sections_by_layers}
 use Rattle.viz_piece_section.specs.Shifted.{SectionsShift}
 use Rattle.viz_piece_section.specs.Steps.Leaves.{cell_level}
 use Rattle.viz_piece_section.proofs.LevelLemmas.{Match, handed-mapped, level-is, match-each, match-range}
@@ -41,8 +41,8 @@ use Rattle.viz_piece_section.proofs.LevelLemmas.{Match, handed-mapped, level-is,
 -- ---- the law
 
 pub parts_are : TetsAreParts → SectionsChain → TetrahedraHaveLeaves → SectionsAreParts
-parts_are tets chain names f whole block p n ghosts less few is =
-    (chain f 1 (tetrahedra_sheet whole) (own_tets n whole.extent p) ghosts (tets_part p n whole.extent block) (names whole) few (tets whole block p n ghosts less is)).part_is
+parts_are tets chain names f whole block p n ghosts less is =
+    (chain f 1 (tetrahedra_sheet whole) (own_tets n whole.extent p) ghosts (tets_part p n whole.extent block) (names whole) (tets whole block p n ghosts less is)).part_is
 
 -- ---- the parts of several forms
 
@@ -67,14 +67,14 @@ pieces-of a b p ghosts forms h = record {
 
 pub sections-answer : SectionsAreParts → (forms : List Form) (p n ghosts : ℕ) (whole : Bounds) (block : ImageData) (items : List PartSheetData) → p < n
     → items ≡ map (λ f. section_piece f p n whole block) forms → (image : ImageData) → image.extent ≡ whole → IsBlockOf image (asked p n ghosts whole) block
-    → AreFew forms image → IsPieceOf (sections_of forms (tetrahedra_sheet image ∷ [])) (sections_by_layers forms image p n) ghosts items
-sections-answer parts forms p n ghosts whole block items less is image same of few =
+    → IsPieceOf (sections_of forms (tetrahedra_sheet image ∷ [])) (sections_by_layers forms image p n) ghosts items
+sections-answer parts forms p n ghosts whole block items less is image same of =
     subst (IsPieceOf (sections_of forms (tetrahedra_sheet image ∷ [])) (sections_by_layers forms image p n) ghosts) (sym is)
     (subst (λ (sheets : List SheetData). IsPieceOf sheets (sections_by_layers forms image p n) ghosts (map (λ f. section_piece f p n whole block) forms))
     (sym (singles forms (tetrahedra_sheet image)))
     (pieces-of (λ f. section_of f (tetrahedra_sheet image)) (λ f. own_section f image p n) (λ f. section_piece f p n whole block) ghosts forms
     (λ f c. subst (λ e. IsBlockOf image (asked p n ghosts e) block → IsSheetPart (section_of f (tetrahedra_sheet image)) (own_section f image p n) ghosts (section_piece f p n e block)) same
-    (parts f image block p n ghosts less (All-contains (IsFew image) forms f few.each c)) of)))
+    (parts f image block p n ghosts less) of)))
 
 -- ---- all pieces own all cells
 

@@ -1,6 +1,5 @@
 -- The sections of an image in pieces: each piece owns the cells in its own tetrahedra (VTK User's Guide, "Streaming").
-use Rattle.std.specs.Prelude.{◌≡◌, ℕ, ◌^◌, ◌<◌, ◌≤◌, Bool, List, [], ◌∷◌, length, map}
-use Rattle.std.specs.List.{All}
+use Rattle.std.specs.Prelude.{◌≡◌, ℕ, ◌<◌, Bool, List, [], ◌∷◌, map}
 use Rattle.viz_dataset.specs.Images.{ImageData, IsImage}
 use Rattle.viz_dataset.specs.declared.dataset.Dataset.TheVariants as dataset
 use Rattle.viz_extent.specs.Extent.{Bounds}
@@ -25,18 +24,10 @@ own_section f image p n = handed_section f (tetrahedra_sheet image) (own_tets n 
 abbrev pub section_piece : Form → ℕ → ℕ → Bounds → ImageData → PartSheetData
 section_piece f p n whole block = section_part f (tets_part p n whole block)
 
--- a section has at most 2^32 names
-abbrev pub IsFew : ImageData → Form → Type 0
-IsFew image f = length (section_of f (tetrahedra_sheet image)).names ≤ 2 ^ 32
-
--- each of some sections
-pub record AreFew (forms : List Form) (image : ImageData) : Type 0 where
-  pub each : All (IsFew image) forms
-
 -- the block that a piece asks for gives a part of the whole's section
 abbrev pub SectionsAreParts : Type 0
 SectionsAreParts =
-    (f : Form) (whole block : ImageData) (p n ghosts : ℕ) → p < n → IsFew whole f
+    (f : Form) (whole block : ImageData) (p n ghosts : ℕ) → p < n
     → IsBlockOf whole (asked p n ghosts whole.extent) block
     → IsSheetPart (section_of f (tetrahedra_sheet whole)) (own_section f whole p n) ghosts
     (section_piece f p n whole.extent block)
@@ -54,5 +45,5 @@ SectionsShareOut =
 -- of whatever image on the whole the block is that which the piece asks for, the part answers for the
 -- piece of its sections
 pub record AnswersSections (forms : List Form) (p n ghosts : ℕ) (whole : Bounds) (block : ImageData) (part : Part) : Type 0 where
-  pub each : (image : ImageData) → image.extent ≡ whole → IsBlockOf image (asked p n ghosts whole) block → AreFew forms image
+  pub each : (image : ImageData) → image.extent ≡ whole → IsBlockOf image (asked p n ghosts whole) block
       → IsAnswer (dataset.Mesh (sections_of forms (tetrahedra_sheet image ∷ []))) (sections_by_layers forms image) (Piece p n ghosts) part

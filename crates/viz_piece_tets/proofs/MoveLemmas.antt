@@ -1,5 +1,5 @@
 -- A sheet with other leaves in the same order, as it is kept.
-use Rattle.std.proofs.Common.{◌≡◌, ℕ, ◌+◌, ◌-◌, Bool, true, false, ◌&&◌, leb, List, [], ◌∷◌, length, map, replicate, refl, sym, ap, ap₂, subst, ◌∙◌, arith}
+use Rattle.std.proofs.Common.{◌≡◌, ℕ, ◌+◌, ◌-◌, ◌^◌, ◌≤◌, Bool, true, false, ◌&&◌, leb, List, [], ◌∷◌, length, map, replicate, refl, sym, ap, ap₂, subst, ◌∙◌, arith}
 use Rattle.std.specs.List.{All}
 use Rattle.std.proofs.lemmas.Bool.{leb-true}
 use Rattle.std.proofs.lemmas.List.{length-map}
@@ -40,7 +40,7 @@ moved-ranks moved by s cells is r =
       rule = record {
         ascending = sheet.ascending;
         matched = sheet.matched;
-        few = sheet.few;
+        few = subst (λ k. k ≤ 2 ^ 32) count r.rule.few;
         each = subst (λ k. All (IsCell k) cells) count r.rule.each;
       };
       used = subst (λ k. AreUsed k cells) count r.used;

@@ -8,7 +8,7 @@ use Rattle.std.proofs.lemmas.List.{get_or-map, length-map}
 use Rattle.std.proofs.lemmas.List.Elements.{All-head, All-tail, All-nil, All-cons, Contains-append_left, Contains-append_right, Contains-append_cases, Contains-get_or}
 use Rattle.viz_fraction.specs.Points.{Point}
 use Rattle.viz_sheet.specs.Sheet.{AreApart}
-use Rattle.viz_sheet.specs.Ranked.{IsCell, AreCells, by_names, names_at}
+use Rattle.viz_sheet.specs.Ranked.{IsCell, AreCells, AreUsed, by_names, names_at}
 use Rattle.viz_sheet.specs.Kept.{kept, kept_rank, renumbered, AreMarks, AreSomeCells, IsCompacted}
 use Rattle.viz_sheet.proofs.KeptLemmas.{kept-at, rank-below, rank-from, kept-lengths, kept-sorted, rank-rises, kept-most}
 
@@ -89,23 +89,33 @@ contains-renumbered marks (c ∷ cs) r i =
     (λ h. Contains-append_right (map (kept_rank marks) c) (flat_map (λ cell. cell) (renumbered marks cs)) (kept_rank marks r) (contains-renumbered marks cs r h))
     (Contains-append_cases c (flat_map (λ cell. cell) cs) r i)
 
+-- each marked name is used
+pub compacted-used : (names cells : List (List ℕ)) (marks : List Bool) → AreMarks (length names) cells marks → AreUsed (length (kept marks names)) (renumbered marks cells)
+compacted-used names cells marks m k b =
+    let from = rank-from marks names k m.size b in
+    subst (Contains (flat_map (λ cell. cell) (renumbered marks cells))) from.2 (contains-renumbered marks cells from.0 ((m.each from.0).0 from.1))
+
+-- its cells are cells of the marked names
+pub compacted-cells : (names cells : List (List ℕ)) (marks : List Bool) → All (IsCell (length names)) cells → AreMarks (length names) cells marks → All (IsCell (length (kept marks names))) (renumbered marks cells)
+compacted-cells names cells marks h m = cells-renumbered names marks cells m.size (all_marked cells marks (λ r i. (m.each r).1 i)) h
+
+-- the cells by names are the same
+pub compacted-same : (names cells : List (List ℕ)) (marks : List Bool) → AreMarks (length names) cells marks → by_names (kept marks names) (renumbered marks cells) ≡ by_names names cells
+compacted-same names cells marks m = by_names-renumbered names marks cells m.size (all_marked cells marks (λ r i. (m.each r).1 i))
+
 pub compacted : (names : List (List ℕ)) (points : List Point) (cells : List (List ℕ)) (marks : List Bool) → AreCells names points cells → AreMarks (length names) cells marks → IsCompacted names points cells marks
-compacted names points cells marks h m =
-    let marked = all_marked cells marks (λ r i. (m.each r).1 i) in
-    record {
-      sheet = record {
-        rule = record {
-          ascending = kept-sorted (slice_cmp nat_cmp) marks names h.ascending;
-          matched = kept-lengths marks points names h.matched;
-          few = omega (arith, kept-most marks names, h.few);
-          each = cells-renumbered names marks cells m.size marked h.each;
-        };
-        used = λ k b.
-            let from = rank-from marks names k m.size b in
-            subst (Contains (flat_map (λ cell. cell) (renumbered marks cells))) from.2 (contains-renumbered marks cells from.0 ((m.each from.0).0 from.1));
-      };
-      same = by_names-renumbered names marks cells m.size marked;
-    }
+compacted names points cells marks h m = record {
+  sheet = record {
+    rule = record {
+      ascending = kept-sorted (slice_cmp nat_cmp) marks names h.ascending;
+      matched = kept-lengths marks points names h.matched;
+      few = omega (arith, kept-most marks names, h.few);
+      each = compacted-cells names cells marks h.each m;
+    };
+    used = compacted-used names cells marks m;
+  };
+  same = compacted-same names cells marks m;
+}
 
 -- what holds of all items holds of the marked ones
 kept-all : {X : Type 0} (P : X → Type 0) (marks : List Bool) (xs : List X) → All P xs → All P (kept marks xs)

@@ -6,7 +6,7 @@ use Rattle.std.proofs.lemmas.List.{get_or-map, length-map, get_or_default}
 use Rattle.std.proofs.lemmas.List.Elements.{All-head, All-tail, All-nil, All-cons, Contains-append_left, Contains-append_right, Contains-append_cases, Contains-get_or}
 use Rattle.viz_fraction.specs.Points.{Point}
 use Rattle.viz_sheet.specs.Sheet.{SheetData, IsSheet, IsNamedCell, AreApart, AreAscending}
-use Rattle.viz_sheet.specs.Ranked.{AreRanks, IsCell, by_names, names_at, rank_of}
+use Rattle.viz_sheet.specs.Ranked.{AreRanks, AreUsed, IsCell, by_names, names_at, rank_of}
 use Rattle.viz_sheet.proofs.MemberLemmas.{member_cases, same_from_members}
 use Rattle.viz_sheet.proofs.RankLemmas.{rank-at}
 
@@ -42,11 +42,11 @@ of_cells names (c ∷ cs) n h i =
     (Contains-append_cases (names_at names c) (flat_map (λ cell. cell) (by_names names cs)) n i)
 
 -- each name is that of a cell
-used_name : (names : List (List ℕ)) (points : List Point) (cells : List (List ℕ)) (n : List ℕ) → AreRanks names points cells → Contains names n → Contains (flat_map (λ cell. cell) (by_names names cells)) n
-used_name names points cells n h c =
+used_name : (names cells : List (List ℕ)) (n : List ℕ) → AreUsed (length names) cells → Contains names n → Contains (flat_map (λ cell. cell) (by_names names cells)) n
+used_name names cells n used c =
     subst (Contains (flat_map (λ cell. cell) (by_names names cells)))
     (get_or_default names c.0 [] n c.1 ∙ c.2)
-    (at_ranks names cells c.0 (h.used c.0 c.1))
+    (at_ranks names cells c.0 (used c.0 c.1))
 
 -- different ranks have different names
 apart-named : (names : List (List ℕ)) (cell : List ℕ) → AreAscending names → All (λ r. r < length names) cell → AreApart cell → AreApart (names_at names cell)
@@ -76,15 +76,19 @@ cells-named names (c ∷ cs) s h =
     (cell-named names c s (All-head (IsCell (length names)) c cs h))
     (cells-named names cs s (All-tail (IsCell (length names)) c cs h))
 
+-- cells by ranks of names that ascend, each used, are a sheet
+pub ranked_is-sheet : (names : List (List ℕ)) (points : List Point) (cells : List (List ℕ)) → AreAscending names → length points ≡ length names → All (IsCell (length names)) cells → AreUsed (length names) cells
+    → IsSheet (record { names = names; points = points; cells = by_names names cells })
+ranked_is-sheet names points cells ascending matched each used = record {
+  ascending = ascending;
+  matched = matched;
+  each = cells-named names cells ascending each;
+  used = λ n. (used_name names cells n used, of_cells names cells n each);
+}
+
 -- the rule by ranks is that of a sheet
 pub is_sheet : (names : List (List ℕ)) (points : List Point) (cells : List (List ℕ)) → AreRanks names points cells → IsSheet (record { names = names; points = points; cells = by_names names cells })
-is_sheet names points cells h = record {
-  ascending = h.rule.ascending;
-  matched = h.rule.matched;
-  few = h.rule.few;
-  each = cells-named names cells h.rule.ascending h.rule.each;
-  used = λ n. (used_name names points cells n h, of_cells names cells n h.rule.each);
-}
+is_sheet names points cells h = ranked_is-sheet names points cells h.rule.ascending h.rule.matched h.rule.each h.used
 
 -- sheets with equal cells have equal names
 pub same_names : (s t : SheetData) → IsSheet s → IsSheet t → s.cells ≡ t.cells → s.names ≡ t.names

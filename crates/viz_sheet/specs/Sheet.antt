@@ -1,5 +1,5 @@
 -- Sheets: cells by the names of their points, where VTK has point ids (VTK User's Guide, "Simple legacy formats").
-use Rattle.std.specs.Prelude.{◌≡◌, ◌≢◌, ◌↔◌, ℕ, ◌<◌, ◌≤◌, ◌^◌, ◌==◌, if◌then◌else◌, List, [], ◌∷◌, length, All, Contains, slice_index_or}
+use Rattle.std.specs.Prelude.{◌≡◌, ◌≢◌, ◌↔◌, ℕ, ◌<◌, ◌≤◌, ◌==◌, if◌then◌else◌, List, [], ◌∷◌, length, All, Contains, slice_index_or}
 use Rattle.std.specs.List.{flat_map}
 use Rattle.std.specs.List.Sorted.{IsStrictlySortedBy}
 use Rattle.std.specs.Cmp.Lexicographic.{slice_cmp}
@@ -31,7 +31,6 @@ pub record IsNamedCell (cell : List (List ℕ)) : Type 0 where
 pub record IsSheet (s : SheetData) : Type 0 where
   pub ascending : AreAscending s.names
   pub matched : length s.points ≡ length s.names
-  pub few : length s.names ≤ 2 ^ 32
   pub each : All IsNamedCell s.cells
   pub used : (n : List ℕ) → Contains s.names n ↔ Contains (flat_map (λ cell. cell) s.cells) n
 

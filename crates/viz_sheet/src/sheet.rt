@@ -57,6 +57,7 @@ impl Sheet {
     /// Says the rule of a sheet to a caller's proof; it does nothing.
     pub fn known(&self)
         ensures valid { IsSheet self.now }
+        ensures few { length self.now.names ≤ 2 ^ 32 }
     {
         let _leaves = &self.leaves;
     }

@@ -14,7 +14,7 @@ smooth-requires-clause-whole c = own_part c.extent-whole.result
 
 pub smooth-requires-clause-within : goal.smooth-requires-clause-within
 smooth-requires-clause-within c =
-    subst (λ b. IsPart b (grown c.within.result c.extent-whole.result c.extent-whole.result)) c.extent-whole.ensures.value (grown_part c.within.result c.extent-whole.result)
+    subst (λ b. IsPart b (grown c.radius_with.result c.extent-whole.result c.extent-whole.result)) c.extent-whole.ensures.value (grown_part c.radius_with.result c.extent-whole.result)
 
 pub returns-clause-value : goal.returns-clause-value
 returns-clause-value c =
@@ -24,8 +24,8 @@ returns-clause-value c =
     let same = c.extent-whole.ensures.value in
     let filter = smooth_of (radius_with c.args.radius) in
     let on = c.in_ok-smooth.ensures.value (whole_of i) (on_itself i c.extent-whole.ensures.valid) in
-    let on-whole = subst (λ b. IsOn (smooth_within c.within.result b (whole_of i)) whole o) same on in
-    let on-radius = subst (λ r. IsOn (smooth_within r i.extent (whole_of i)) whole o) c.within.ensures on-whole in
+    let on-whole = subst (λ b. IsOn (smooth_within c.radius_with.result b (whole_of i)) whole o) same on in
+    let on-radius = subst (λ r. IsOn (smooth_within r i.extent (whole_of i)) whole o) c.radius_with.ensures on-whole in
     subst (λ d. IsFromOne (λ g. Ok g) filter d (Ok c.whole_image.result)) (sym c.in_ok-image.ensures.value)
     (subst (λ r. IsFromOne (λ g. Ok g) filter (Some (Image i)) (Ok r)) (sym c.whole_image.ensures.value)
     (one_on filter i o whole (sym same) on-radius))

@@ -10,13 +10,14 @@ use std::alloc::{AllocError, Global};
 use viz_fraction::Form;
 use viz_kinds::Op;
 
+// A number of a parameter, or the nearer end of the parameter's range.
 fn within(least: u32, most: u32, n: u32) -> u32
     ensures { result ≡ within least most n }
 {
     least.max(most.min(n))
 }
 
-/// The rate of a sample.
+/// The rate of a sample, each from 1 to 1,024.
 pub fn rate_with(x: u32, y: u32, z: u32) -> [u32; 3]
     ensures value { rate_of result ≡ rate_with x y z }
     ensures valid { IsRate (rate_of result) }
@@ -24,14 +25,14 @@ pub fn rate_with(x: u32, y: u32, z: u32) -> [u32; 3]
     [within(1, 1024, x), within(1, 1024, y), within(1, 1024, z)]
 }
 
-/// The radius of a mean.
+/// The radius of a mean, at most 8.
 pub fn radius_with(radius: u32) -> u32
     ensures { result ≡ radius_with radius }
 {
     within(0, 8, radius)
 }
 
-/// The decimals of a file's coordinates.
+/// The decimals of a file's coordinates, at most 9.
 pub fn unit_with(unit: u8) -> u8
     ensures value { result ≡ unit_with unit }
     ensures most { result ≤ 9 }
@@ -64,6 +65,7 @@ pub fn plane_form(a: &i64, b: &i64, c: &i64, r: &i64) -> Form
     }
 }
 
+// The form of a contour: how far the scalar lies above the level.
 fn contour_form(level: &i64) -> Form
     ensures { result ≡ contour_form level.now }
 {
@@ -76,7 +78,8 @@ fn contour_form(level: &i64) -> Form
     }
 }
 
-fn forms_of(alloc: Global, levels: &[i64]) -> Result<Vec<Form>, AllocError>
+/// The form of a contour at each level.
+pub fn forms_of(alloc: Global, levels: &[i64]) -> Result<Vec<Form>, AllocError>
     ensures { IfOk result (λ forms. forms.items ≡ map contour_form levels.now) }
 {
     let mut forms = Vec::with_capacity(alloc, levels.len())?;
@@ -86,7 +89,8 @@ fn forms_of(alloc: Global, levels: &[i64]) -> Result<Vec<Form>, AllocError>
     Ok(forms)
 }
 
-fn first_levels(count: u8, levels: &[i64; 8]) -> &[i64]
+/// The first levels of eight.
+pub fn first_levels(count: u8, levels: &[i64; 8]) -> &[i64]
     ensures { result.now ≡ take (min count 8) levels.now }
 {
     if count < 8 {
