@@ -233,7 +233,7 @@ def check_contour():
 def check_scripts():
     """The script of two levels, a row of tests whose file has another name, and that of two actors,
     a worked row."""
-    tests = "crates/viz_session/src/tests"
+    tests = "crates/viz_session_tests/src/tests"
     pages = [text(tests + end) for end in (".rt", "/failing.rt", "/scratch.rt")]
     levels, whole, again = (constant(page, name) for page, name in
                             zip(pages, ("LEVELS", "WHOLE", "AGAIN")))

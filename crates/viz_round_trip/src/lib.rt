@@ -12,6 +12,3 @@ mod meshes;
 
 pub use images::{moved_points_stay, nothing_else_is_read, written_images_are_read_again};
 pub use meshes::{no_other_mesh_is_read, written_meshes_are_read_again, written_types_are_wanted};
-
-#[cfg(test)]
-mod tests;

@@ -12,6 +12,3 @@ mod usage;
 pub use session::run;
 pub use viz_actor::{Answer, AuditAnswer, audit_node, update};
 pub use viz_told::Status;
-
-#[cfg(test)]
-mod tests;

@@ -6,13 +6,13 @@ mod failing;
 mod scratch;
 mod volumes;
 
-use crate::{Status, run};
 use std::alloc::Global;
 use std::process::Abort;
 use std::sync::Wait;
 use std::test::Fail;
 use std::thread::Threads;
 use viz_base::{Bytes, FILE_LIMIT, FailAt, FileEntry, MemoryOut, MemoryPort, OpenGate, Word};
+use viz_session::{Status, run};
 
 /// An image of 2 x 2 x 2 points, all 0 but the last, which is 9.
 const CORNER: &str = "# vtk DataFile Version 5.1

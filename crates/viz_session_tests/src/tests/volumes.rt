@@ -1,12 +1,22 @@
 //! The bounds of numbers in words of a command.
 
 use super::*;
-use crate::command::read_command;
+
+// Whether the words are those of a command.
+fn is_command<R: Threads + Wait + Sync + Abort>(
+    rt: &R,
+    alloc: Global,
+    line: &str,
+) -> Result<bool, Fail> {
+    let first = MemoryPort::new(alloc, Vec::new(alloc), FILE_LIMIT, Vec::new(alloc));
+    let left = run_over(rt, alloc, line, b"", first)?;
+    Ok(left.status != Status::Usage)
+}
 
 #[test]
 fn a_volume_has_bounds(rt: HostRuntime) -> Result<(), Fail> {
     let alloc = rt.alloc();
-    for (line, is_command) in [
+    for (line, is) in [
         ("make 2147483647 1 1 1 v.vtk", true),
         ("make 2147483648 1 1 1 v.vtk", false),
         ("make -1 1 1 1 v.vtk", false),
@@ -19,8 +29,7 @@ fn a_volume_has_bounds(rt: HostRuntime) -> Result<(), Fail> {
         ("scratch j 65536 iso o.vtk", true),
         ("scratch j 65537 iso o.vtk", false),
     ] {
-        let words = words(alloc, line)?;
-        assert_eq!(rt; read_command(&words).is_some(), is_command, "{line}");
+        assert!(rt; is_command(&rt, alloc, line)? == is, "{line}");
     }
     Ok(())
 }

@@ -1,6 +1,5 @@
 //! Meshes that are written and read again; what is wanted was counted by hand.
 
-use crate::{no_other_mesh_is_read, written_meshes_are_read_again, written_types_are_wanted};
 use std::alloc::Global;
 use std::process::Abort;
 use std::test::Fail;
@@ -10,6 +9,9 @@ use viz_fraction::{Point5, point};
 use viz_image_write::Style;
 use viz_legacy_read::read;
 use viz_mesh_write::write_mesh;
+use viz_round_trip::{
+    no_other_mesh_is_read, written_meshes_are_read_again, written_types_are_wanted,
+};
 use viz_sheet::{Leaves, Mesh, Mixed, Places, Ranks, Sheet, are_cells, sheet_of};
 
 /// Five thirds and the like, which a tenth doesn't divide, and whole points; the last number is the

@@ -1,0 +1,5 @@
+//! Runs of commands over files in memory, by hand: tests alone.
+#![tactic(auto)]
+
+#[cfg(test)]
+mod tests;
