@@ -42,6 +42,7 @@ use Rattle.viz_node_division.specs.Divided.{
   turn_of,
   wholes,
 }
+use Rattle.viz_node_division.specs.Exact.{IsExactSectionOf}
 use Rattle.viz_node_division.proofs.DividedLemmas.{shared_as}
 use Rattle.viz_node_division.proofs.RowLemmas.{
   IsOk,
@@ -50,12 +51,12 @@ use Rattle.viz_node_division.proofs.RowLemmas.{
   of_image,
   of_mesh,
   row_made,
+  sections_made,
   whole_at,
 }
 use Rattle.viz_node_meaning.specs.Data.{
   AreTetrahedra,
   IsOfMesh,
-  IsSectionOf,
   contour_forms,
   cut_forms,
   merge_of,
@@ -145,7 +146,7 @@ module _ (make : List SheetData → List SheetData) (hand : List SheetData → O
 pub select_answers : SelectionAnswers
 select_answers all lo hi first made m p n ghosts input part is h =
     let s = settings.Select lo hi all in
-    let row = row_made s m.inputs made.whole m.made_of.evaluated in
+    let row = row_made s m.inputs made.whole m.made_of.exact in
     let whole =
     of_mesh (selections all lo hi) first.whole made.whole
     (subst (λ o. IsOfMesh (selections all lo hi) o (Ok made.whole))
@@ -157,7 +158,7 @@ select_answers all lo hi first made m p n ghosts input part is h =
 
 pub boundary_answers : BoundaryAnswers
 boundary_answers first made m p n ghosts input part is h =
-    let row = row_made settings.Boundary m.inputs made.whole m.made_of.evaluated in
+    let row = row_made settings.Boundary m.inputs made.whole m.made_of.exact in
     let whole =
     of_mesh boundaries first.whole made.whole
     (subst (λ o. IsOfMesh boundaries o (Ok made.whole))
@@ -174,13 +175,13 @@ record IsSectionMade (forms : List Form) (first made : Divided) : Type 0 where
   division : made.division ≡ handed_at (section_owns forms) (Some first)
 
 section_from : (forms : List Form) (inputs : Inputs Divided) (first made : Divided)
-    → fed_at 1 inputs ≡ Some first → IsSectionOf forms (fed_at 1 (wholes inputs)) (Ok made.whole)
+    → fed_at 1 inputs ≡ Some first → IsExactSectionOf forms (fed_at 1 (wholes inputs)) (Ok made.whole)
     → made.division ≡ handed_at (section_owns forms) (fed_at 1 inputs)
     → IsSectionMade forms first made
 section_from forms inputs first made fed row shared = record {
   whole =
       of_either forms first.whole made.whole
-      (subst (λ o. IsSectionOf forms o (Ok made.whole)) (first_is inputs first fed) row);
+      (subst (λ o. IsExactSectionOf forms o (Ok made.whole)) (first_is inputs first fed) row);
   division = shared ∙ ap (handed_at (section_owns forms)) fed;
 }
 
@@ -195,12 +196,13 @@ section_made : (s : Settings) (forms : List Form) (first made : Divided) → for
 section_made (settings.Contour count levels) forms first made e m =
     same_forms (contour_forms count levels) forms first made e
     (section_from (contour_forms count levels) m.inputs first made m.fed
-    (row_made
-    (settings.Contour count levels) m.inputs made.whole m.made_of.evaluated) m.made_of.divided)
+    (sections_made (settings.Contour count levels)
+    (contour_forms count levels) m.inputs made.whole m.made_of.exact) m.made_of.divided)
 section_made (settings.Cut a b c r) forms first made e m =
     same_forms (cut_forms a b c r) forms first made e
     (section_from (cut_forms a b c r) m.inputs first made m.fed
-    (row_made (settings.Cut a b c r) m.inputs made.whole m.made_of.evaluated) m.made_of.divided)
+    (sections_made (settings.Cut a b c r)
+    (cut_forms a b c r) m.inputs made.whole m.made_of.exact) m.made_of.divided)
 section_made (settings.File array unit) forms first made e m = let bad : ⊥ = cc in absurd bad
 section_made (settings.Crop x0 x1 y0 y1 z0 z1) forms first made e m =
     let bad : ⊥ = cc in absurd bad
@@ -232,7 +234,7 @@ image_whole image first b block w h = subst (λ z. IsAnswer z first.division b (
 
 pub tets_answer : TetsAnswer
 tets_answer image first made w m p n ghosts block part is h =
-    let row = row_made settings.Tets m.inputs made.whole m.made_of.evaluated in
+    let row = row_made settings.Tets m.inputs made.whole m.made_of.exact in
     let whole =
     of_image first.whole made.whole
     (subst (λ o. AreTetrahedra o (Ok made.whole)) (first_is m.inputs first m.fed) row) in
@@ -315,7 +317,7 @@ append_answers file inputs made m p n ghosts parts part less is h =
     let meshes = meshes_in (wholes inputs) in
     let t = of_meshes inputs p n ghosts parts h in
     let row : IsOk (Ok made.whole) (dataset.Mesh (appended meshes)) =
-    row_made settings.Append inputs made.whole m.evaluated in
+    row_made settings.Append inputs made.whole m.exact in
     let same : dataset.Mesh (appended meshes) ≡ made.whole = cc in
     as_made (appended meshes)
     (appended_division (divisions_in inputs)) made same m.divided p n ghosts part
@@ -337,14 +339,14 @@ merge_part (dataset.Mesh sheets) division made ghosts input part row turn shares
 
 pub merge_answers : MergeAnswers
 merge_answers first made m shares ghosts input part is h =
-    let row = row_made settings.Merge m.inputs made.whole m.made_of.evaluated in
+    let row = row_made settings.Merge m.inputs made.whole m.made_of.exact in
     merge_part first.whole first.division made ghosts input part
     (subst (λ o. IsOfMesh merge_of o (Ok made.whole))
     (first_is m.inputs first m.fed) row) m.made_of.divided shares is h
 
 pub writer_answers : WriterAnswers
 writer_answers binary digits first made m request part h =
-    let row = row_made (settings.Writer binary digits) m.inputs made.whole m.made_of.evaluated in
+    let row = row_made (settings.Writer binary digits) m.inputs made.whole m.made_of.exact in
     let same : first.whole ≡ made.whole =
     let at : Some first.whole ≡ Some row.0 = sym (first_is m.inputs first m.fed) ∙ row.1 in
     let given = row.2 in

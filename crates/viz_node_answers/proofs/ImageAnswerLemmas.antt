@@ -120,22 +120,22 @@ image_made (settings.Crop x0 x1 y0 y1 z0 z1) filter whole first made e is m =
     let s = settings.Crop x0 x1 y0 y1 z0 z1 in
     by_filter (crop_of (box_with x0 x1 y0 y1 z0 z1)) filter (whole_of whole) made.whole e
     (of_first (crop_of (box_with x0 x1 y0 y1 z0 z1)) whole s first made m is
-    (row_made s m.inputs made.whole m.made_of.evaluated))
+    (row_made s m.inputs made.whole m.made_of.exact))
 image_made (settings.Sample x y z) filter whole first made e is m =
     let s = settings.Sample x y z in
     by_filter (sample_of (rate_with x y z)) filter (whole_of whole) made.whole e
     (of_first (sample_of (rate_with x y z)) whole s first made m is
-    (row_made s m.inputs made.whole m.made_of.evaluated))
+    (row_made s m.inputs made.whole m.made_of.exact))
 image_made (settings.Threshold lo hi) filter whole first made e is m =
     let s = settings.Threshold lo hi in
     by_filter (threshold_of lo hi) filter (whole_of whole) made.whole e
     (of_first (threshold_of lo hi) whole s first made m is
-    (row_made s m.inputs made.whole m.made_of.evaluated))
+    (row_made s m.inputs made.whole m.made_of.exact))
 image_made (settings.Smooth radius) filter whole first made e is m =
     let s = settings.Smooth radius in
     by_filter (smooth_within (radius_with radius) whole.extent) filter (whole_of whole) made.whole e
     (of_first (smooth_of (radius_with radius)) whole s first made m is
-    (row_made s m.inputs made.whole m.made_of.evaluated))
+    (row_made s m.inputs made.whole m.made_of.exact))
 image_made _ filter whole first made e is m = let bad : ⊥ = cc in absurd bad
 
 pub block_answers : BlockAnswers
@@ -158,7 +158,7 @@ of_both filter a b made x y is are row =
 pub arith_answers : ArithAnswers
 arith_answers op a b first second made is are m asked also out input other image lies gives h t =
     let filter = arith_of (op_with op) in
-    let row = row_made (settings.Arith op) m.inputs made.whole m.made_of.evaluated in
+    let row = row_made (settings.Arith op) m.inputs made.whole m.made_of.exact in
     let whole =
     of_both filter a b made.whole (fed_at 1 (wholes m.inputs)) (fed_at 2 (wholes m.inputs))
     (first_image m.inputs first a m.fed_first is)

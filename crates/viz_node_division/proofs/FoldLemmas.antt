@@ -59,6 +59,62 @@ module _ {X : Type 0} (rule : NodeRule X) (P : X
   value_has None x g = absurd g
   value_has (Some t) x g = made_has t.0 g.0 (Ok x) (given_has t.1 g.0 g.1) g.2
 
+-- ---- of another rule
+
+-- where a rule makes what another one makes, it gives what that one gives
+module _ {X : Type 0} (rule more : NodeRule X) (also : (n : Node) (inputs : Inputs X) (x : X)
+    → rule n inputs (Ok x) → more n inputs (Ok x)) where
+  own_also : (n : Node) (inputs : Inputs X) (r : Result X Cause) (x : X) → rule n inputs r
+      → Ok x ≡ at_node n r → more n inputs (Ok x)
+  own_also n inputs (Ok y) x m e =
+      let same : y ≡ x = cc in
+      also n inputs x (subst (λ z. rule n inputs (Ok z)) same m)
+  own_also n inputs (Err cause) x m e = let bad : ⊥ = cc in absurd bad
+
+  made_also : (n : Node) (inputs : Result (Inputs X) Fault) (x : X) → IsMade rule n inputs (Ok x)
+      → (xs : Inputs X) × (inputs ≡ Ok xs) × IsMade more n (Ok xs) (Ok x)
+  made_also n (Ok xs) x m = (xs, refl, (Ok x, own_also n xs m.0 x m.1 m.2, refl))
+  made_also n (Err fault) x m = let bad : ⊥ = cc in absurd bad
+
+  rest_also : (rest : Result (Inputs X) Fault) (xs : Inputs X) → Ok xs ≡ joined (Ok None) rest
+      → (ys : Inputs X) × (rest ≡ Ok ys) × (Ok xs ≡ joined (Ok None) (Ok ys))
+  rest_also (Ok ys) xs e = (ys, refl, e)
+  rest_also (Err fault) xs e = let bad : ⊥ = cc in absurd bad
+
+  both_also : (value : Result X Fault) (rest : Result (Inputs X) Fault) (xs : Inputs X)
+      → Ok xs ≡ joined (filled value) rest
+      → (x : X) × (ys : Inputs X) × (value ≡ Ok x) × (rest ≡ Ok ys)
+  both_also (Ok x) (Ok ys) xs e = (x, ys, refl, refl)
+  both_also (Ok x) (Err fault) xs e = let bad : ⊥ = cc in absurd bad
+  both_also (Err fault) rest xs e = let bad : ⊥ = cc in absurd bad
+
+  given_also : (cone : Cone) (all : Result (Inputs X) Fault) (xs : Inputs X) → all ≡ Ok xs
+      → AreGiven rule cone all → AreGiven more cone all
+  given_also none all xs e g = g
+  given_also (empty others) all xs e g =
+      let r = rest_also g.0 xs (sym e ∙ g.2) in
+      (g.0, given_also others g.0 r.0 r.1 g.1, g.2)
+  given_also (fed n own others) all xs e g =
+      let b = both_also g.1 g.2 xs (sym e ∙ g.6) in
+      let m = made_also n g.0 b.0 (subst (IsMade rule n g.0) b.2 g.4) in (
+        g.0,
+        g.1,
+        g.2,
+        given_also own g.0 m.0 m.1 g.3,
+        subst (λ v. IsMade more n g.0 v) (sym b.2) (subst (λ i. IsMade more n i (Ok b.0)) (sym m.1) m.2),
+        given_also others g.2 b.1 b.3 g.5,
+        g.6,
+      )
+
+  pub value_also : (t : Option Tree) (x : X) → IsGiven rule t (Ok x) → IsGiven more t (Ok x)
+  value_also None x g = absurd g
+  value_also (Some t) x g =
+      let m = made_also t.0 g.0 x g.2 in (
+        g.0,
+        given_also t.1 g.0 m.0 m.1 g.1,
+        subst (λ i. IsMade more t.0 i (Ok x)) (sym m.1) m.2,
+      )
+
 -- ---- a part of each value
 
 abbrev pub part_in : {X Y F : Type 0} → (Y → X) → Result Y F → Result X F

@@ -1,3 +1,4 @@
+pub mod ExactLemmas
 pub mod FoldLemmas
 pub mod DividedLemmas
 pub mod PortLemmas

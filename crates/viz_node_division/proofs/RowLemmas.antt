@@ -13,7 +13,6 @@ use Rattle.viz_node_meaning.specs.Data.{
   IsFiltered,
   IsMadeWith,
   IsOfMesh,
-  IsSectionOf,
   all_information,
 }
 use Rattle.viz_node_meaning.specs.Information.{fed_at, filter_information}
@@ -21,6 +20,7 @@ use Rattle.viz_node_meaning.specs.Rules.{Inputs}
 use Rattle.viz_node_meaning.specs.declared.information.Information.{Information}
 use Rattle.viz_sheet.specs.Sheet.{SheetData}
 use Rattle.viz_node_division.specs.Divided.{Divided, wholes}
+use Rattle.viz_node_division.specs.Exact.{IsExactSectionOf}
 
 -- ---- the first port
 
@@ -45,9 +45,9 @@ pub of_image : (d w : Dataset) → AreTetrahedra (Some d) (Ok w) → Mesh (sheet
 of_image (Image i) w m = let same : Mesh (tetrahedra_sheet i ∷ []) ≡ w = cc in same
 of_image (Mesh sheets) w m = absurd m
 
-pub of_either : (forms : List Form) (d w : Dataset) → IsSectionOf forms (Some d) (Ok w)
+pub of_either : (forms : List Form) (d w : Dataset) → IsExactSectionOf forms (Some d) (Ok w)
     → Mesh (sections_of forms (sheets_of d)) ≡ w
-of_either forms d w m = sym m.1
+of_either forms d w m = sym m
 
 pub made_with : (i : Result Information Cause) (P : Result Dataset Cause → Type 0) (w : Dataset)
     → IsMadeWith i P (Ok w) → P (Ok w)
@@ -62,3 +62,12 @@ pub row_made : (s : Settings) (inputs : Inputs Divided) (w : Dataset)
 row_made s inputs w m =
     made_with (filter_information s (all_information (wholes inputs)))
     (IsFiltered s (wholes inputs)) w m
+
+-- what a row of sections makes of the dataset at the first port
+pub sections_made : (s : Settings) (forms : List Form) (inputs : Inputs Divided) (w : Dataset)
+    → IsMadeWith (filter_information s (all_information (wholes inputs)))
+    (IsExactSectionOf forms (fed_at 1 (wholes inputs))) (Ok w)
+    → IsExactSectionOf forms (fed_at 1 (wholes inputs)) (Ok w)
+sections_made s forms inputs w m =
+    made_with (filter_information s (all_information (wholes inputs)))
+    (IsExactSectionOf forms (fed_at 1 (wholes inputs))) w m

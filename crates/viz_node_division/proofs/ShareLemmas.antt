@@ -46,9 +46,7 @@ use Rattle.viz_mesh_meaning.specs.Select.{selections}
 use Rattle.viz_network.specs.declared.node.Node.{Node}
 use Rattle.viz_node_meaning.specs.Data.{
   AreTetrahedra,
-  IsEvaluated,
   IsOfMesh,
-  IsSectionOf,
   contour_forms,
   cut_forms,
   meshes_in,
@@ -78,6 +76,7 @@ use Rattle.viz_piece_layers.proofs.PieceLemmas.{owns_within}
 use Rattle.viz_piece_tets.specs.Tets.{by_layers}
 use Rattle.viz_sheet.specs.Sheet.{SheetData}
 use Rattle.viz_node_division.specs.Divided.{Divided, DividedRule, division_at, division_of, divisions_in, handed_at, mesh_division, sheets_at, sheets_division, turn_of, wholes}
+use Rattle.viz_node_division.specs.Exact.{IsExact, IsExactSectionOf}
 use Rattle.viz_node_division.specs.Laws.{DivisionsMarkCells, DivisionsShareOut, OnlyPieceOwnsAll}
 use Rattle.viz_node_division.specs.Shares.{MarksCells}
 use Rattle.viz_node_division.proofs.DividedLemmas.{shared_as}
@@ -89,6 +88,7 @@ use Rattle.viz_node_division.proofs.RowLemmas.{
   of_image,
   of_mesh,
   row_made,
+  sections_made,
   whole_at,
 }
 use Rattle.viz_node_division.proofs.MarkLemmas.{
@@ -154,17 +154,17 @@ module _ (forms : List Form) (keeps : (sheets : List SheetData) (division : Divi
     → Shares (sections_of forms sheets)
     (handed_division (section_owns forms) sheets division)) where
   section_port : (port : Option Divided) (w : Dataset) → PortShared port
-      → IsSectionOf forms (whole_at port) (Ok w) → IsShared w (handed_at (section_owns forms) port)
+      → IsExactSectionOf forms (whole_at port) (Ok w) → IsShared w (handed_at (section_owns forms) port)
   section_port None w h m = absurd m
   section_port (Some d) w h m =
       handed (sections_of forms) (section_owns forms) keeps d w h (of_either forms d.whole w m)
 
   section_row : (inputs : Inputs Divided) (w : Dataset) → OfAll HasShares inputs
-      → IsSectionOf forms (fed_at 1 (wholes inputs)) (Ok w)
+      → IsExactSectionOf forms (fed_at 1 (wholes inputs)) (Ok w)
       → IsShared w (handed_at (section_owns forms) (fed_at 1 inputs))
   section_row inputs w h m =
       section_port (fed_at 1 inputs) w (first_shared inputs h)
-      (subst (λ o. IsSectionOf forms o (Ok w)) (first_whole inputs) m)
+      (subst (λ o. IsExactSectionOf forms o (Ok w)) (first_whole inputs) m)
 
 tets_port : (port : Option Divided) (w : Dataset) → PortShared port
     → AreTetrahedra (whole_at port) (Ok w) → IsShared w (sheets_at port)
@@ -331,7 +331,7 @@ module _ (turn : TurnSharesOut) (selection : SelectionsShareOut) (section : Sect
       subst (λ z. IsShared z (appended_division (divisions_in inputs))) same shares
 
   row_shared : (s : Settings) (file : Option (List ℕ)) (inputs : Inputs Divided) (w : Dataset)
-      → OfAll HasShares inputs → IsEvaluated s file (wholes inputs) (Ok w)
+      → OfAll HasShares inputs → IsExact s file (wholes inputs) (Ok w)
       → IsShared w (division_of s inputs w)
   row_shared (settings.File array unit) file inputs w h m = row_turned w
   row_shared (settings.Crop x0 x1 y0 y1 z0 z1) file inputs w h m = row_turned w
@@ -347,10 +347,10 @@ module _ (turn : TurnSharesOut) (selection : SelectionsShareOut) (section : Sect
   row_shared (settings.Contour count levels) file inputs w h m =
       section_row (contour_forms count levels)
       (keeps_sections (contour_forms count levels)) inputs w h
-      (row_made (settings.Contour count levels) inputs w m)
+      (sections_made (settings.Contour count levels) (contour_forms count levels) inputs w m)
   row_shared (settings.Cut a b c r) file inputs w h m =
       section_row (cut_forms a b c r) (keeps_sections (cut_forms a b c r)) inputs w h
-      (row_made (settings.Cut a b c r) inputs w m)
+      (sections_made (settings.Cut a b c r) (cut_forms a b c r) inputs w m)
   row_shared settings.Append file inputs w h m =
       append_row inputs w h (row_made settings.Append inputs w m)
   row_shared settings.Boundary file inputs w h m =
@@ -365,7 +365,7 @@ module _ (turn : TurnSharesOut) (selection : SelectionsShareOut) (section : Sect
       → DividedRule n inputs (Ok d) → HasShares d
   node_shared n inputs d h m =
       subst (IsShared d.whole) (sym m.divided)
-      (row_shared n.settings n.file inputs d.whole h m.evaluated)
+      (row_shared n.settings n.file inputs d.whole h m.exact)
 
   pub all_shared : DivisionsShareOut
   all_shared cone sheets division d n some =

@@ -7,7 +7,7 @@ use Rattle.viz_kinds.specs.declared.settings.Settings.{Settings}
 use Rattle.viz_kinds.specs.declared.settings.Settings.TheVariants as settings
 use Rattle.viz_meaning.specs.Tetrahedra.{sheets_of}
 use Rattle.viz_network.specs.Cone.{Tree}
-use Rattle.viz_node_meaning.specs.Data.{IsEvaluated, contour_forms, cut_forms}
+use Rattle.viz_node_meaning.specs.Data.{contour_forms, cut_forms}
 use Rattle.viz_node_meaning.specs.Fold.{IsGiven}
 use Rattle.viz_node_meaning.specs.Information.{fed_at}
 use Rattle.viz_node_meaning.specs.Rules.{Inputs, NodeRule}
@@ -22,6 +22,7 @@ use Rattle.viz_piece_divisions.specs.Divisions.{
 }
 use Rattle.viz_piece_tets.specs.Tets.{by_layers}
 use Rattle.viz_sheet.specs.Sheet.{SheetData}
+use Rattle.viz_node_division.specs.Exact.{IsExact}
 
 -- a dataset, and how it is shared out
 pub record Divided : Type 0 where
@@ -94,17 +95,18 @@ division_of (settings.Writer binary digits) inputs made = division_at (fed_at 1 
 
 -- ---- nodes
 
--- what a node with these parameters and this file makes of what is at its ports
+-- what a node with these parameters and this file makes of what is at its ports, in whole numbers
+-- without bound
 pub record IsMadeOf (s : Settings) (file : Option (List ℕ)) (inputs : Inputs Divided)
     (made : Divided) : Type 0 where
-  pub evaluated : IsEvaluated s file (wholes inputs) (Ok made.whole)
+  pub exact : IsExact s file (wholes inputs) (Ok made.whole)
   pub divided : made.division ≡ division_of s inputs made.whole
 
--- the rule of a node for datasets with their divisions: that of datasets, and the division
+-- the rule of a node for datasets with their divisions: the exact one of datasets, and the division
 abbrev pub DividedRule : NodeRule Divided
 DividedRule n inputs (Ok made) = IsMadeOf n.settings n.file inputs made
-DividedRule n inputs (Err cause) = IsEvaluated n.settings n.file (wholes inputs) (Err cause)
+DividedRule n inputs (Err cause) = IsExact n.settings n.file (wholes inputs) (Err cause)
 
--- what the node at the foot of a cone gives, and how it is shared out
+-- what the node at the foot of a cone gives in whole numbers without bound, and how it is shared out
 pub record IsDivided (cone : Option Tree) (whole : Dataset) (division : Division) : Type 0 where
   pub given : IsGiven DividedRule cone (Ok (record { whole = whole; division = division }))

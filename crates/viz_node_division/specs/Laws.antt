@@ -11,6 +11,7 @@ use Rattle.viz_node_meaning.specs.Scratch.{IsScratchOf}
 use Rattle.viz_parts.specs.Pieces.{Division, SharesOut}
 use Rattle.viz_sheet.specs.Sheet.{SheetData}
 use Rattle.viz_node_division.specs.Divided.{Divided, IsDivided, IsMadeOf}
+use Rattle.viz_node_division.specs.Exact.{ExactRule}
 use Rattle.viz_node_division.specs.Shares.{MarksCells, all_own}
 
 -- ---- one division for each dataset
@@ -21,11 +22,23 @@ DatasetsAreDivided =
     (cone : Option Tree) (whole : Dataset) → IsScratchOf cone (Ok whole)
     → (division : Division) × IsDivided cone whole division
 
--- what is shared out is what the data give
-abbrev pub DividedAreGiven : Type 0
-DividedAreGiven =
+-- what is shared out is what the exact rule gives
+abbrev pub DividedAreExact : Type 0
+DividedAreExact =
     (cone : Option Tree) (whole : Dataset) (division : Division)
-    → IsDivided cone whole division → IsGiven DataRule cone (Ok whole)
+    → IsDivided cone whole division → IsGiven ExactRule cone (Ok whole)
+
+-- where no number is wide, the data are those of the exact rule
+abbrev pub DataAreExact : Type 0
+DataAreExact =
+    (cone : Option Tree) (whole : Dataset) → IsGiven DataRule cone (Ok whole)
+    → IsGiven ExactRule cone (Ok whole)
+
+-- what the exact rule gives is shared out somehow
+abbrev pub ExactAreDivided : Type 0
+ExactAreDivided =
+    (cone : Option Tree) (whole : Dataset) → IsGiven ExactRule cone (Ok whole)
+    → (division : Division) × IsDivided cone whole division
 
 -- equal cones give one dataset with one division
 abbrev pub DivisionsAreOne : Type 0

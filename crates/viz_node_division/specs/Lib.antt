@@ -1,3 +1,4 @@
+pub mod Exact
 pub mod Divided
 pub mod Shares
 pub mod Laws

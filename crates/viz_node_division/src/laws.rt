@@ -1,12 +1,14 @@
 //! Laws of the divisions of what nodes give. A function that calls one may rest on it.
 
 ghost use Rattle.viz_node_division.specs.Laws.{
+  DataAreExact,
   DatasetsAreDivided,
-  DividedAreGiven,
+  DividedAreExact,
   DividedByPorts,
   DivisionsAreOne,
   DivisionsMarkCells,
   DivisionsShareOut,
+  ExactAreDivided,
   OnlyPieceOwnsAll,
 };
 
@@ -14,10 +16,12 @@ use viz_node_meaning::rules_are_one;
 use viz_piece_divisions::made_is_shared_out;
 use viz_piece_layers::pieces_are_parts;
 
-/// What a node gives from scratch has a division, and only one.
+/// What a node gives from scratch, or in whole numbers without bound, has a division, and only one.
 pub fn datasets_are_divided()
     ensures some { DatasetsAreDivided }
-    ensures given { DividedAreGiven }
+    ensures exact { ExactAreDivided }
+    ensures given { DividedAreExact }
+    ensures narrow { DataAreExact }
     ensures one { DivisionsAreOne }
 {
     rules_are_one();

@@ -338,7 +338,7 @@ file_row laws array unit bytes made read suits part h =
 
 pub parts_made : Laws → PartsMadeAnswer
 parts_made laws (settings.File array unit) bytes inputs made m suits request parts part fits given
-    gives = file_row laws array (unit_with unit) bytes made m.evaluated suits part gives
+    gives = file_row laws array (unit_with unit) bytes made m.exact suits part gives
 parts_made laws (settings.Crop x0 x1 y0 y1 z0 z1) bytes inputs made m suits request parts part fits
     given gives =
     let filter = crop_of (box_with x0 x1 y0 y1 z0 z1) in

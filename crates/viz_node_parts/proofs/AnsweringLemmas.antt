@@ -336,7 +336,7 @@ select_answers law lo hi all first made m (dataset.Mesh sheets) is (Block out) i
 select_answers law lo hi all first made m (dataset.Image image) is request input part given
     gives =
     absurd (no_image (selections all lo hi) first image made.whole m.inputs m.fed is
-    (row_made (settings.Select lo hi all) m.inputs made.whole m.made_of.evaluated))
+    (row_made (settings.Select lo hi all) m.inputs made.whole m.made_of.exact))
 
 pub boundary_answers : BoundaryAnswers → (first made : Divided)
     → IsMadeFrom settings.Boundary first made → (request : Request) (input part : Part)
@@ -361,7 +361,7 @@ merge_answers law first made m shared (dataset.Mesh sheets) is input part given 
     all_made made made.whole refl part (law first made m shared 0 input part gives given)
 merge_answers law first made m shared (dataset.Image image) is input part given gives =
     absurd (no_image merge_of first image made.whole m.inputs m.fed is
-    (row_made settings.Merge m.inputs made.whole m.made_of.evaluated))
+    (row_made settings.Merge m.inputs made.whole m.made_of.exact))
 
 -- joined meshes are a mesh
 pub joined_mesh : (made : Divided) (m : Dataset) → made.whole ≡ m → (joined : List SheetData)
@@ -379,10 +379,10 @@ pub append_answers : AppendAnswers → (file : Option (List ℕ)) (inputs : Inpu
     → IsPartFor made request part
 append_answers law file inputs made m (Piece p n ghosts) parts part fits given gives =
     let whole = joined_mesh made made.whole refl (appended (meshes_in (wholes inputs)))
-    (row_made settings.Append inputs made.whole m.evaluated) in
+    (row_made settings.Append inputs made.whole m.exact) in
     law file inputs made m p n ghosts parts part
     (subst (λ e. Fits e (Piece p n ghosts)) whole fits) gives given
 append_answers law file inputs made m (Block out) parts part fits given gives =
     let whole = joined_mesh made made.whole refl (appended (meshes_in (wholes inputs)))
-    (row_made settings.Append inputs made.whole m.evaluated) in
+    (row_made settings.Append inputs made.whole m.exact) in
     absurd (subst (λ e. Fits e (Block out)) whole fits)

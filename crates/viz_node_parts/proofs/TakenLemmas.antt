@@ -42,13 +42,19 @@ use Rattle.viz_mesh_meaning.specs.Facets.{boundaries}
 use Rattle.viz_mesh_meaning.specs.Select.{selections}
 use Rattle.viz_node_answers.specs.Answers.{IsPartFor}
 use Rattle.viz_node_division.specs.Divided.{Divided, wholes}
-use Rattle.viz_node_division.proofs.RowLemmas.{IsOk, first_whole, row_made, whole_at}
+use Rattle.viz_node_division.specs.Exact.{IsExactSectionOf}
+use Rattle.viz_node_division.proofs.RowLemmas.{
+  IsOk,
+  first_whole,
+  row_made,
+  sections_made,
+  whole_at,
+}
 use Rattle.viz_node_meaning.specs.Data.{
   AreTetrahedra,
   IsOfMesh,
   IsOfOne,
   IsOfTwo,
-  IsSectionOf,
   contour_forms,
   cut_forms,
   merge_of,
@@ -408,12 +414,12 @@ fit_taken law sheets division p n ghosts (Mesh parts) h fit =
     (tt, record { each = fit_parts law sheets (division p n) ghosts parts.items h.1 fit })
 
 section_taken : PartsFit → (forms : List Form) (w : Dataset) (first : Divided)
-    → first.whole ≡ w → HasFitSheets w → (m : Dataset) → IsSectionOf forms (Some w) (Ok m)
+    → first.whole ≡ w → HasFitSheets w → (m : Dataset) → IsExactSectionOf forms (Some w) (Ok m)
     → (request : Request) (input : Part) → Fits (dataset_extent m) request
     → IsPartFor first (layers_request (dataset_extent w) request) input
     → TakesEither (dataset_extent w) request (Some input)
 section_taken law forms (dataset.Image image) first is fit m row request input fits given =
-    slab_taken image first is request input (fits_mesh m _ row.1 request fits) given
+    slab_taken image first is request input (fits_mesh m _ row request fits) given
 section_taken law forms (dataset.Mesh sheets) first is fit m row (Piece p n ghosts) input fits
     given =
     fit_taken law sheets first.division p n ghosts input
@@ -422,16 +428,16 @@ section_taken law forms (dataset.Mesh sheets) first is fit m row (Block out) inp
     absurd (no_block first sheets is out input given)
 
 section_row_taken : PartsFit → (forms : List Form) (inputs : Inputs Divided) (m : Dataset)
-    → IsFitAt (fed_at 1 inputs) → IsSectionOf forms (fed_at 1 (wholes inputs)) (Ok m)
+    → IsFitAt (fed_at 1 inputs) → IsExactSectionOf forms (fed_at 1 (wholes inputs)) (Ok m)
     → (request : Request) (parts : Inputs Part) → Fits (dataset_extent m) request
     → AreAnswered inputs (layers_request (extent_at_ports inputs) request) parts
     → TakesEither (extent_at_ports inputs) request (fed_at 1 parts)
 section_row_taken law forms inputs m fit row request parts fits given =
     let e = extent_at_ports inputs in
-    let at = fed_first (λ o. IsSectionOf forms o (Ok m)) (λ h. h) inputs (layers_request e request)
+    let at = fed_first (λ o. IsExactSectionOf forms o (Ok m)) (λ h. h) inputs (layers_request e request)
     parts given row in
     let taken = section_taken law forms at.first.whole at.first refl (subst IsFitAt at.fed fit) m
-    (subst (λ o. IsSectionOf forms o (Ok m)) (whole_of_fed inputs at.first at.fed) row) request
+    (subst (λ o. IsExactSectionOf forms o (Ok m)) (whole_of_fed inputs at.first at.fed) row) request
     at.input fits
     (subst (λ x. IsPartFor at.first (layers_request x request) at.input) at.extent at.answers) in
     subst (λ o. TakesEither e request o) (sym at.given)
@@ -469,54 +475,55 @@ parts_taken law (settings.Crop x0 x1 y0 y1 z0 z1) file inputs made only m fit re
     let s = settings.Crop x0 x1 y0 y1 z0 z1 in
     image_taken (crop_of (box_with x0 x1 y0 y1 z0 z1)) (λ e r. r) (λ e out. out) (λ e out. refl)
     (λ e. HoldsBlock) (λ image whole i out on inside b. held_block image whole i out b) inputs
-    made.whole (row_made s inputs made.whole m.evaluated) request parts fits given
+    made.whole (row_made s inputs made.whole m.exact) request parts fits given
 parts_taken law (settings.Sample x y z) file inputs made only m fit request parts fits given =
     let rate = rate_with x y z in
     image_taken (sample_of rate) (λ e r. spread_request (sample_rate x y z) r)
     (λ e out. spread rate out) (λ e out. refl) (λ e. HasMultiples rate)
     (λ image whole i out on inside b. held_multiples rate image whole i out on b) inputs made.whole
-    (row_made (settings.Sample x y z) inputs made.whole m.evaluated) request parts fits given
+    (row_made (settings.Sample x y z) inputs made.whole m.exact) request parts fits given
 parts_taken law (settings.Threshold lo hi) file inputs made only m fit request parts fits given =
     image_taken (threshold_of lo hi) (λ e r. r) (λ e out. out) (λ e out. refl) (λ e. HoldsBlock)
     (λ image whole i out on inside b. held_block image whole i out b) inputs made.whole
-    (row_made (settings.Threshold lo hi) inputs made.whole m.evaluated) request parts fits given
+    (row_made (settings.Threshold lo hi) inputs made.whole m.exact) request parts fits given
 parts_taken law (settings.Smooth radius) file inputs made only m fit request parts fits given =
     let by = radius_with radius in
     image_taken (smooth_of by) (λ e r. grown_request (mean_radius radius) e r)
     (λ e out. grown by e out) (λ e out. refl) (HasPointsAround by)
     (λ image whole i out on inside b. held_around by image whole i out on inside b) inputs
-    made.whole (row_made (settings.Smooth radius) inputs made.whole m.evaluated) request parts fits
+    made.whole (row_made (settings.Smooth radius) inputs made.whole m.exact) request parts fits
     given
 parts_taken law (settings.Arith op) file inputs made only m fit request parts fits given =
     arith_taken (arith_of (op_with op)) inputs made.whole
-    (row_made (settings.Arith op) inputs made.whole m.evaluated) request parts fits given
+    (row_made (settings.Arith op) inputs made.whole m.exact) request parts fits given
 parts_taken law settings.Tets file inputs made only m fit request parts fits given =
-    tets_row_taken inputs made.whole (row_made settings.Tets inputs made.whole m.evaluated) request
+    tets_row_taken inputs made.whole (row_made settings.Tets inputs made.whole m.exact) request
     parts fits given
 parts_taken law (settings.Select lo hi all) file inputs made only m fit request parts fits given =
     mesh_row_taken (selections all lo hi) inputs made.whole
-    (row_made (settings.Select lo hi all) inputs made.whole m.evaluated) request parts given
+    (row_made (settings.Select lo hi all) inputs made.whole m.exact) request parts given
 parts_taken law (settings.Contour count levels) file inputs made only m fit request parts fits
     given =
     section_row_taken law (contour_forms count levels) inputs made.whole fit
-    (row_made (settings.Contour count levels) inputs made.whole m.evaluated) request parts fits
-    given
+    (sections_made (settings.Contour count levels)
+    (contour_forms count levels) inputs made.whole m.exact) request parts fits given
 parts_taken law (settings.Cut a b c r) file inputs made only m fit request parts fits given =
     section_row_taken law (cut_forms a b c r) inputs made.whole fit
-    (row_made (settings.Cut a b c r) inputs made.whole m.evaluated) request parts fits given
+    (sections_made (settings.Cut a b c r) (cut_forms a b c r) inputs made.whole m.exact) request
+    parts fits given
 parts_taken law settings.Append file inputs made only m fit request parts fits given =
-    let row = row_made settings.Append inputs made.whole m.evaluated in
+    let row = row_made settings.Append inputs made.whole m.exact in
     append_row_taken inputs request parts
     (subst (λ e. Fits e request)
     (joined_mesh made made.whole refl (appended (meshes_in (wholes inputs))) row) fits) given
 parts_taken law settings.Boundary file inputs made only m fit request parts fits given =
-    let row = row_made settings.Boundary inputs made.whole m.evaluated in
+    let row = row_made settings.Boundary inputs made.whole m.exact in
     boundary_taken request (fed_at 1 parts)
     (made_mesh boundaries (fed_at 1 (wholes inputs)) made.whole row request fits)
     (mesh_row_taken boundaries inputs made.whole row (more_ghosts request) parts given)
 parts_taken law settings.Merge file inputs made only m fit request parts fits given =
     mesh_row_taken merge_of inputs made.whole
-    (row_made settings.Merge inputs made.whole m.evaluated) (all_of (extent_at_ports inputs)) parts
+    (row_made settings.Merge inputs made.whole m.exact) (all_of (extent_at_ports inputs)) parts
     given
 parts_taken law (settings.Writer binary digits) file inputs made only m fit request parts fits
     given =
