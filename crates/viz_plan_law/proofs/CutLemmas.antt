@@ -34,7 +34,7 @@ use Rattle.viz_dataset.specs.declared.dataset.Dataset.{Dataset}
 use Rattle.viz_dataset.specs.declared.dataset.Dataset.TheVariants.{Image, Mesh}
 use Rattle.viz_extent.specs.Extent.{Bounds}
 use Rattle.viz_extent.proofs.SlabLemmas.{first_begins, last_ends}
-use Rattle.viz_kept.specs.True.{IsNodePart}
+use Rattle.viz_kept.specs.True.{IsDatasetPart}
 use Rattle.viz_kinds.specs.declared.settings.Settings.{Settings}
 use Rattle.viz_kinds.specs.declared.settings.Settings.TheVariants as settings
 use Rattle.viz_network.specs.Cone.{Cone, Tree, above, cone_of, grow}
@@ -49,13 +49,15 @@ use Rattle.viz_parts.specs.Pieces.{Covers, Division, IsAnswer, in_turn, own_rang
 use Rattle.viz_parts.specs.declared.request.Part.{Part}
 use Rattle.viz_parts.specs.declared.request.Request.{Request}
 use Rattle.viz_parts.specs.declared.request.Request.TheVariants.{Block, Piece}
-use Rattle.viz_piece_restrict.specs.Restricting.{IsOneOfMany, LetsRestrict}
+use Rattle.viz_piece_restrict.specs.Restricting.{IsOneOfMany, IsRestriction, LetsRestrict}
 use Rattle.viz_plan_meaning.specs.Known.{Known, tree_widened}
 use Rattle.viz_requests.specs.Serving.{serves}
 use Rattle.viz_requests.specs.Upstream.{Fits, all_of, widened}
 use Rattle.viz_sheet.specs.Sheet.{SheetData}
 use Rattle.viz_plan_law.specs.Cutting.{
   CanBeCut,
+  IsExactPart,
+  NodePartsAreExact,
   PartsOfKnownAreCut,
   PartsOfWidenedAreCut,
   PartsThatServeAreCut,
@@ -120,34 +122,40 @@ module _ (only : OnlyPieceOwnsAll) where
 -- ---- parts that are cut
 
 -- a part of a dataset that lets it be cut
-cut_of : (cone : Option Tree) (kept wanted : Request) (part : Part) (is : IsNodePart cone kept part)
-    → Covers kept wanted → IsOneOfMany wanted
-    → LetsRestrict is.whole is.one.division kept wanted → CanBeCut cone kept wanted part
-cut_of foot kept wanted part is covers one lets = record {
+cut_of : (cone : Option Tree) (kept wanted : Request) (part : Part)
+    → IsExactPart cone kept part → Covers kept wanted → IsOneOfMany wanted
+    → ((whole : Dataset) (division : Division) → IsDivided cone whole division
+    → IsAnswer whole division kept part → LetsRestrict whole division kept wanted)
+    → CanBeCut cone kept wanted part
+cut_of foot kept wanted part is covers counted lets = record {
   covers = covers;
-  counted = one;
+  counted = counted;
   answers = record {
     whole = is.whole;
     division = is.one.division;
     answers = is.one.answers;
   };
-  gives = λ cut r. record {
-    whole = is.whole;
-    given = is.given;
-    one = record {
-      division = is.one.division;
-      divided = is.one.divided;
-      answers = r.answers is.whole is.one.division lets is.one.answers;
-    };
-  };
+  exact = λ cut r. record { whole = is.whole; one = one is.whole is.one cut r };
+  gives = λ cut r n. record { whole = n.whole; given = n.given; one = one n.whole n.one cut r };
 }
+  where
+    one : (whole : Dataset) → IsDatasetPart foot whole kept part → (cut : Part)
+        → IsRestriction kept wanted part cut → IsDatasetPart foot whole wanted cut
+    one whole h cut r = record {
+      division = h.division;
+      divided = h.divided;
+      answers =
+          r.answers whole h.division (lets whole h.division h.divided h.answers) h.answers;
+    }
+
+pub node_exact : NodePartsAreExact
+node_exact cone request part is = record { whole = is.whole; one = is.one }
 
 module _ (only : OnlyPieceOwnsAll) where
   pub served_cut : PartsThatServeAreCut
   served_cut cone kept wanted part is one h =
       cut_of cone kept wanted part is (served_covers kept wanted one h) one
-      (served_lets only cone is.whole is.one.division kept wanted part is.one.divided
-      is.one.answers one h)
+      (λ w d v a. served_lets only cone w d kept wanted part v a one h)
 
 -- ---- nodes that make all
 
@@ -198,16 +206,15 @@ module _ (only : OnlyPieceOwnsAll) (ports : DividedByPorts) where
       foot.made.divided ∙ in_turn foot.inputs whole
 
   by_kind : (n : Node) (cone : Cone) (own : Option Bounds) (kept wanted : Request) (part : Part)
-      → IsNodePart (Some (n, cone)) kept part → Fits own wanted
+      → IsExactPart (Some (n, cone)) kept part → Fits own wanted
       → serves kept (widened n.settings own wanted) ≡ true
       → MakesInTurn n.settings own wanted ⊎ (widened n.settings own wanted ≡ wanted)
       → CanBeCut (Some (n, cone)) kept wanted part
   by_kind n cone own kept wanted part is f h (inl all) =
       let served = subst (λ (r : Request). serves kept r ≡ true) all.0 h in
-      let in_turn = turned n cone is.whole is.one.division all.1 is.one.divided in
       cut_of (Some (n, cone)) kept wanted part is (all_covers own kept wanted f served)
       (fits_one own wanted f)
-      (turn_lets is.whole is.one.division own kept wanted part in_turn is.one.answers f served)
+      (λ w d v a. turn_lets w d own kept wanted part (turned n cone w d all.1 v) a f served)
   by_kind n cone own kept wanted part is f h (inr same) =
       served_cut only (Some (n, cone)) kept wanted part is (fits_one own wanted f)
       (subst (λ (r : Request). serves kept r ≡ true) same h)
@@ -235,9 +242,9 @@ module _ (only : OnlyPieceOwnsAll) (ports : DividedByPorts) where
       by (Some n) there q = foot_of net id n t there q
 
   at_foot : (k : Known) (id : ℕ) (kept wanted : Request) (part : Part) (t : Option Tree)
-      → cone_of k.net id ≡ t → IsNodePart t kept part → Fits (k.extent id) wanted
+      → cone_of k.net id ≡ t → IsExactPart t kept part → Fits (k.extent id) wanted
       → serves kept (tree_widened k t wanted) ≡ true → CanBeCut t kept wanted part
-  at_foot k id kept wanted part None e is f h = absurd is.given.1
+  at_foot k id kept wanted part None e is f h = absurd is.one.divided.given
   at_foot k id kept wanted part (Some t) e is f h =
       widened_cut t.0 t.1 (k.extent t.0.id.0) kept wanted part is
       (subst (λ (x : ℕ). Fits (k.extent x) wanted) (sym (foot_is k.net id t e)) f) h

@@ -35,6 +35,7 @@ use Rattle.viz_meaning.specs.Tetrahedra.{sheets_of, tetrahedra_sheet}
 use Rattle.viz_meaning.specs.WholeImages.{IsOn, WholeImage, whole_of}
 use Rattle.viz_network.specs.declared.fault.Cause.{Cause}
 use Rattle.viz_network.specs.declared.fault.Cause.TheVariants.{Unconnected, WrongInput}
+use Rattle.viz_node_division.specs.Exact.{IsExactSectionOf}
 use Rattle.viz_node_meaning.specs.Data.{
   AreTetrahedra,
   IsOfMesh,
@@ -246,10 +247,15 @@ tetrahedra_made (Some (Image image)) i d f m =
     let same : d ≡ Mesh (tetrahedra_sheet image ∷ []) = cc in
     mesh_told (tetrahedra_sheet image ∷ []) d i same f
 
+pub of_section : (forms : List Form) (o : Option Dataset) (d : Dataset)
+    → IsSectionOf forms o (Ok d) → IsExactSectionOf forms o (Ok d)
+of_section forms None d m = absurd m
+of_section forms (Some w) d m = m.1
+
 pub section_made : (forms : List Form) (o : Option Dataset) (i : Information) (d : Dataset)
-    → OfMesh ≡ i → IsSectionOf forms o (Ok d) → information_of d ≡ i
+    → OfMesh ≡ i → IsExactSectionOf forms o (Ok d) → information_of d ≡ i
 section_made forms None i d f m = absurd m
-section_made forms (Some w) i d f m = mesh_told (sections_of forms (sheets_of w)) d i m.1 f
+section_made forms (Some w) i d f m = mesh_told (sections_of forms (sheets_of w)) d i m f
 
 -- ---- a writer
 

@@ -11,9 +11,9 @@ use Rattle.viz_mesh_meaning.specs.Facets.{boundaries}
 use Rattle.viz_mesh_meaning.specs.Select.{selections}
 use Rattle.viz_network.specs.declared.fault.Cause.{Cause}
 use Rattle.viz_network.specs.declared.node.Node.{Node}
+use Rattle.viz_node_division.specs.Exact.{ExactRule, IsExact, IsExactSectionOf}
+use Rattle.viz_node_division.specs.Laws.{DataAreExact}
 use Rattle.viz_node_meaning.specs.Data.{
-  DataRule,
-  IsEvaluated,
   IsFiltered,
   IsMadeWith,
   all_information,
@@ -53,6 +53,7 @@ use Rattle.viz_plan_law.specs.Told.{
   IsImageOn,
   ToldExtentsAreOwn,
   ToldIsOfDatasets,
+  ToldIsOfGiven,
   ToldMeshesAreGiven,
 }
 use Rattle.viz_plan_law.proofs.FileLemmas.{file_told}
@@ -66,6 +67,7 @@ use Rattle.viz_plan_law.proofs.RowLemmas.{
   first_told,
   made_of_mesh,
   mesh_told,
+  of_section,
   passed_told,
   same_told,
   sample_told,
@@ -123,10 +125,12 @@ row_told (settings.Select lo hi all) inputs i d e m =
     (after_mesh (fed_at 1 (all_information inputs)) i e) m
 row_told (settings.Contour count levels) inputs i d e m =
     section_made (contour_forms count levels) (fed_at 1 inputs) i d
-    (after_any (either_in 1 (fed_at 1 (all_information inputs))) i e) m
+    (after_any (either_in 1 (fed_at 1 (all_information inputs))) i e)
+    (of_section (contour_forms count levels) (fed_at 1 inputs) d m)
 row_told (settings.Cut a b c r) inputs i d e m =
     section_made (cut_forms a b c r) (fed_at 1 inputs) i d
-    (after_any (either_in 1 (fed_at 1 (all_information inputs))) i e) m
+    (after_any (either_in 1 (fed_at 1 (all_information inputs))) i e)
+    (of_section (cut_forms a b c r) (fed_at 1 inputs) d m)
 row_told settings.Append inputs i d e m =
     let same : d ≡ Mesh (appended (meshes_in inputs)) = cc in
     mesh_told (appended (meshes_in inputs)) d i same (after_all (all_information inputs) i e)
@@ -154,42 +158,48 @@ filter_told s inputs d m =
     made_told (filter_information s (all_information inputs)) (IsFiltered s inputs) d
     (λ i e f. row_told s inputs i d e f) m
 
-evaluated_told : (s : Settings) (file : Option (List ℕ)) (inputs : Inputs Dataset) (d : Dataset)
-    → IsEvaluated s file inputs (Ok d)
+exact_told : (s : Settings) (file : Option (List ℕ)) (inputs : Inputs Dataset) (d : Dataset)
+    → IsExact s file inputs (Ok d)
     → IsInformed s file (all_information inputs) (Ok (information_of d))
-evaluated_told (settings.File array unit) None inputs d m = let bad : ⊥ = cc in absurd bad
-evaluated_told (settings.File array unit) (Some bytes) inputs d m =
+exact_told (settings.File array unit) None inputs d m = let bad : ⊥ = cc in absurd bad
+exact_told (settings.File array unit) (Some bytes) inputs d m =
     file_told array (unit_with unit) bytes d m
-evaluated_told (settings.Crop x0 x1 y0 y1 z0 z1) file inputs d m =
+exact_told (settings.Crop x0 x1 y0 y1 z0 z1) file inputs d m =
     filter_told (settings.Crop x0 x1 y0 y1 z0 z1) inputs d m
-evaluated_told (settings.Sample x y z) file inputs d m =
+exact_told (settings.Sample x y z) file inputs d m =
     filter_told (settings.Sample x y z) inputs d m
-evaluated_told (settings.Threshold lo hi) file inputs d m =
+exact_told (settings.Threshold lo hi) file inputs d m =
     filter_told (settings.Threshold lo hi) inputs d m
-evaluated_told (settings.Smooth radius) file inputs d m =
+exact_told (settings.Smooth radius) file inputs d m =
     filter_told (settings.Smooth radius) inputs d m
-evaluated_told (settings.Arith op) file inputs d m = filter_told (settings.Arith op) inputs d m
-evaluated_told settings.Tets file inputs d m = filter_told settings.Tets inputs d m
-evaluated_told (settings.Select lo hi all) file inputs d m =
+exact_told (settings.Arith op) file inputs d m = filter_told (settings.Arith op) inputs d m
+exact_told settings.Tets file inputs d m = filter_told settings.Tets inputs d m
+exact_told (settings.Select lo hi all) file inputs d m =
     filter_told (settings.Select lo hi all) inputs d m
-evaluated_told (settings.Contour count levels) file inputs d m =
-    filter_told (settings.Contour count levels) inputs d m
-evaluated_told (settings.Cut a b c r) file inputs d m =
-    filter_told (settings.Cut a b c r) inputs d m
-evaluated_told settings.Append file inputs d m = filter_told settings.Append inputs d m
-evaluated_told settings.Boundary file inputs d m = filter_told settings.Boundary inputs d m
-evaluated_told settings.Merge file inputs d m = filter_told settings.Merge inputs d m
-evaluated_told (settings.Writer binary digits) file inputs d m =
+exact_told (settings.Contour count levels) file inputs d m =
+    made_told (filter_information (settings.Contour count levels) (all_information inputs))
+    (IsExactSectionOf (contour_forms count levels) (fed_at 1 inputs)) d
+    (λ i e f. section_made (contour_forms count levels) (fed_at 1 inputs) i d
+    (after_any (either_in 1 (fed_at 1 (all_information inputs))) i e) f) m
+exact_told (settings.Cut a b c r) file inputs d m =
+    made_told (filter_information (settings.Cut a b c r) (all_information inputs))
+    (IsExactSectionOf (cut_forms a b c r) (fed_at 1 inputs)) d
+    (λ i e f. section_made (cut_forms a b c r) (fed_at 1 inputs) i d
+    (after_any (either_in 1 (fed_at 1 (all_information inputs))) i e) f) m
+exact_told settings.Append file inputs d m = filter_told settings.Append inputs d m
+exact_told settings.Boundary file inputs d m = filter_told settings.Boundary inputs d m
+exact_told settings.Merge file inputs d m = filter_told settings.Merge inputs d m
+exact_told (settings.Writer binary digits) file inputs d m =
     filter_told (settings.Writer binary digits) inputs d m
 
-node_told : (n : Node) (inputs : Inputs Dataset) (d : Dataset) → DataRule n inputs (Ok d)
+node_told : (n : Node) (inputs : Inputs Dataset) (d : Dataset) → ExactRule n inputs (Ok d)
     → InformationRule n (all_information inputs) (Ok (information_of d))
-node_told n inputs d m = evaluated_told n.settings n.file inputs d m
+node_told n inputs d m = exact_told n.settings n.file inputs d m
 
 -- ---- along the cone
 
 pub are_told : DatasetsAreTold
-are_told cone d g = ok_value information_of DataRule InformationRule node_told cone d g
+are_told cone d g = ok_value information_of ExactRule InformationRule node_told cone d g
 
 image_on : (d : Dataset) (g : Grid) → information_of d ≡ OfImage g → IsImageOn g.extent d
 image_on (Image image) g e =
@@ -208,6 +218,9 @@ module _ (one : IsOne InformationRule) where
       (are_told cone d given) told in
       let same : information_of d ≡ i = cc in
       same
+
+  pub told_given : DataAreExact → ToldIsOfGiven
+  told_given exact cone i d told given = told_is_one cone i d told (exact cone d given)
 
   pub told_extent : ToldExtentsAreOwn
   told_extent cone g d told given = image_on d g (told_is_one cone (OfImage g) d told given)

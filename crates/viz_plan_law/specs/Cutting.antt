@@ -2,7 +2,7 @@
 use Rattle.std.specs.Prelude.{◌≡◌, ℕ, true, Option, Some}
 use Rattle.viz_dataset.specs.declared.dataset.Dataset.{Dataset}
 use Rattle.viz_extent.specs.Extent.{Bounds}
-use Rattle.viz_kept.specs.True.{IsNodePart}
+use Rattle.viz_kept.specs.True.{IsDatasetPart, IsNodePart}
 use Rattle.viz_network.specs.Cone.{Cone, Tree, cone_of}
 use Rattle.viz_network.specs.declared.node.Node.{Node}
 use Rattle.viz_node_division.specs.Divided.{IsDivided}
@@ -33,24 +33,38 @@ ServedPartsAreCut =
     → IsOneOfMany wanted → serves kept wanted ≡ true
     → LetsRestrict whole division kept wanted
 
--- all that cutting a part for a wanted request needs; and what is cut is a part of the node
+-- a part answers a request of what the node at the foot of a cone gives by the exact rule
+pub record IsExactPart (cone : Option Tree) (request : Request) (part : Part) : Type 0 where
+  pub whole : Dataset
+  pub one : IsDatasetPart cone whole request part
+
+-- a part that the node gives from scratch does
+abbrev pub NodePartsAreExact : Type 0
+NodePartsAreExact =
+    (cone : Option Tree) (request : Request) (part : Part) → IsNodePart cone request part
+    → IsExactPart cone request part
+
+-- all that cutting a part for a wanted request needs; and what is cut is a part of the node, which it
+-- gives from scratch where it gives the part so
 pub record CanBeCut (cone : Option Tree) (kept wanted : Request) (part : Part) : Type 0 where
   pub covers : Covers kept wanted
   pub counted : IsOneOfMany wanted
   pub answers : IsSomeAnswer kept part
-  pub gives : (cut : Part) → IsRestriction kept wanted part cut → IsNodePart cone wanted cut
+  pub exact : (cut : Part) → IsRestriction kept wanted part cut → IsExactPart cone wanted cut
+  pub gives : (cut : Part) → IsRestriction kept wanted part cut → IsNodePart cone kept part
+      → IsNodePart cone wanted cut
 
 -- each part that a node gives can be cut for each request that its own serves
 abbrev pub PartsThatServeAreCut : Type 0
 PartsThatServeAreCut =
-    (cone : Option Tree) (kept wanted : Request) (part : Part) → IsNodePart cone kept part
+    (cone : Option Tree) (kept wanted : Request) (part : Part) → IsExactPart cone kept part
     → IsOneOfMany wanted → serves kept wanted ≡ true → CanBeCut cone kept wanted part
 
 -- so it can where its own serves what the node makes for one that fits an image or a mesh
 abbrev pub PartsOfWidenedAreCut : Type 0
 PartsOfWidenedAreCut =
     (n : Node) (cone : Cone) (own : Option Bounds) (kept wanted : Request) (part : Part)
-    → IsNodePart (Some (n, cone)) kept part → Fits own wanted
+    → IsExactPart (Some (n, cone)) kept part → Fits own wanted
     → serves kept (widened n.settings own wanted) ≡ true
     → CanBeCut (Some (n, cone)) kept wanted part
 
@@ -58,6 +72,6 @@ PartsOfWidenedAreCut =
 abbrev pub PartsOfKnownAreCut : Type 0
 PartsOfKnownAreCut =
     (k : Known) (id : ℕ) (kept wanted : Request) (part : Part)
-    → IsNodePart (cone_of k.net id) kept part → Fits (k.extent id) wanted
+    → IsExactPart (cone_of k.net id) kept part → Fits (k.extent id) wanted
     → serves kept (widened_at k id wanted) ≡ true
     → CanBeCut (cone_of k.net id) kept wanted part

@@ -2,6 +2,7 @@
 //! holds of the definitions alone.
 
 ghost use Rattle.viz_plan_law.specs.Cutting.{
+  NodePartsAreExact,
   PartsOfKnownAreCut,
   PartsOfWidenedAreCut,
   PartsThatServeAreCut,
@@ -22,32 +23,38 @@ ghost use Rattle.viz_plan_law.specs.Told.{
   DatasetsAreTold,
   ToldExtentsAreOwn,
   ToldIsOfDatasets,
+  ToldIsOfGiven,
   ToldMeshesAreGiven,
 };
 
-use viz_node_division::{divided_by_ports, divisions_share_out};
+use viz_node_division::{datasets_are_divided, divided_by_ports, divisions_share_out};
 use viz_node_meaning::rules_are_one;
 use viz_requests::fitting_can_be_asked;
 
-/// What is told of a node before its numbers are is the information of the dataset that it gives:
-/// an image with the extent that was told, or a mesh.
+/// What is told of a node before its numbers are is the information of the dataset that it gives by
+/// the exact rule, and so of the one that its data give: an image with the extent that was told, or
+/// a mesh.
 pub fn told_is_of_datasets()
     ensures some { DatasetsAreTold }
     ensures one { ToldIsOfDatasets }
+    ensures given { ToldIsOfGiven }
     ensures extent { ToldExtentsAreOwn }
     ensures mesh { ToldMeshesAreGiven }
 {
+    datasets_are_divided();
     rules_are_one();
 }
 
-/// Where the request of a part that a node gives serves a wanted one, or what the node makes for
-/// it, the part can be cut to a part that the node gives for the wanted one.
+/// Where the request of a part that a node gives by the exact rule serves a wanted one, or what the
+/// node makes for it, the part can be cut to a part that the node gives for the wanted one; from
+/// scratch where it gives the first one so.
 pub fn served_parts_are_cut()
     ensures covers { ServedAreCovered }
     ensures lets { ServedPartsAreCut }
     ensures cut { PartsThatServeAreCut }
     ensures widened { PartsOfWidenedAreCut }
     ensures known { PartsOfKnownAreCut }
+    ensures exact { NodePartsAreExact }
 {
     divisions_share_out();
     divided_by_ports();

@@ -12,4 +12,5 @@ returns c =
       cut = lemma.served_cut only;
       widened = lemma.widened_cut only ports;
       known = lemma.known_cut only ports;
+      exact = lemma.node_exact;
     }

@@ -7,6 +7,7 @@ returns c =
     record {
       some = lemma.are_told;
       one = lemma.told_is_one one;
+      given = lemma.told_given one c.datasets_are_divided.ensures.narrow;
       extent = lemma.told_extent one;
       mesh = lemma.told_mesh one;
     }
