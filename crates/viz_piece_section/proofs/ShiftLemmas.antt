@@ -67,10 +67,10 @@ edge by m n =
 half : (by : ℕ) (n : List ℕ) → length (moved by n) / 2 ≡ length n / 2
 half by n = ap (λ k. k / 2) (length-map n (λ leaf. leaf + by))
 
-lesser : (by : ℕ) (n : List ℕ) → lesser_end (moved by n) ≡ moved by (lesser_end n)
+pub lesser : (by : ℕ) (n : List ℕ) → lesser_end (moved by n) ≡ moved by (lesser_end n)
 lesser by n = ap (λ k. take k (moved by n)) (half by n) ∙ take-map (λ leaf. leaf + by) (length n / 2) n
 
-greater : (by : ℕ) (n : List ℕ) → greater_end (moved by n) ≡ moved by (greater_end n)
+pub greater : (by : ℕ) (n : List ℕ) → greater_end (moved by n) ≡ moved by (greater_end n)
 greater by n = ap (λ k. drop k (moved by n)) (half by n) ∙ drop-map (λ leaf. leaf + by) (length n / 2) n
 
 -- ---- points of names
@@ -82,7 +82,7 @@ rank by (m ∷ ms) n =
     ∙ ap₂ (λ b k. cond b 1 0 + k) (before by m n) (rank by ms n)
     ∙ sym (count_by-cons (λ m. is_lt (slice_cmp nat_cmp m n)) m ms)
 
-point : (by : ℕ) (s : SheetData) (n : List ℕ) → point_of (shifted_sheet by s) (moved by n) ≡ point_of s n
+pub point : (by : ℕ) (s : SheetData) (n : List ℕ) → point_of (shifted_sheet by s) (moved by n) ≡ point_of s n
 point by s n = ap (λ r. get_or s.points r zero_point) (rank by s.names n)
 
 inside-same : (by : ℕ) (f : Form) (s : SheetData) (n : List ℕ) → is_inside_at f (point_of (shifted_sheet by s) (moved by n)) ≡ is_inside_at f (point_of s n)
