@@ -127,18 +127,18 @@ own_ok : (n : Node) (r : Result Dataset Cause) (w : Dataset) → Ok w ≡ at_nod
 own_ok n (Ok v) w e = let same : Ok v ≡ Ok w = cc in same
 own_ok n (Err cause) w e = let bad : ⊥ = cc in absurd bad
 
-inputs_ok : (rule : Node → Inputs Dataset → Result Dataset Cause → Type 0) (n : Node)
+pub inputs_ok : (rule : Node → Inputs Dataset → Result Dataset Cause → Type 0) (n : Node)
     (inputs : Result (Inputs Dataset) Fault) (w : Dataset) → IsMade rule n inputs (Ok w)
     → (xs : Inputs Dataset) × (inputs ≡ Ok xs) × rule n xs (Ok w)
 inputs_ok rule n (Ok xs) w m = (xs, refl, subst (rule n xs) (own_ok n m.0 w m.2) m.1)
 inputs_ok rule n (Err fault) w m = let bad : ⊥ = cc in absurd bad
 
-rest_ok : (rest : Result (Inputs Dataset) Fault) (xs : Inputs Dataset)
+pub rest_ok : (rest : Result (Inputs Dataset) Fault) (xs : Inputs Dataset)
     → Ok xs ≡ joined (Ok None) rest → (ys : Inputs Dataset) × (rest ≡ Ok ys)
 rest_ok (Ok ys) xs e = (ys, refl)
 rest_ok (Err fault) xs e = let bad : ⊥ = cc in absurd bad
 
-both_ok : (value : Result Dataset Fault) (rest : Result (Inputs Dataset) Fault)
+pub both_ok : (value : Result Dataset Fault) (rest : Result (Inputs Dataset) Fault)
     (xs : Inputs Dataset) → Ok xs ≡ joined (filled value) rest
     → (x : Dataset) × (ys : Inputs Dataset) × (value ≡ Ok x) × (rest ≡ Ok ys)
 both_ok (Ok x) (Ok ys) xs e = (x, ys, refl, refl)

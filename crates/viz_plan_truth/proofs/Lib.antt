@@ -1,0 +1,6 @@
+pub mod StemLemmas
+pub mod FamilyLemmas
+pub mod SectionLemmas
+pub mod PlanLemmas
+pub mod WayLemmas
+pub mod ConeLemmas

@@ -1,0 +1,21 @@
+//! Laws of plans that came out. A function that calls one may rest on it.
+
+ghost use Rattle.viz_plan_truth.specs.Truth.{AllAreLeveled, PlansAreNarrow};
+
+use viz_node_division::{datasets_are_divided, divisions_share_out};
+use viz_node_narrow::{given_sections_are_narrow, pieces_make_narrow};
+use viz_plan_law::kept_parts_serve;
+use viz_requests::serving_is_an_order;
+
+/// Where a plan of requests for all of what a node gives came out, no number of a section is wide
+/// at any node upstream, where meshes have names of one level in each sheet.
+pub fn plans_are_narrow()
+    ensures narrow { AllAreLeveled → PlansAreNarrow }
+{
+    datasets_are_divided();
+    divisions_share_out();
+    given_sections_are_narrow();
+    kept_parts_serve();
+    pieces_make_narrow();
+    serving_is_an_order();
+}
