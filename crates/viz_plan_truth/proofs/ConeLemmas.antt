@@ -14,6 +14,7 @@ use Rattle.viz_node_narrow.specs.Nodes.{
   GivenAreNarrow,
   IsNarrowAt,
   IsNarrowCone,
+  NarrowAreGiven,
 }
 use Rattle.viz_parts.specs.declared.request.Part.{Part}
 use Rattle.viz_parts.specs.declared.request.Request.{Request}
@@ -23,7 +24,7 @@ use Rattle.viz_plan_meaning.specs.Known.{Known, asked_at, kept_at, widened_at}
 use Rattle.viz_plan_meaning.specs.Networks.{passes, way_of, ways, ways_to}
 use Rattle.viz_plan_meaning.specs.Plan.{Upstream, all_needs, met, needs}
 use Rattle.viz_requests.specs.Serving.{ServesItself, ServesOn}
-use Rattle.viz_plan_truth.specs.Truth.{AreForAll, IsNarrowFoot, PlansAreNarrow}
+use Rattle.viz_plan_truth.specs.Truth.{AreForAll, IsNarrowFoot, PlansAreNarrow, PlansGive}
 use Rattle.viz_plan_truth.proofs.FamilyLemmas.{Shown, either_shown, shown_map}
 use Rattle.viz_plan_truth.proofs.PlanLemmas.{
   Each,
@@ -204,3 +205,10 @@ plans_narrow given serve itself on node k sink rs made placed have are a parts s
     sink_narrow (cone_of k.net sink)
     (cone_narrow k given serve are node rs a (port (cone_of k.net sink) none)
     (placed_at k.net sink placed have) shown)
+
+pub plans_give : NarrowAreGiven → PlansAreNarrow → PlansGive
+plans_give law narrow k sink rs made placed have are a parts same i whole told exact = (
+  Ok i,
+  told,
+  law (cone_of k.net sink) whole exact (narrow k sink rs made placed have are a parts same),
+)

@@ -4,3 +4,4 @@ pub mod SectionLemmas
 pub mod PlanLemmas
 pub mod WayLemmas
 pub mod ConeLemmas
+pub mod FaultLemmas

@@ -30,7 +30,7 @@ pub each_back : (P : Need → Type 0) (xs ys : List Need) → Each P (xs ++ ys) 
 each_back P [] ys h = h
 each_back P (x ∷ xs) ys h = each_back P xs ys h.1
 
-each_both : (P : Need → Type 0) (xs ys : List Need) → Each P xs → Each P ys → Each P (xs ++ ys)
+pub each_both : (P : Need → Type 0) (xs ys : List Need) → Each P xs → Each P ys → Each P (xs ++ ys)
 each_both P [] ys h j = j
 each_both P (x ∷ xs) ys h j = (h.0, each_both P xs ys h.1 j)
 

@@ -86,11 +86,11 @@ ports_divided law (fed n own others) all xs e g =
     }
 
 -- what feeds a port is shared out
-abbrev PortDivided : Option Divided → Type 0
+abbrev pub PortDivided : Option Divided → Type 0
 PortDivided None = Unit {0}
 PortDivided (Some d) = (t : Option Tree) × IsDivided t d.whole d.division
 
-first_divided : (cone : Cone) (inputs : Inputs Divided) → AreDivided cone inputs
+pub first_divided : (cone : Cone) (inputs : Inputs Divided) → AreDivided cone inputs
     → PortDivided (fed_at 1 inputs)
 first_divided none [] h = tt
 first_divided none (x ∷ inputs) h = absurd h

@@ -1,5 +1,5 @@
 -- Parts that the tasks of a plan make, and what they tell of wide numbers (VTK User's Guide, the executive: the data pass; docs/FORMATS.md, "Exact points").
-use Rattle.std.specs.Prelude.{◌≡◌, ◌⊎◌, ℕ, ◌<◌, List, ◌∷◌, All, map, Option, None, Some}
+use Rattle.std.specs.Prelude.{◌≡◌, ◌⊎◌, ℕ, ◌<◌, List, ◌∷◌, All, map, Option, None, Some, Ok}
 use Rattle.std.specs.List.{range_with_len}
 use Rattle.viz_dataset.specs.Images.{ImageData}
 use Rattle.viz_dataset.specs.declared.dataset.Dataset.{Dataset}
@@ -15,7 +15,11 @@ use Rattle.viz_network.specs.Network.{Network}
 use Rattle.viz_node_division.specs.Divided.{Divided, IsDivided}
 use Rattle.viz_node_division.specs.Laws.{AreDivided}
 use Rattle.viz_node_meaning.specs.Data.{contour_forms, cut_forms}
-use Rattle.viz_node_meaning.specs.Information.{fed_at}
+use Rattle.viz_node_division.specs.Exact.{ExactRule}
+use Rattle.viz_node_meaning.specs.Fold.{IsGiven}
+use Rattle.viz_node_meaning.specs.Information.{InformationRule, fed_at}
+use Rattle.viz_node_meaning.specs.Scratch.{IsScratch}
+use Rattle.viz_node_meaning.specs.declared.information.Information.{Information}
 use Rattle.viz_node_meaning.specs.Rules.{Inputs}
 use Rattle.viz_node_narrow.specs.Nodes.{IsNarrowCone}
 use Rattle.viz_node_narrow.specs.Pieces.{AreNarrowImage}
@@ -105,3 +109,13 @@ PlansAreNarrow =
     → IsPlaced k.net sink → HaveOwnPorts k.net → AreTrueIn k.net k.entries → AreForAll requests
     → AreTaskParts k.net made → keys made ≡ plan_of k sink requests
     → IsNarrowCone (cone_of k.net sink)
+
+-- then what the node gives by the exact rule it gives from scratch
+abbrev pub PlansGive : Type 0
+PlansGive =
+    (k : Known) (sink : ℕ) (requests : List Request) (made : List ((ℕ × Request) × Part))
+    → IsPlaced k.net sink → HaveOwnPorts k.net → AreTrueIn k.net k.entries → AreForAll requests
+    → AreTaskParts k.net made → keys made ≡ plan_of k sink requests
+    → (i : Information) (whole : Dataset)
+    → IsGiven InformationRule (cone_of k.net sink) (Ok i)
+    → IsGiven ExactRule (cone_of k.net sink) (Ok whole) → IsScratch k.net sink (Ok whole)

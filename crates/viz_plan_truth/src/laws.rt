@@ -1,16 +1,21 @@
 //! Laws of plans that came out. A function that calls one may rest on it.
 
-ghost use Rattle.viz_plan_truth.specs.Truth.{AllAreLeveled, PlansAreNarrow};
+ghost use Rattle.viz_plan_truth.specs.Faults.{FaultsShow};
+ghost use Rattle.viz_plan_truth.specs.Truth.{AllAreLeveled, PlansAreNarrow, PlansGive};
 
 use viz_node_division::{datasets_are_divided, divisions_share_out};
+use viz_node_meaning::rules_are_one;
 use viz_node_narrow::{given_sections_are_narrow, pieces_make_narrow};
+use viz_piece_divisions::sections_of_pieces_are_narrow;
 use viz_plan_law::kept_parts_serve;
 use viz_requests::serving_is_an_order;
 
 /// Where a plan of requests for all of what a node gives came out, no number of a section is wide
-/// at any node upstream, where meshes have names of one level in each sheet.
+/// at any node upstream, where meshes have names of one level in each sheet; and what the node gives
+/// by the exact rule it gives from scratch.
 pub fn plans_are_narrow()
     ensures narrow { AllAreLeveled → PlansAreNarrow }
+    ensures gives { AllAreLeveled → PlansGive }
 {
     datasets_are_divided();
     divisions_share_out();
@@ -18,4 +23,15 @@ pub fn plans_are_narrow()
     kept_parts_serve();
     pieces_make_narrow();
     serving_is_an_order();
+}
+
+/// Where a task of a plan failed, the node of the plan gives no dataset.
+pub fn faults_show()
+    ensures faults { AllAreLeveled → FaultsShow }
+{
+    datasets_are_divided();
+    given_sections_are_narrow();
+    pieces_make_narrow();
+    rules_are_one();
+    sections_of_pieces_are_narrow();
 }
