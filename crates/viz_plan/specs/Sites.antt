@@ -1,5 +1,5 @@
--- What is known of the nodes of steps, in a table by their places. Only private contracts and
--- proofs speak of it.
+-- What is known of the nodes of steps, in a table by their places (VTK User's Guide, the executive:
+-- the request pass).
 use Rattle.std.specs.Prelude.{◌≡◌, ℕ, nat_eq, Bool, ◌&&◌, List, [], ◌∷◌, length, map, filter}
 use Rattle.std.specs.Prelude.{slice_get, Option, None, Some}
 use Rattle.viz_base.specs.declared.node.NodeId.{NodeId}

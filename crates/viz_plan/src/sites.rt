@@ -172,8 +172,8 @@ pub fn sites_of<'a>(
 }
 
 impl<'a> Sites<'a> {
-    // What is known of the node of the step at a place.
-    fn site_at(&self, place: usize, _node: NodeId) -> &Site
+    /// What is known of the node of the step at a place.
+    pub fn site_at(&self, place: usize, _node: NodeId) -> &Site
         requires at { slice_get self.now.order place ≡ Some _node }
         ensures site { IsSite (known_in self.now) _node.0 result.now }
     {
