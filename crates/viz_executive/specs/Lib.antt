@@ -1,0 +1,2 @@
+pub mod Produced
+pub mod Steps

@@ -1,0 +1,5 @@
+pub mod Grounds
+pub mod Tables
+pub mod Tasks
+pub mod Wholes
+pub mod Carrying

@@ -1,0 +1,83 @@
+//! A plan carried out.
+
+ghost use Rattle.std.specs.Prelude.{◌≡◌, ◌<◌, [], IfOk, length};
+ghost use Rattle.viz_kept.specs.True.{AreTrueIn};
+ghost use Rattle.viz_requests.specs.Shapes.{requests_of};
+ghost use Rattle.viz_executive.specs.Steps.Carrying.{ArePlannedLevels, IsCarriedOut};
+ghost use Rattle.viz_executive.specs.Steps.Tables.{AreExact};
+ghost use Rattle.viz_executive.specs.Steps.Tasks.{IsDone};
+ghost use Rattle.viz_executive.specs.Steps.Wholes.{AreAllAnswered};
+
+use crate::ground::Ground;
+use crate::levels::{Done, run_levels};
+use crate::table::kept_by_place;
+use crate::wholes::{Answered, answers, whole_of};
+use std::alloc::{AllocError, Global};
+use std::thread::Threads;
+use viz_base::{Gate, Shape};
+use viz_dataset::Dataset;
+use viz_node_rules::OwnStop;
+use viz_parts::{Key, Stored};
+
+/// The dataset of the node of an update, the parts that tasks made of nodes that aren't released,
+/// in the order of the tasks, and the number of tasks.
+#[derive(Drop)]
+pub struct Carried {
+    pub dataset: Dataset,
+    pub made: Vec<Stored>,
+    pub ran: u64,
+}
+
+// What stands before the first task.
+fn begun(alloc: Global, ground: &Ground<'_>, entries: &[Stored]) -> Result<Done, AllocError>
+    requires entries { AreTrueIn ground.now.known.net entries.now }
+    ensures done { IfOk result (λ d. IsDone ground.now.known.net [] d.table.items d.made.items) }
+{
+    let table = kept_by_place(alloc, ground, entries)?;
+    Ok(Done {
+        table,
+        made: Vec::new(alloc),
+    })
+}
+
+// The parts of the node of the update. All others are given up, but those that have other owners.
+fn last_answers(
+    alloc: Global,
+    ground: &Ground<'_>,
+    table: Vec<Vec<Stored>>,
+) -> Result<Vec<Answered>, AllocError>
+    requires table { AreExact ground.now.known.net table.items }
+    ensures answered { IfOk result (λ all. AreAllAnswered ground.now all.items) }
+{
+    answers(alloc, ground, &table)
+}
+
+/// Carries out the levels of a plan.
+///
+/// # Errors
+///
+/// `Cause` where a task's node has a fault of its own. Want of memory may come in place of it.
+pub fn carry_out<R: Threads + Sync, G: Gate + Sync>(
+    rt: &R,
+    alloc: Global,
+    ground: &Ground<'_>,
+    entries: &[Stored],
+    shape: &Shape,
+    levels: &[Vec<Key>],
+    gate: &G,
+) -> Result<Carried, OwnStop>
+    requires entries { AreTrueIn ground.now.known.net entries.now }
+    requires planned { ArePlannedLevels ground.now.known ground.now.sink ground.now.requests
+        levels.now }
+    requires requests { ground.now.requests ≡ requests_of (ground.now.known.extent ground.now.sink)
+        shape.now.pieces }
+    requires some { 0 < length ground.now.requests }
+    ensures carried { IfOk result (IsCarriedOut ground.now.known ground.now.sink levels.now) }
+{
+    let mut done = begun(alloc, ground, entries)?;
+    let ran = run_levels(rt, alloc, ground, &mut done, levels, shape.workers, gate)?;
+    let Done { table, made } = done;
+    let answered = last_answers(alloc, ground, table)?;
+    let dataset = whole_of(alloc, ground, shape.pieces, answered)?;
+    Ok(Carried { dataset, made, ran })
+}

@@ -1,0 +1,122 @@
+//! The dataset of the node of an update, put together of its parts.
+
+ghost use Rattle.std.specs.Prelude.{◌≡◌, ◌<◌, IfOk, Ok, length, map};
+ghost use Rattle.std.specs.List.{All};
+ghost use Rattle.viz_network.specs.Cone.{cone_of};
+ghost use Rattle.viz_node_division.specs.Exact.{ExactRule};
+ghost use Rattle.viz_node_meaning.specs.Fold.{IsGiven};
+ghost use Rattle.viz_requests.specs.Shapes.{requests_of};
+ghost use Rattle.viz_executive.specs.Steps.Grounds.{IsReached};
+ghost use Rattle.viz_executive.specs.Steps.Tables.{AreExact};
+ghost use Rattle.viz_executive.specs.Steps.Wholes.{AreAllAnswered, AreAnswered, IsAnswered};
+
+use crate::fetching::fetch;
+use crate::ground::Ground;
+use std::alloc::{AllocError, Global};
+use viz_base::{NodeId, Shared};
+use viz_dataset::Dataset;
+use viz_node_division::{datasets_are_divided, divisions_share_out};
+use viz_parts::{Part, Request, Stored};
+use viz_piece_restrict::restrict;
+use viz_piece_stitch::stitch;
+use viz_plan_law::{served_parts_are_cut, told_is_of_datasets};
+use viz_task_parts::parts_are_passed;
+
+/// A request to the node of an update, and the part for it.
+#[derive(Drop)]
+pub struct Answered {
+    pub request: Request,
+    pub part: Shared<Part>,
+}
+
+// The part of the node of the update for a request.
+fn answer(
+    alloc: Global,
+    ground: &Ground<'_>,
+    table: &[Vec<Stored>],
+    place: usize,
+    node: NodeId,
+    request: &Request,
+) -> Result<Answered, AllocError>
+    requires reached { IsReached ground.now place node }
+    requires table { AreExact ground.now.known.net table.now }
+    ensures request { IfOk result (λ a. a.request ≡ request.now) }
+    ensures part { IfOk result (λ a. IsAnswered ground.now a.request a.part) }
+{
+    parts_are_passed();
+    let part = fetch(alloc, ground, table, place, node, request)?;
+    Ok(Answered {
+        request: *request,
+        part,
+    })
+}
+
+/// The parts of the node of the update for all of its requests.
+pub fn answers(
+    alloc: Global,
+    ground: &Ground<'_>,
+    table: &[Vec<Stored>],
+) -> Result<Vec<Answered>, AllocError>
+    requires table { AreExact ground.now.known.net table.now }
+    ensures answered { IfOk result (λ all. AreAllAnswered ground.now all.items) }
+{
+    let Some((place, node)) = ground.source() else {
+        return Err(AllocError);
+    };
+    let requests = ground.requests();
+    let mut all = Vec::with_capacity(alloc, requests.len())?;
+    for request in requests {
+        all.push(answer(alloc, ground, table, place, node, request)?)?;
+    }
+    Ok(all)
+}
+
+// The part itself, copied where it has other owners.
+fn owned(alloc: Global, ground: &Ground<'_>, answered: Answered) -> Result<Part, AllocError>
+    requires part { IsAnswered ground.now answered.request answered.part }
+    ensures part { IfOk result (IsAnswered ground.now answered.request) }
+{
+    served_parts_are_cut();
+    let Answered { request, part } = answered;
+    match part.try_unwrap() {
+        Ok(part) => Ok(part),
+        Err(part) => restrict(alloc, part.get(), &request, &request),
+    }
+}
+
+fn all_owned(
+    alloc: Global,
+    ground: &Ground<'_>,
+    answered: Vec<Answered>,
+) -> Result<Vec<Part>, AllocError>
+    requires all { AreAllAnswered ground.now answered.items }
+    ensures parts { IfOk result (λ parts. AreAnswered ground.now ground.now.requests parts.items) }
+{
+    let mut parts = Vec::with_capacity(alloc, answered.len())?;
+    for one in answered {
+        parts.push(owned(alloc, ground, one)?)?;
+    }
+    Ok(parts)
+}
+
+/// The dataset of the node of the update, put together of its parts for the requests of so many
+/// pieces. Parts that have no other owner aren't copied.
+pub fn whole_of(
+    alloc: Global,
+    ground: &Ground<'_>,
+    _pieces: u32,
+    answered: Vec<Answered>,
+) -> Result<Dataset, AllocError>
+    requires all { AreAllAnswered ground.now answered.items }
+    requires requests { ground.now.requests ≡ requests_of (ground.now.known.extent ground.now.sink)
+        _pieces }
+    requires some { 0 < length ground.now.requests }
+    ensures whole { IfOk result (λ whole. IsGiven ExactRule
+        (cone_of ground.now.known.net ground.now.sink) (Ok whole)) }
+{
+    datasets_are_divided();
+    divisions_share_out();
+    told_is_of_datasets();
+    let parts = all_owned(alloc, ground, answered)?;
+    stitch(alloc, parts)
+}
