@@ -1,8 +1,7 @@
 -- Parts that are there, by the places of the steps of their nodes. Only private contracts and proofs
 -- speak of it.
-use Rattle.std.specs.Prelude.{◌≡◌, ℕ, true, List, [], ◌∷◌, length, slice_get, Option, None, Some}
-use Rattle.std.specs.Prelude.{Global, Result, Ok, IfOk}
-use Rattle.std.specs.List.{All, Contains}
+use Rattle.std.specs.Prelude.{◌≡◌, ℕ, true, List, slice_get, Option, None, Some, Global}
+use Rattle.std.specs.List.{All, AllZip, Contains}
 use Rattle.std.specs.Vec.{Vec}
 use Rattle.viz_base.specs.declared.node.NodeId.{NodeId}
 use Rattle.viz_network.specs.Cone.{cone_of}
@@ -33,18 +32,13 @@ abbrev pub IsPartAt : Network → Request → Option NodeId → Part → Type 0
 IsPartAt net request None part = ⊥
 IsPartAt net request (Some node) part = IsExactPart (cone_of net node.0) request part
 
--- each place, if there is one, has such a part of its node
-abbrev pub AreFetched : Network → List NodeId → Request → List (Option ℕ) → List (Option Part) → Type 0
-AreFetched net order request [] [] = Unit {0}
-AreFetched net order request (None ∷ places) (None ∷ parts) =
-    AreFetched net order request places parts
-AreFetched net order request (Some place ∷ places) (Some part ∷ parts) =
-    IsPartAt net request (slice_get order place) part × AreFetched net order request places parts
-AreFetched net order request _ _ = ⊥
-
--- the same of one
+-- a place, if there is one, has such a part of its node
 abbrev pub IsFetched : Network → List NodeId → Request → Option ℕ → Option Part → Type 0
 IsFetched net order request None None = Unit {0}
 IsFetched net order request (Some place) (Some part) =
     IsPartAt net request (slice_get order place) part
 IsFetched net order request _ _ = ⊥
+
+-- so each of some places
+abbrev pub AreFetched : Network → List NodeId → Request → List (Option ℕ) → List (Option Part) → Type 0
+AreFetched net order request places parts = AllZip (IsFetched net order request) places parts

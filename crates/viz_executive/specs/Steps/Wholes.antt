@@ -1,9 +1,8 @@
 -- Parts of the node of an update for all of its requests. Only private contracts and proofs speak of
 -- it.
-use Rattle.std.specs.Prelude.{◌≡◌, ℕ, ◌<◌, List, [], ◌∷◌, length, map, Option}
-use Rattle.std.specs.List.{All}
-use Rattle.viz_network.specs.Cone.{Tree, cone_of}
-use Rattle.viz_network.specs.Network.{Network}
+use Rattle.std.specs.Prelude.{◌≡◌, List, map}
+use Rattle.std.specs.List.{All, AllZip}
+use Rattle.viz_network.specs.Cone.{cone_of}
 use Rattle.viz_parts.specs.declared.request.Part.{Part}
 use Rattle.viz_parts.specs.declared.request.Request.{Request}
 use Rattle.viz_plan_law.specs.Cutting.{IsExactPart}
@@ -16,10 +15,7 @@ pub record IsAnswered (g : GroundData) (request : Request) (part : Part) : Type 
 
 -- each of some requests has one
 abbrev pub AreAnswered : GroundData → List Request → List Part → Type 0
-AreAnswered g [] [] = Unit {0}
-AreAnswered g (request ∷ requests) (part ∷ parts) =
-    IsAnswered g request part × AreAnswered g requests parts
-AreAnswered g _ _ = ⊥
+AreAnswered g requests parts = AllZip (IsAnswered g) requests parts
 
 -- requests with their parts, which several may own
 pub record AreAllAnswered (g : GroundData) (items : List Answered) : Type 0 where

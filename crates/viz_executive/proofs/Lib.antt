@@ -1,0 +1,5 @@
+mod DoneLemmas
+mod FetchLemmas
+mod PlanLemmas
+mod WholeLemmas
+mod ZipLemmas
