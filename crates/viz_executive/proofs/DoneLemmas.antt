@@ -1,7 +1,7 @@
 -- What stands behind one task more, and behind a level.
-use Rattle.std.proofs.Common.{◌≡◌, ℕ, ◌+◌, ◌<◌, Bool, true, false, cond, List, [], ◌∷◌, ◌++◌, append_assoc, filter, map, length, take, Global, Vec, refl, sym, subst, ◌∙◌, ap, arith}
+use Rattle.std.proofs.Common.{◌≡◌, ℕ, suc, ◌+◌, ◌<◌, Bool, true, false, cond, List, [], ◌∷◌, ◌++◌, append_assoc, filter, map, length, take, Global, Vec, refl, sym, subst, ◌∙◌, ap, arith}
 use Rattle.std.proofs.Math.Seq.{take-suc}
-use Rattle.std.proofs.lemmas.List.{flat_map_more, map-append, length-append}
+use Rattle.std.proofs.lemmas.List.{flat_map_more, length-map, map-append}
 use Rattle.std.proofs.lemmas.List.Elements.{All-append, All-nil, All-push, filter-append}
 use Rattle.std.specs.List.{All, flat_map}
 use lib.ListN.{get_or}
@@ -82,10 +82,11 @@ pub levels_more : (levels : Levels) (i : ℕ) (keys : Vec Key Global) → i < le
     → keys ≡ get_or levels i keys
     → all_needs (take i levels) ++ needs_in keys.items ≡ all_needs (take (i + 1) levels)
 levels_more levels i keys l at =
+    let next_one : suc i ≡ i + 1 = omega arith in
     flat_map_more (λ (k : Vec Key Global). needs_in k.items) [] (take i levels) keys
     ∙ ap (λ t. flat_map (λ (k : Vec Key Global). needs_in k.items) t)
-    (ap (λ k. take i levels ++ k ∷ []) at ∙ sym (take-suc levels i keys l) ∙ ap (λ n. take n levels) (omega arith))
+    (ap (λ k. take i levels ++ k ∷ []) at ∙ sym (take-suc levels i keys l)
+    ∙ ap (λ n. take n levels) next_one)
 
 pub needs_length : (keys : List Key) → length (needs_in keys) ≡ length keys
-needs_length [] = refl
-needs_length (k ∷ keys) = ap (λ n. n + 1) (needs_length keys) ∙ omega arith
+needs_length keys = length-map keys need_of
