@@ -1,5 +1,5 @@
 -- A mesh that a file is read as has one sheet, whose names are leaves.
-use Rattle.std.proofs.Common.{ℕ, Bool, true, false, List, [], ◌∷◌, Option, sym, subst}
+use Rattle.std.proofs.Common.{◌≡◌, ℕ, Bool, true, false, List, Option, sym, subst}
 use Rattle.std.specs.List.{All}
 use Rattle.viz_base.specs.declared.node.Pick.{Pick}
 use Rattle.viz_column.specs.Numbers.{Numbers}
@@ -10,16 +10,15 @@ use Rattle.viz_file_mesh.proofs.MeshLemmas.{file_points-length}
 use Rattle.viz_legacy_read.specs.File.{contents}
 use Rattle.viz_legacy_read.specs.Header.{Heading}
 use Rattle.viz_legacy_read.specs.Header.Heading.{OfImage, OfMesh}
-use Rattle.viz_legacy_read.specs.MeshFile.{grid_behind, is_grid, mesh_behind, poly_behind}
-use Rattle.viz_legacy_read.specs.Reading.{Reads, front}
-use Rattle.viz_legacy_read.specs.declared.front.Preamble.{Preamble}
+use Rattle.viz_legacy_read.specs.MeshFile.{grid_behind, is_grid, poly_behind}
+use Rattle.viz_legacy_read.specs.Reading.{Reads}
 use Rattle.viz_lex.specs.Reading.{Reading}
 use Rattle.viz_lex.specs.Rules.{Rule, choose}
 use Rattle.viz_mesh_read.specs.Grid.{Grid, grid}
 use Rattle.viz_mesh_read.specs.Pieces.{pieces_of}
 use Rattle.viz_mesh_read.specs.Poly.{Poly, polydata}
 use Rattle.viz_mesh_read.specs.declared.coordinates.FilePoints.{FilePoints}
-use Rattle.viz_sheet.specs.Ranked.{IsCell, leaf_names}
+use Rattle.viz_sheet.specs.Ranked.{IsCell}
 use Rattle.viz_sheet.specs.Sheet.{SheetData}
 use Rattle.viz_given.proofs.SheetLemmas.{
   AreLeveled,
@@ -55,31 +54,19 @@ by_either P true a b old new x f g h = f h
 by_either P false a b old new x f g h = g h
 
 module _ (grids : GridsHaveCells) (polys : PolydataHaveCells) where
-  grid_leveled : (pick : Pick) (unit : ℕ) (p : Preamble) (old new : Reading)
-      (sheets : List SheetData) → (grid_behind pick unit p).is old new sheets
-      → All IsLeveled sheets
-  grid_leveled pick unit p old new sheets h =
-      let g = h.0 in
-      subst (All IsLeveled) (sym h.3.3.1)
-      (mesh_leveled unit g.points h.3.0 (grid_pieces g.cells)
-      (grids p.binary p.later old h.1 g h.2))
+  grid_leveled : (unit : ℕ) (binary later : Bool) (old new : Reading) (g : Grid)
+      (picked : Option Numbers) (sheets : List SheetData) → (grid binary later).is old new g
+      → sheets ≡ mesh_of unit g.points picked (grid_pieces g.cells) → All IsLeveled sheets
+  grid_leveled unit binary later old new g picked sheets h is =
+      subst (All IsLeveled) (sym is)
+      (mesh_leveled unit g.points picked (grid_pieces g.cells) (grids binary later old new g h))
 
-  poly_leveled : (pick : Pick) (unit : ℕ) (p : Preamble) (old new : Reading)
-      (sheets : List SheetData) → (poly_behind pick unit p).is old new sheets
-      → All IsLeveled sheets
-  poly_leveled pick unit p old new sheets h =
-      let g = h.0 in
-      subst (All IsLeveled) (sym h.3.3.1)
-      (mesh_leveled unit g.points h.3.0 (pieces_of g.cells)
-      (polys p.binary p.later old h.1 g h.2))
-
-  behind_leveled : (pick : Pick) (unit : ℕ) (p : Preamble) (old new : Reading)
-      (sheets : List SheetData) → (mesh_behind pick unit p).is old new sheets
-      → All IsLeveled sheets
-  behind_leveled pick unit p old new sheets h =
-      by_either (All IsLeveled) (is_grid p) (grid_behind pick unit p) (poly_behind pick unit p) old
-      new sheets (grid_leveled pick unit p old new sheets)
-      (poly_leveled pick unit p old new sheets) h
+  poly_leveled : (unit : ℕ) (binary later : Bool) (old new : Reading) (p : Poly)
+      (picked : Option Numbers) (sheets : List SheetData) → (polydata binary later).is old new p
+      → sheets ≡ mesh_of unit p.points picked (pieces_of p.cells) → All IsLeveled sheets
+  poly_leveled unit binary later old new p picked sheets h is =
+      subst (All IsLeveled) (sym is)
+      (mesh_leveled unit p.points picked (pieces_of p.cells) (polys binary later old new p h))
 
   module _ (images : TetrahedraAreLeveled) where
     contents_leveled : (pick : Pick) (unit : ℕ) (h : Heading) (old new : Reading) (d : Dataset)
@@ -87,7 +74,11 @@ module _ (grids : GridsHaveCells) (polys : PolydataHaveCells) where
     contents_leveled pick unit (OfImage i) old new d h =
         subst AreLeveled (sym h.3.1) (one_sheet _ (images h.0))
     contents_leveled pick unit (OfMesh p) old new d h =
-        subst AreLeveled (sym h.3.1) (behind_leveled pick unit p old h.1 h.0 h.2)
+        subst AreLeveled (sym h.3.1)
+        (by_either (All IsLeveled) (is_grid p) (grid_behind pick unit p)
+        (poly_behind pick unit p) old h.1 h.0
+        (λ g. grid_leveled unit p.binary p.later old g.1 g.0 g.3.0 h.0 g.2 g.3.3.1)
+        (λ g. poly_leveled unit p.binary p.later old g.1 g.0 g.3.0 h.0 g.2 g.3.3.1) h.2)
 
     pub reads_leveled : (bytes : List ℕ) (pick : Pick) (unit : ℕ) (d : Dataset)
         → Reads bytes pick unit d → AreLeveled d

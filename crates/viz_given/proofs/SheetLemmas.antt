@@ -93,8 +93,8 @@ kept_level s t made h = record {
   size = h.size;
   names = record {
     sized = All-from_get_or (λ n. length n ≡ h.size) t.names [] (λ k l.
-    let at = made.points k zero_point l in
-    subst (λ n. length n ≡ h.size) (sym at.2) (h.names.sized at.0 [] at.1));
+        let at = made.points k zero_point l in
+        subst (λ n. length n ≡ h.size) (sym at.2) (h.names.sized at.0 [] at.1));
     ascending = made.sheet.ascending;
   };
 }
