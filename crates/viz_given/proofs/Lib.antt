@@ -1,0 +1,3 @@
+pub mod SheetLemmas
+pub mod FileLemmas
+pub mod RowLemmas
