@@ -7,7 +7,10 @@ use Rattle.viz_parts.specs.declared.request.Part.{Part}
 use Rattle.viz_parts.specs.declared.request.Request.{Request}
 use Rattle.viz_plan_law.specs.Cutting.{IsExactPart}
 use Rattle.viz_plan_meaning.specs.Evaluation.{IsFed}
+use Rattle.viz_plan_meaning.specs.Known.{Known, asked_at}
+use Rattle.viz_plan_meaning.specs.Laws.{inputs_of}
 use Rattle.viz_plan_walk.specs.TaskSteps.{AreSourced}
+use Rattle.viz_task_parts.specs.Tasks.{HasParts}
 use Rattle.viz_executive.specs.Steps.Tables.{AreFetched, IsPartAt}
 
 module _ (net : Network) (order : List NodeId) (request : Request) where
@@ -39,3 +42,14 @@ module _ (net : Network) (order : List NodeId) (request : Request) where
   fed_of bound (Some id ∷ ids) (None ∷ places) parts s f = absurd s
   fed_of bound (Some id ∷ ids) (Some p ∷ places) [] s f = absurd f
   fed_of bound (Some id ∷ ids) (Some p ∷ places) (None ∷ parts) s f = absurd f.0
+
+-- parts at the places that feed the ports of a task's node
+pub parts_are : (k : Known) (order : List NodeId) (bound : ℕ) (task : ℕ × Request)
+    (request : Request) (places : List (Option ℕ)) (parts : List (Option Part))
+    → request ≡ asked_at k task.0 task.1
+    → AreSourced order bound (inputs_of k.net task.0) places
+    → AreFetched k.net order request places parts → HasParts k task parts
+parts_are k order bound task request places parts is s f = record {
+  fed = subst (λ r. IsFed (Has k.net order request) r (inputs_of k.net task.0) parts) is
+      (fed_of k.net order request bound (inputs_of k.net task.0) places parts s f);
+}

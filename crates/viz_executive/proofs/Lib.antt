@@ -1,5 +1,12 @@
 mod DoneLemmas
 mod FetchLemmas
+mod GroundLemmas
+mod StopLemmas
+mod ListLemmas
+mod PartLemmas
 mod PlanLemmas
+mod ProduceLemmas
+mod TableLemmas
+mod UpdateLemmas
 mod WholeLemmas
 mod ZipLemmas

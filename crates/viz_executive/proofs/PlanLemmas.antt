@@ -1,5 +1,5 @@
 -- Levels of a plan have its tasks, each once.
-use Rattle.std.proofs.Common.{◌≡◌, ℕ, zero, suc, List, [], ◌∷◌, ◌++◌, append_assoc, append-nil, map, length, Global, Vec, refl, sym, subst, ◌∙◌, ap}
+use Rattle.std.proofs.Common.{◌≡◌, ℕ, zero, suc, ◌+◌, arith, List, [], ◌∷◌, ◌++◌, append_assoc, append-nil, map, length, refl, sym, subst, ◌∙◌, ap}
 use Rattle.std.proofs.lemmas.List.{map-append}
 use Rattle.std.proofs.lemmas.List.Elements.{All-cons, All-contains_itself, All-head, All-nil}
 use Rattle.std.proofs.lemmas.List.Elements.{All-tail}
@@ -10,6 +10,7 @@ use Rattle.std.proofs.lemmas.List.Sorted.{
   IsPermutation-sym,
   length_permutation,
 }
+use Rattle.std.specs.Global.{Vec}
 use Rattle.std.specs.List.{All, Contains, flat_map, range_with_len}
 use Rattle.std.specs.List.Sorted.{IsPermutation}
 use Rattle.viz_kept.specs.True.{HasStamp}
@@ -66,7 +67,10 @@ module _ (t : Tasks Request) where
   levels_joined : (n : ℕ) → joined (map level (range_with_len 0 n)) ≡ needs_of (by_level n t)
   levels_joined zero = refl
   levels_joined (suc n) =
-      ap joined (map-range_with_len_more level 0 n n refl)
+      let at : 0 + n ≡ n = omega arith in
+      let next : suc n ≡ n + 1 = omega arith in
+      ap (λ m. joined (map level (range_with_len 0 m))) next
+      ∙ ap joined (map-range_with_len_more level 0 n n at)
       ∙ joined_append (map level (range_with_len 0 n)) (level n ∷ [])
       ∙ ap (λ l. joined (map level (range_with_len 0 n)) ++ l) (append-nil (level n))
       ∙ ap (λ l. l ++ level n) (levels_joined n)
@@ -74,10 +78,10 @@ module _ (t : Tasks Request) where
 
 -- ---- the levels of a plan
 
-abbrev needs_at : Vec Key Global → List (ℕ × Request)
+abbrev pub needs_at : Vec Key → List (ℕ × Request)
 needs_at keys = needs_in keys.items
 
-module _ (k : Known) (sink : ℕ) (rs : List Request) (levels : List (Vec Key Global))
+module _ (k : Known) (sink : ℕ) (rs : List Request) (levels : List (Vec Key))
     (are : AreLevelsOf k sink rs (map needs_at levels)) where
   abbrev tasks : Tasks Request
   tasks = tasks_of k sink rs
@@ -112,11 +116,14 @@ module _ (k : Known) (sink : ℕ) (rs : List Request) (levels : List (Vec Key Gl
       All-permutation P (all_needs levels) (plan_of k sink rs)
       (IsPermutation-sym (plan_of k sink rs) (all_needs levels) same_tasks) h
 
-  pub levels_planned : All (λ (keys : Vec Key Global). All (HasStamp k.net) keys.items) levels
+  pub in_plan : All (Contains (plan_of k sink rs)) (all_needs levels)
+  in_plan =
+      All-permutation (Contains (plan_of k sink rs)) (plan_of k sink rs) (all_needs levels)
+      same_tasks (All-contains_itself (plan_of k sink rs))
+
+  pub levels_planned : All (λ (keys : Vec Key). All (HasStamp k.net) keys.items) levels
       → ArePlannedLevels k sink rs levels
   levels_planned stamps =
       let plan = plan_of k sink rs in
-      let all = All-permutation (Contains plan) plan (all_needs levels) same_tasks
-      (All-contains_itself plan) in
-      let tasks = each_of (Contains plan) needs_at levels all in
+      let tasks = each_of (Contains plan) needs_at levels in_plan in
       record { each = λ i d l. record { tasks = tasks i d l; stamps = stamps i d l } }

@@ -28,13 +28,41 @@ use Rattle.viz_plan_law.specs.Cutting.{IsExactPart}
 use Rattle.viz_plan_law.specs.Fitting.{IsExtentTold, IsKnown}
 use Rattle.viz_plan_law.specs.Told.{ToldExtentsAreOwn, ToldMeshesAreGiven}
 use Rattle.viz_requests.specs.Shapes.{requests_of, slab_request}
+use Rattle.viz_plan.specs.Sites.{known_in}
+use Rattle.viz_plan.specs.Told.{extent_told}
 use Rattle.viz_sheet.specs.Sheet.{SheetData}
+use Rattle.viz_task_parts.specs.Tasks.{IsUpdate}
+use Rattle.viz_executive.specs.Steps.Grounds.{GroundData}
+use Rattle.viz_executive.specs.Steps.Wholes.{AreAnswered, IsAnswered, IsWhole}
+use Rattle.viz_executive.proofs.UpdateLemmas.{sink_known}
+use Rattle.viz_executive.proofs.ZipLemmas.{zip_map}
 
 -- what the node at the foot of a cone gives by the exact rule, of which these are all parts
 pub record HasAllParts (cone : Option Tree) (parts : List Part) : Type 0 where
   pub whole : Dataset
   pub all : AreAllOf whole parts
   pub given : IsGiven ExactRule cone (Ok whole)
+
+-- ---- slabs
+
+abbrev pub blocks : List Bounds → List Request
+blocks bounds = map (λ b. Block b) bounds
+
+abbrev pub asked : Bounds → ℕ → List ℕ → List Request
+asked whole n ps = flat_map (λ p. slab_request (slab_of p n whole)) ps
+
+abbrev pub slabs : Bounds → ℕ → List ℕ → List Bounds
+slabs whole n ps = flat_map (λ p. option_to_list (slab_of p n whole)) ps
+
+slab_more : (o : Option Bounds) (rs : List Request) (bs : List Bounds) → rs ≡ blocks bs
+    → slab_request o ++ rs ≡ blocks (option_to_list o ++ bs)
+slab_more None rs bs e = e
+slab_more (Some b) rs bs e = ap (λ l. Block b ∷ l) e
+
+pub slabs_are : (whole : Bounds) (n : ℕ) (ps : List ℕ) → asked whole n ps ≡ blocks (slabs whole n ps)
+slabs_are whole n [] = refl
+slabs_are whole n (p ∷ ps) =
+    slab_more (slab_of p n whole) (asked whole n ps) (slabs whole n ps) (slabs_are whole n ps)
 
 module _ (one : DivisionsAreOne) (exact : DividedAreExact) (shares : DivisionsShareOut)
     (extents : ToldExtentsAreOwn) (meshes : ToldMeshesAreGiven) (cone : Option Tree) where
@@ -51,24 +79,6 @@ module _ (one : DivisionsAreOne) (exact : DividedAreExact) (shares : DivisionsSh
       (subst (λ v. IsAnswer h.whole v request part) same.1 h.one.answers)
 
   -- ---- images
-
-  blocks_of : List Bounds → List Request
-  blocks_of bounds = map (λ b. Block b) bounds
-
-  slabs_are : (whole : Bounds) (n : ℕ) (ps : List ℕ)
-      → flat_map (λ p. slab_request (slab_of p n whole)) ps
-      ≡ map (λ b. Block b) (flat_map (λ p. option_to_list (slab_of p n whole)) ps)
-  slabs_are whole n [] = refl
-  slabs_are whole n (p ∷ ps) = by (slab_of p n whole)
-    where
-      rest : flat_map (λ p. slab_request (slab_of p n whole)) ps
-          ≡ map (λ b. Block b) (flat_map (λ p. option_to_list (slab_of p n whole)) ps)
-      rest = slabs_are whole n ps
-
-      by : (o : Option Bounds) → slab_request o ++ flat_map (λ p. slab_request (slab_of p n whole)) ps
-          ≡ map (λ b. Block b) (option_to_list o ++ flat_map (λ p. option_to_list (slab_of p n whole)) ps)
-      by None = rest
-      by (Some b) = ap (λ l. Block b ∷ l) rest
 
   blocks_zip : (image : ImageData) (division : Division) → IsDivided cone (OfImage image) division
       → (bounds : List Bounds) (parts : List Part) → AllZip Has (map (λ b. Block b) bounds) parts
@@ -92,8 +102,9 @@ module _ (one : DivisionsAreOne) (exact : DividedAreExact) (shares : DivisionsSh
   piece_at n parts z p part l =
       let rs = requests_of None n in
       let none = Piece p n 0 in
+      let at : 0 + p ≡ p = omega arith in
       subst (λ r. Has r (slice_index_or parts p part))
-      (get_or-map-range_with_len (λ p. Piece p n 0) 0 n p p none l refl)
+      (get_or-map-range_with_len (λ p. Piece p n 0) 0 n p p none l at)
       (zip_at rs parts z p none part (omega (arith, l, length-map-range_with_len (λ p. Piece p n 0) 0 n)))
     where
       zip_at : (rs : List Request) (parts : List Part) → AllZip Has rs parts → (i : ℕ) (r : Request)
@@ -153,7 +164,7 @@ module _ (one : DivisionsAreOne) (exact : DividedAreExact) (shares : DivisionsSh
           (same_whole (OfMesh sheets) division d (Piece p n 0) (slice_index_or parts p part)
           (piece_at n parts z p part l)).1
 
-  by_information : (i : Information) → IsGiven InformationRule cone (Ok i) → (own : Option Bounds)
+  pub by_information : (i : Information) → IsGiven InformationRule cone (Ok i) → (own : Option Bounds)
       → IsExtentTold own i → (n : ℕ) (parts : List Part) → AllZip Has (requests_of own n) parts
       → 0 < length (requests_of own n) → HasAllParts cone parts
   by_information (told.OfImage g) given own e n parts z l =
@@ -175,3 +186,24 @@ module _ (one : DivisionsAreOne) (exact : DividedAreExact) (shares : DivisionsSh
     where
       few : (n : ℕ) → 0 < length (requests_of None n) → 0 < n
       few n l = omega (arith, l, length-map-range_with_len (λ p. Piece p n 0) 0 n)
+
+-- the parts of the node of an update for all of its requests
+pub all_parts : DivisionsAreOne → DividedAreExact → DivisionsShareOut → ToldExtentsAreOwn
+    → ToldMeshesAreGiven → (g : GroundData) → IsUpdate (known_in g.sites) g.sink g.requests
+    → (n : ℕ) → g.requests ≡ requests_of (extent_told g.sites.told g.sink) n
+    → 0 < length g.requests → (parts : List Part) → AreAnswered g g.requests parts
+    → HasAllParts (cone_of g.sites.net g.sink) parts
+all_parts one exact shares extents meshes g u n is some parts z =
+    let k = known_in g.sites in
+    let known = sink_known k g.sink g.requests u in
+    let cone = cone_of g.sites.net g.sink in
+    let own = extent_told g.sites.told g.sink in
+    by_information one exact shares extents meshes cone known.information known.given own
+    known.extent n parts
+    (subst (λ rs. AllZip (λ r p. IsExactPart cone r p) rs parts) is
+        (zip_map (IsAnswered g) (λ r p. IsExactPart cone r p) (λ r p h. h.exact) g.requests parts z))
+    (subst (λ rs. 0 < length rs) is some)
+
+pub whole_is : (g : GroundData) (parts : List Part)
+    (h : HasAllParts (cone_of g.sites.net g.sink) parts) (w : Dataset) → w ≡ h.whole → IsWhole g w
+whole_is g parts h w e = subst (IsWhole g) (sym e) (record { given = h.given })

@@ -1,6 +1,8 @@
 //! A plan carried out.
 
 ghost use Rattle.std.specs.Prelude.{◌≡◌, ◌<◌, [], IfOk, length};
+ghost use Rattle.viz_plan.specs.Sites.{known_in};
+ghost use Rattle.viz_plan.specs.Told.{extent_told};
 ghost use Rattle.viz_kept.specs.True.{AreTrueIn};
 ghost use Rattle.viz_requests.specs.Shapes.{requests_of};
 ghost use Rattle.viz_executive.specs.Steps.Carrying.{ArePlannedLevels, IsCarriedOut};
@@ -30,8 +32,8 @@ pub struct Carried {
 
 // What stands before the first task.
 fn begun(alloc: Global, ground: &Ground<'_>, entries: &[Stored]) -> Result<Done, AllocError>
-    requires entries { AreTrueIn ground.now.known.net entries.now }
-    ensures done { IfOk result (λ d. IsDone ground.now.known.net [] d.table.items d.made.items) }
+    requires entries { AreTrueIn ground.now.sites.net entries.now }
+    ensures done { IfOk result (λ d. IsDone ground.now.sites.net [] d.table.items d.made.items) }
 {
     let table = kept_by_place(alloc, ground, entries)?;
     Ok(Done {
@@ -46,7 +48,7 @@ fn last_answers(
     ground: &Ground<'_>,
     table: Vec<Vec<Stored>>,
 ) -> Result<Vec<Answered>, AllocError>
-    requires table { AreExact ground.now.known.net table.items }
+    requires table { AreExact ground.now.sites.net table.items }
     ensures answered { IfOk result (λ all. AreAllAnswered ground.now all.items) }
 {
     answers(alloc, ground, &table)
@@ -66,14 +68,17 @@ pub fn carry_out<R: Threads + Sync, G: Gate + Sync>(
     levels: &[Vec<Key>],
     gate: &G,
 ) -> Result<Carried, OwnStop>
-    requires entries { AreTrueIn ground.now.known.net entries.now }
-    requires planned { ArePlannedLevels ground.now.known ground.now.sink ground.now.requests
+    requires entries { AreTrueIn ground.now.sites.net entries.now }
+    requires planned { ArePlannedLevels (known_in ground.now.sites) ground.now.sink ground.now.requests
         levels.now }
-    requires requests { ground.now.requests ≡ requests_of (ground.now.known.extent ground.now.sink)
+    requires requests { ground.now.requests ≡ requests_of (extent_told ground.now.sites.told
+        ground.now.sink)
         shape.now.pieces }
     requires some { 0 < length ground.now.requests }
-    ensures carried { IfOk result (IsCarriedOut ground.now.known ground.now.sink levels.now) }
+    ensures carried { IfOk result (IsCarriedOut (known_in ground.now.sites) ground.now.sink
+        ground.now.requests levels.now) }
 {
+    ground.known();
     let mut done = begun(alloc, ground, entries)?;
     let ran = run_levels(rt, alloc, ground, &mut done, levels, shape.workers, gate)?;
     let Done { table, made } = done;

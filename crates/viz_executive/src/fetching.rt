@@ -1,8 +1,9 @@
 //! Parts for requests, cut from those that are there.
 
-ghost use Rattle.std.specs.Prelude.{◌≡◌, IfOk, IfSome, Some, slice_get};
+ghost use Rattle.std.specs.Prelude.{◌≡◌, IfOk, IfSome, IsTrue, Some, slice_get, true};
 ghost use Rattle.viz_network.specs.Cone.{cone_of};
 ghost use Rattle.viz_plan_law.specs.Cutting.{IsExactPart};
+ghost use Rattle.viz_requests.specs.Serving.{serves};
 ghost use Rattle.viz_executive.specs.Steps.Tables.{AreExact, AreFetched, IsFetched, IsFound};
 
 use crate::ground::Ground;
@@ -13,7 +14,10 @@ use viz_piece_restrict::restrict_shared;
 use viz_plan_law::served_parts_are_cut;
 use viz_requests::{fits, serves, widened};
 
-fn is_serving(item: &Stored, node: NodeId, wanted: &Request) -> bool {
+fn is_serving(item: &Stored, node: NodeId, wanted: &Request) -> bool
+    ensures { IsTrue result → (item.now.key.node ≡ node)
+        × (serves item.now.key.request wanted.now ≡ true) }
+{
     item.key.node == node && serves(&item.key.request, wanted)
 }
 
@@ -40,8 +44,8 @@ pub fn fetch(
     request: &Request,
 ) -> Result<Shared<Part>, AllocError>
     requires at { slice_get ground.now.order place ≡ Some node }
-    requires table { AreExact ground.now.known.net table.now }
-    ensures part { IfOk result (IsExactPart (cone_of ground.now.known.net node.0) request.now) }
+    requires table { AreExact ground.now.sites.net table.now }
+    ensures part { IfOk result (IsExactPart (cone_of ground.now.sites.net node.0) request.now) }
 {
     served_parts_are_cut();
     let site = ground.site(place, node);
@@ -55,7 +59,8 @@ pub fn fetch(
     let Some(found) = first_serving(items, node, &wanted) else {
         return Err(AllocError);
     };
-    restrict_shared(alloc, &found.part, &found.key.request, request)
+    let cut = restrict_shared(alloc, &found.part, &found.key.request, request)?;
+    Ok(cut)
 }
 
 // The part of the node at a place, if there is a place.
@@ -66,8 +71,8 @@ fn fetch_at(
     place: &Option<usize>,
     request: &Request,
 ) -> Result<Option<Shared<Part>>, AllocError>
-    requires table { AreExact ground.now.known.net table.now }
-    ensures part { IfOk result (IsFetched ground.now.known.net ground.now.order request.now
+    requires table { AreExact ground.now.sites.net table.now }
+    ensures part { IfOk result (IsFetched ground.now.sites.net ground.now.order request.now
         place.now) }
 {
     let Some(place) = place else {
@@ -88,8 +93,8 @@ pub fn fetch_all(
     places: &[Option<usize>],
     request: &Request,
 ) -> Result<Vec<Option<Shared<Part>>>, AllocError>
-    requires table { AreExact ground.now.known.net table.now }
-    ensures parts { IfOk result (λ parts. AreFetched ground.now.known.net ground.now.order
+    requires table { AreExact ground.now.sites.net table.now }
+    ensures parts { IfOk result (λ parts. AreFetched ground.now.sites.net ground.now.order
         request.now places.now parts.items) }
 {
     let mut parts = Vec::with_capacity(alloc, places.len())?;

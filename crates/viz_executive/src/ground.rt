@@ -4,7 +4,7 @@ ghost use Rattle.std.specs.Prelude.{◌≡◌, IfOk, IfSome, Some, slice_get};
 ghost use Rattle.std.specs.Option.{option_copied};
 ghost use Rattle.viz_network.specs.Network.{node_of};
 ghost use Rattle.viz_network.specs.Step.{AreSteps, nodes_of};
-ghost use Rattle.viz_plan.specs.Sites.{IsSite};
+ghost use Rattle.viz_plan.specs.Sites.{IsSite, known_in};
 ghost use Rattle.viz_plan.specs.Told.{known_with};
 ghost use Rattle.viz_plan_meaning.specs.Networks.{ways_at};
 ghost use Rattle.viz_plan_meaning.specs.Plan.{heads};
@@ -24,7 +24,7 @@ use viz_plan::{Site, Sites, sites_of};
 use viz_plan_walk::{Tasks, task_steps};
 
 /// A network with its steps, what is known of its nodes, and the requests of an update of one.
-/// Contracts see what is known, the nodes of the steps, the node of the update and its requests.
+/// Contracts see what is told and kept, the nodes of the steps, the node of the update and its requests.
 #[derive(Drop)]
 pub struct Ground<'a> {
     net: &'a Net,
@@ -38,13 +38,12 @@ pub struct Ground<'a> {
 
 impl<'a> Model for Ground<'a> {
     ghost use Rattle.viz_network.specs.Step.{nodes_of};
-    ghost use Rattle.viz_plan.specs.Sites.{known_in};
     ghost use Rattle.viz_executive.specs.Steps.Grounds.{GroundData, IsGround};
 
     ghost Value = { GroundData };
 
     ghost view = { λ g. record {
-      known = known_in g.sites;
+      sites = g.sites;
       order = nodes_of g.steps.now;
       sink = g.sink.0;
       requests = g.requests.now;
@@ -67,7 +66,9 @@ impl<'a> Ground<'a> {
     ) -> Result<Ground<'a>, AllocError>
         requires steps { AreSteps net.now steps.now }
         requires update { IsUpdate (known_with net.now told.now entries.now) sink.0 requests.now }
-        ensures known { IfOk result (λ g. g.known ≡ known_with net.now told.now entries.now) }
+        ensures net { IfOk result (λ g. g.sites.net ≡ net.now) }
+        ensures told { IfOk result (λ g. g.sites.told ≡ told.now) }
+        ensures entries { IfOk result (λ g. g.sites.entries ≡ entries.now) }
         ensures order { IfOk result (λ g. g.order ≡ nodes_of steps.now) }
         ensures sink { IfOk result (λ g. g.sink ≡ sink.0) }
         ensures requests { IfOk result (λ g. g.requests ≡ requests.now) }
@@ -86,6 +87,13 @@ impl<'a> Ground<'a> {
         })
     }
 
+    /// Says what an update goes by to a caller's proof; it does nothing.
+    pub fn known(&self)
+        ensures update { IsUpdate (known_in self.now.sites) self.now.sink self.now.requests }
+    {
+        let _net = self.net;
+    }
+
     /// The requests.
     pub fn requests(&self) -> &[Request]
         ensures { result.now ≡ self.now.requests }
@@ -102,14 +110,14 @@ impl<'a> Ground<'a> {
 
     /// The node with this position of its Add.
     pub fn node(&self, node: NodeId) -> Option<&Node>
-        ensures { option_copied result ≡ node_of self.now.known.net node.0 }
+        ensures { option_copied result ≡ node_of self.now.sites.net node.0 }
     {
         self.net.node(node)
     }
 
     /// The stamps of all nodes.
     pub fn stamps(&self) -> Stamps<'_>
-        ensures { result ≡ self.now.known.net }
+        ensures { result ≡ self.now.sites.net }
     {
         self.net.stamps()
     }
@@ -124,7 +132,7 @@ impl<'a> Ground<'a> {
     /// What is known of the node at a place.
     pub fn site(&self, place: usize, node: NodeId) -> &Site
         requires at { slice_get self.now.order place ≡ Some node }
-        ensures site { IsSite self.now.known node.0 result.now }
+        ensures site { IsSite (known_in self.now.sites) node.0 result.now }
     {
         self.sites.site_at(place, node)
     }
@@ -133,7 +141,7 @@ impl<'a> Ground<'a> {
     pub fn inputs(&self, place: usize, _node: NodeId) -> Option<&[Option<usize>]>
         requires at { slice_get self.now.order place ≡ Some _node }
         ensures { IfSome result (λ places. AreSourced self.now.order place
-            (heads (ways_at self.now.known.net _node.0)) places.now) }
+            (heads (ways_at self.now.sites.net _node.0)) places.now) }
     {
         match self.tasks.steps.get(place) {
             Some(step) => Some(&step.inputs),

@@ -1,6 +1,7 @@
 //! The tasks of one level, done on workers.
 
 ghost use Rattle.std.specs.Prelude.{◌≡◌, ◌+◌, ◌++◌, ◌∷◌, [], ◌^◌, ◌<◌, IfOk, OnOk, length, vec_len};
+ghost use Rattle.viz_plan.specs.Sites.{known_in};
 ghost use Rattle.viz_executive.specs.Steps.Tables.{AreExact};
 ghost use Rattle.viz_executive.specs.Steps.Tasks.{AreItemsOf, ArePlanned, HasItem};
 ghost use Rattle.viz_workers.specs.Level.{AreItems};
@@ -59,7 +60,7 @@ fn all_items(
 ) -> Result<Vec<Stored>, OwnStop>
     requires len { vec_len items ≡ length _keys.now }
     requires items { AreItems (HasItem _ground.now _keys.now _first) _first items.items }
-    ensures items { IfOk result (λ all. AreItemsOf _ground.now.known.net _keys.now all.items) }
+    ensures items { IfOk result (λ all. AreItemsOf _ground.now.sites.net _keys.now all.items) }
 {
     let mut all = Vec::with_capacity(alloc, items.len())?;
     for item in items {
@@ -79,11 +80,11 @@ pub fn run_tasks<R: Threads + Sync, G: Gate + Sync>(
     workers: u32,
     gate: &G,
 ) -> Result<Vec<Stored>, OwnStop>
-    requires table { AreExact ground.now.known.net table.now }
-    requires planned { ArePlanned ground.now.known ground.now.sink ground.now.requests keys.now }
+    requires table { AreExact ground.now.sites.net table.now }
+    requires planned { ArePlanned (known_in ground.now.sites) ground.now.sink ground.now.requests keys.now }
     requires workers { 0 < workers }
     requires room { first + length keys.now < 2 ^ 64 }
-    ensures items { IfOk result (λ all. AreItemsOf ground.now.known.net keys.now all.items) }
+    ensures items { IfOk result (λ all. AreItemsOf ground.now.sites.net keys.now all.items) }
 {
     let level = Level {
         alloc,

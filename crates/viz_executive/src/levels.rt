@@ -2,6 +2,7 @@
 
 ghost use Rattle.std.specs.Prelude.{◌≡◌, ℕ, ◌+◌, ◌++◌, ◌∷◌, [], ◌<◌, IfOk, List, OnOk, length};
 ghost use Rattle.std.specs.List.{All};
+ghost use Rattle.viz_plan.specs.Sites.{known_in};
 ghost use Rattle.viz_parts.specs.declared.request.Request.{Request as Asked};
 ghost use Rattle.viz_plan.specs.Told.{needs_in};
 ghost use Rattle.viz_executive.specs.Produced.{keys_of, need_of};
@@ -35,7 +36,7 @@ pub struct Done {
 
 // Whether the parts of a node stay.
 fn is_staying(ground: &Ground<'_>, node: NodeId) -> bool
-    ensures { result ≡ is_staying ground.now.known.net node.0 }
+    ensures { result ≡ is_staying ground.now.sites.net node.0 }
 {
     match ground.node(node) {
         Some(node) => !node.release,
@@ -55,25 +56,26 @@ fn keep_made(made: &mut Vec<Stored>, is_staying: bool, item: &Stored) -> Result<
 
 // Keeps what a task made.
 fn keep(ground: &Ground<'_>, done: &mut Done, item: Stored) -> Result<(), AllocError>
-    requires item { IsTaskItem ground.now.known.net item }
+    requires item { IsTaskItem ground.now.sites.net item }
     ensures { (needs : List (ℕ × Asked))
-        → IsDone ground.now.known.net needs done.old.table.items done.old.made.items
-        → OnOk result (IsDone ground.now.known.net (needs ++ need_of item.key ∷ [])
+        → IsDone ground.now.sites.net needs done.old.table.items done.old.made.items
+        → OnOk result (IsDone ground.now.sites.net (needs ++ need_of item.key ∷ [])
         done.new.table.items done.new.made.items) }
 {
     let Some(place) = ground.place(item.key.node) else {
         return Err(AllocError);
     };
     keep_made(&mut done.made, is_staying(ground, item.key.node), &item)?;
-    put(&mut done.table, place, item)
+    put(&mut done.table, place, item)?;
+    Ok(())
 }
 
 // Keeps what the tasks of a level made.
 fn keep_all(ground: &Ground<'_>, done: &mut Done, items: Vec<Stored>) -> Result<(), AllocError>
-    requires items { All (IsTaskItem ground.now.known.net) items.items }
+    requires items { All (IsTaskItem ground.now.sites.net) items.items }
     ensures { (needs : List (ℕ × Asked))
-        → IsDone ground.now.known.net needs done.old.table.items done.old.made.items
-        → OnOk result (IsDone ground.now.known.net (needs ++ needs_in (keys_of items.items))
+        → IsDone ground.now.sites.net needs done.old.table.items done.old.made.items
+        → OnOk result (IsDone ground.now.sites.net (needs ++ needs_in (keys_of items.items))
         done.new.table.items done.new.made.items) }
 {
     for item in items {
@@ -93,13 +95,13 @@ fn run_one<R: Threads + Sync, G: Gate + Sync>(
     workers: u32,
     gate: &G,
 ) -> Result<u64, OwnStop>
-    requires planned { ArePlanned ground.now.known ground.now.sink ground.now.requests keys.now }
+    requires planned { ArePlanned (known_in ground.now.sites) ground.now.sink ground.now.requests keys.now }
     requires workers { 0 < workers }
-    requires exact { AreExact ground.now.known.net done.old.table.items }
+    requires exact { AreExact ground.now.sites.net done.old.table.items }
     ensures number { IfOk result (λ n. n ≡ first + length keys.now) }
     ensures done { (needs : List (ℕ × Asked))
-        → IsDone ground.now.known.net needs done.old.table.items done.old.made.items
-        → OnOk result (IsDone ground.now.known.net (needs ++ needs_in keys.now)
+        → IsDone ground.now.sites.net needs done.old.table.items done.old.made.items
+        → OnOk result (IsDone ground.now.sites.net (needs ++ needs_in keys.now)
         done.new.table.items done.new.made.items) }
 {
     let Some(next) = first.checked_add(keys.len() as u64) else {
@@ -124,12 +126,12 @@ pub fn run_levels<R: Threads + Sync, G: Gate + Sync>(
     workers: u32,
     gate: &G,
 ) -> Result<u64, OwnStop>
-    requires planned { ArePlannedLevels ground.now.known ground.now.sink ground.now.requests
+    requires planned { ArePlannedLevels (known_in ground.now.sites) ground.now.sink ground.now.requests
         levels.now }
     requires workers { 0 < workers }
-    requires done { IsDone ground.now.known.net [] done.old.table.items done.old.made.items }
+    requires done { IsDone ground.now.sites.net [] done.old.table.items done.old.made.items }
     ensures number { IfOk result (λ n. n ≡ length (all_needs levels.now)) }
-    ensures done { OnOk result (IsDone ground.now.known.net (all_needs levels.now)
+    ensures done { OnOk result (IsDone ground.now.sites.net (all_needs levels.now)
         done.new.table.items done.new.made.items) }
 {
     let mut ran = 0;

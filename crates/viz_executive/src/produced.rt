@@ -78,7 +78,7 @@ fn carried<R: Threads + Sync, G: Gate + Sync>(
     requires levels { ArePlannedLevels (known_with net.now told.now entries.now) sink.0
         (requests_of (extent_told told.now sink.0) shape.now.pieces) plan.now.levels.items }
     ensures carried { IfOk result (IsCarriedOut (known_with net.now told.now entries.now) sink.0
-        plan.now.levels.items) }
+        (requests_of (extent_told told.now sink.0) shape.now.pieces) plan.now.levels.items) }
 {
     plans_fit();
     let steps = net.steps(alloc)?;
@@ -87,7 +87,8 @@ fn carried<R: Threads + Sync, G: Gate + Sync>(
         return Err(OwnStop::Memory);
     }
     let ground = Ground::new(alloc, net, told, entries, &steps, sink, &requests)?;
-    carry_out(rt, alloc, &ground, entries, shape, &plan.levels, gate)
+    let carried = carry_out(rt, alloc, &ground, entries, shape, &plan.levels, gate)?;
+    Ok(carried)
 }
 
 /// What an update of a node gives by its plan, in so many pieces and by so many workers.
@@ -120,12 +121,13 @@ pub fn produce<R: Threads + Sync, G: Gate + Sync>(
     given_meshes_are_leveled();
     plans_are_narrow();
     plans_fit();
-    let told = match told_of(alloc, net, sink) {
+    let all_told = match told_of(alloc, net, sink) {
         Ok(told) => told,
         Err(stop) => return Err(stop),
     };
-    let plan = demand(alloc, net, &told, entries, sink, shape)?;
-    match carried(rt, alloc, net, &told, entries, sink, shape, &plan, gate) {
+    let told = all_told.as_slice();
+    let plan = demand(alloc, net, told, entries, sink, shape)?;
+    match carried(rt, alloc, net, told, entries, sink, shape, &plan, gate) {
         Ok(carried) => Ok(Produced {
             dataset: carried.dataset,
             used: plan.used,

@@ -1,6 +1,6 @@
 //! Parts that are there, by the places of the steps of their nodes.
 
-ghost use Rattle.std.specs.Prelude.{◌≡◌, IfOk, IsTrue, OnOk};
+ghost use Rattle.std.specs.Prelude.{◌≡◌, ◌++◌, ◌∷◌, [], IfOk, IsTrue, OnOk};
 ghost use Rattle.viz_kept.specs.True.{AreTrueIn, HasStamp, IsTrueIn};
 ghost use Rattle.viz_network.specs.Network.{Network};
 ghost use Rattle.viz_executive.specs.Steps.Tables.{AreExact, IsExactItem};
@@ -22,16 +22,23 @@ pub fn copied(item: &Stored) -> Result<Stored, AllocError>
     })
 }
 
+fn push(items: &mut Vec<Stored>, item: Stored) -> Result<(), AllocError>
+    ensures { OnOk result (items.new.items ≡ items.old.items ++ item ∷ []) }
+{
+    items.push(item)?;
+    Ok(())
+}
+
 /// Puts a part behind those of its place. `Err` is want of memory, or comes where there is no such
 /// place.
 pub fn put(table: &mut Vec<Vec<Stored>>, place: usize, item: Stored) -> Result<(), AllocError>
     ensures { (net : Network) → AreExact net table.old.items → IsExactItem net item
         → OnOk result (AreExact net table.new.items) }
 {
-    let Some(items) = table.get_mut(place) else {
+    if place >= table.len() {
         return Err(AllocError);
-    };
-    items.push(item)?;
+    }
+    push(&mut table[place], item)?;
     Ok(())
 }
 
@@ -52,10 +59,10 @@ fn put_kept(
     table: &mut Vec<Vec<Stored>>,
     item: &Stored,
 ) -> Result<(), AllocError>
-    requires stamps { stamps.now ≡ ground.now.known.net }
-    requires table { AreExact ground.now.known.net table.old.items }
-    requires item { IsTrueIn ground.now.known.net item.now }
-    ensures { OnOk result (AreExact ground.now.known.net table.new.items) }
+    requires stamps { stamps.now ≡ ground.now.sites.net }
+    requires table { AreExact ground.now.sites.net table.old.items }
+    requires item { IsTrueIn ground.now.sites.net item.now }
+    ensures { OnOk result (AreExact ground.now.sites.net table.new.items) }
 {
     served_parts_are_cut();
     if !is_present(stamps, &item.key) {
@@ -64,12 +71,13 @@ fn put_kept(
     let Some(place) = ground.place(item.key.node) else {
         return Ok(());
     };
-    put(table, place, copied(item)?)
+    put(table, place, copied(item)?)?;
+    Ok(())
 }
 
 // A place without parts for each step.
 fn empty_table(alloc: Global, ground: &Ground<'_>) -> Result<Vec<Vec<Stored>>, AllocError>
-    ensures { IfOk result (λ table. AreExact ground.now.known.net table.items) }
+    ensures { IfOk result (λ table. AreExact ground.now.sites.net table.items) }
 {
     let steps = ground.steps();
     let mut table = Vec::with_capacity(alloc, steps.len())?;
@@ -86,8 +94,8 @@ pub fn kept_by_place(
     ground: &Ground<'_>,
     entries: &[Stored],
 ) -> Result<Vec<Vec<Stored>>, AllocError>
-    requires entries { AreTrueIn ground.now.known.net entries.now }
-    ensures { IfOk result (λ table. AreExact ground.now.known.net table.items) }
+    requires entries { AreTrueIn ground.now.sites.net entries.now }
+    ensures { IfOk result (λ table. AreExact ground.now.sites.net table.items) }
 {
     let stamps = ground.stamps();
     let mut table = empty_table(alloc, ground)?;

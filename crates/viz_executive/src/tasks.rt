@@ -2,6 +2,7 @@
 
 ghost use Rattle.std.specs.Prelude.{◌≡◌, IfOk, IfSome, Some, slice_get};
 ghost use Rattle.std.specs.List.{Contains};
+ghost use Rattle.viz_plan.specs.Sites.{known_in};
 ghost use Rattle.viz_plan_meaning.specs.Known.{asked_at};
 ghost use Rattle.viz_plan_meaning.specs.Laws.{plan_of};
 ghost use Rattle.viz_plan_truth.specs.Truth.{IsTaskPart};
@@ -24,7 +25,7 @@ use viz_task_parts::tasks_make_parts;
 // What the task asks its inputs for.
 fn request_of(ground: &Ground<'_>, place: usize, key: &Key) -> Option<Request>
     requires at { slice_get ground.now.order place ≡ Some key.now.node }
-    ensures { IfSome result (λ r. r ≡ asked_at ground.now.known key.now.node.0 key.now.request) }
+    ensures { IfSome result (λ r. r ≡ asked_at (known_in ground.now.sites) key.now.node.0 key.now.request) }
 {
     let site = ground.site(place, key.node);
     asked(&site.settings, &site.whole, &key.request)
@@ -39,8 +40,8 @@ fn parts_for(
     key: &Key,
 ) -> Result<Vec<Option<Shared<Part>>>, AllocError>
     requires at { slice_get ground.now.order place ≡ Some key.now.node }
-    requires table { AreExact ground.now.known.net table.now }
-    ensures parts { IfOk result (λ parts. HasParts ground.now.known (need_of key.now) parts.items) }
+    requires table { AreExact ground.now.sites.net table.now }
+    ensures parts { IfOk result (λ parts. HasParts (known_in ground.now.sites) (need_of key.now) parts.items) }
 {
     let Some(request) = request_of(ground, place, key) else {
         return Err(AllocError);
@@ -48,7 +49,8 @@ fn parts_for(
     let Some(places) = ground.inputs(place, key.node) else {
         return Err(AllocError);
     };
-    fetch_all(alloc, ground, table, places, &request)
+    let parts = fetch_all(alloc, ground, table, places, &request)?;
+    Ok(parts)
 }
 
 // What a task makes of the parts that are there.
@@ -58,12 +60,13 @@ fn task_part(
     table: &[Vec<Stored>],
     key: &Key,
 ) -> Result<Part, OwnStop>
-    requires table { AreExact ground.now.known.net table.now }
-    requires planned { Contains (plan_of ground.now.known ground.now.sink ground.now.requests)
+    requires table { AreExact ground.now.sites.net table.now }
+    requires planned { Contains (plan_of (known_in ground.now.sites) ground.now.sink ground.now.requests)
         (need_of key.now) }
-    ensures part { IfOk result (IsTaskPart ground.now.known.net key.now.node.0 key.now.request) }
+    ensures part { IfOk result (IsTaskPart ground.now.sites.net key.now.node.0 key.now.request) }
 {
     tasks_make_parts();
+    ground.known();
     let Some(place) = ground.place(key.node) else {
         return Err(OwnStop::Memory);
     };
@@ -86,11 +89,11 @@ pub fn run_task(
     table: &[Vec<Stored>],
     key: &Key,
 ) -> Result<Stored, OwnStop>
-    requires table { AreExact ground.now.known.net table.now }
-    requires planned { Contains (plan_of ground.now.known ground.now.sink ground.now.requests)
+    requires table { AreExact ground.now.sites.net table.now }
+    requires planned { Contains (plan_of (known_in ground.now.sites) ground.now.sink ground.now.requests)
         (need_of key.now) }
-    requires stamp { HasStamp ground.now.known.net key.now }
-    ensures item { IfOk result (IsItemOf ground.now.known.net key.now) }
+    requires stamp { HasStamp ground.now.sites.net key.now }
+    ensures item { IfOk result (IsItemOf ground.now.sites.net key.now) }
 {
     let part = task_part(alloc, ground, table, key)?;
     let part = Shared::new(alloc, part)?;

@@ -1,14 +1,11 @@
 //! The dataset of the node of an update, put together of its parts.
 
-ghost use Rattle.std.specs.Prelude.{◌≡◌, ◌<◌, IfOk, Ok, length, map};
-ghost use Rattle.std.specs.List.{All};
-ghost use Rattle.viz_network.specs.Cone.{cone_of};
-ghost use Rattle.viz_node_division.specs.Exact.{ExactRule};
-ghost use Rattle.viz_node_meaning.specs.Fold.{IsGiven};
+ghost use Rattle.std.specs.Prelude.{◌≡◌, ◌<◌, IfOk, length};
+ghost use Rattle.viz_plan.specs.Told.{extent_told};
 ghost use Rattle.viz_requests.specs.Shapes.{requests_of};
 ghost use Rattle.viz_executive.specs.Steps.Grounds.{IsReached};
 ghost use Rattle.viz_executive.specs.Steps.Tables.{AreExact};
-ghost use Rattle.viz_executive.specs.Steps.Wholes.{AreAllAnswered, AreAnswered, IsAnswered};
+ghost use Rattle.viz_executive.specs.Steps.Wholes.{AreAllAnswered, AreAnswered, IsAnswered, IsWhole};
 
 use crate::fetching::fetch;
 use crate::ground::Ground;
@@ -20,6 +17,7 @@ use viz_parts::{Part, Request, Stored};
 use viz_piece_restrict::restrict;
 use viz_piece_stitch::stitch;
 use viz_plan_law::{served_parts_are_cut, told_is_of_datasets};
+use viz_requests::serving_is_an_order;
 use viz_task_parts::parts_are_passed;
 
 /// A request to the node of an update, and the part for it.
@@ -39,11 +37,12 @@ fn answer(
     request: &Request,
 ) -> Result<Answered, AllocError>
     requires reached { IsReached ground.now place node }
-    requires table { AreExact ground.now.known.net table.now }
+    requires table { AreExact ground.now.sites.net table.now }
     ensures request { IfOk result (λ a. a.request ≡ request.now) }
     ensures part { IfOk result (λ a. IsAnswered ground.now a.request a.part) }
 {
     parts_are_passed();
+    ground.known();
     let part = fetch(alloc, ground, table, place, node, request)?;
     Ok(Answered {
         request: *request,
@@ -57,7 +56,7 @@ pub fn answers(
     ground: &Ground<'_>,
     table: &[Vec<Stored>],
 ) -> Result<Vec<Answered>, AllocError>
-    requires table { AreExact ground.now.known.net table.now }
+    requires table { AreExact ground.now.sites.net table.now }
     ensures answered { IfOk result (λ all. AreAllAnswered ground.now all.items) }
 {
     let Some((place, node)) = ground.source() else {
@@ -77,10 +76,14 @@ fn owned(alloc: Global, ground: &Ground<'_>, answered: Answered) -> Result<Part,
     ensures part { IfOk result (IsAnswered ground.now answered.request) }
 {
     served_parts_are_cut();
+    serving_is_an_order();
     let Answered { request, part } = answered;
     match part.try_unwrap() {
         Ok(part) => Ok(part),
-        Err(part) => restrict(alloc, part.get(), &request, &request),
+        Err(part) => {
+            let copy = restrict(alloc, part.get(), &request, &request)?;
+            Ok(copy)
+        }
     }
 }
 
@@ -108,15 +111,17 @@ pub fn whole_of(
     answered: Vec<Answered>,
 ) -> Result<Dataset, AllocError>
     requires all { AreAllAnswered ground.now answered.items }
-    requires requests { ground.now.requests ≡ requests_of (ground.now.known.extent ground.now.sink)
+    requires requests { ground.now.requests ≡ requests_of (extent_told ground.now.sites.told
+        ground.now.sink)
         _pieces }
     requires some { 0 < length ground.now.requests }
-    ensures whole { IfOk result (λ whole. IsGiven ExactRule
-        (cone_of ground.now.known.net ground.now.sink) (Ok whole)) }
+    ensures whole { IfOk result (IsWhole ground.now) }
 {
     datasets_are_divided();
     divisions_share_out();
     told_is_of_datasets();
+    ground.known();
     let parts = all_owned(alloc, ground, answered)?;
-    stitch(alloc, parts)
+    let whole = stitch(alloc, parts)?;
+    Ok(whole)
 }

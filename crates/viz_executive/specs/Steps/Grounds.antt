@@ -6,14 +6,13 @@ use Rattle.viz_network.specs.Step.{AreSteps, nodes_of}
 use Rattle.viz_network.specs.declared.steps.Step.{Step}
 use Rattle.viz_parts.specs.declared.request.Request.{Request}
 use Rattle.viz_plan.specs.Sites.{SitesData, known_in}
-use Rattle.viz_plan_meaning.specs.Known.{Known}
 use Rattle.viz_plan_meaning.specs.Networks.{head_of, ways_to}
 use Rattle.viz_plan_walk.specs.TaskSteps.{AreTasks}
 use Rattle.viz_task_parts.specs.Tasks.{IsUpdate}
 
--- what contracts see: what is known, the nodes of the steps, the node of the update and its requests
+-- what contracts see: what is told and kept, the nodes of the steps, the node of the update and its requests
 pub record GroundData : Type 0 where
-  pub known : Known
+  pub sites : SitesData
   pub order : List NodeId
   pub sink : ℕ
   pub requests : List Request
@@ -30,4 +29,4 @@ pub record IsGround (net : Network) (s : SitesData) (steps tasks : List Step)
 -- the node at a place is the one that requests to the node of the update reach
 pub record IsReached (g : GroundData) (place : ℕ) (node : NodeId) : Type 0 where
   pub at : slice_get g.order place ≡ Some node
-  pub reached : head_of (ways_to g.known.net g.sink) ≡ Some node.0
+  pub reached : head_of (ways_to g.sites.net g.sink) ≡ Some node.0

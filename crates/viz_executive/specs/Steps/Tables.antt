@@ -1,8 +1,8 @@
 -- Parts that are there, by the places of the steps of their nodes. Only private contracts and proofs
 -- speak of it.
-use Rattle.std.specs.Prelude.{◌≡◌, ℕ, true, List, slice_get, Option, None, Some, Global}
+use Rattle.std.specs.Prelude.{◌≡◌, ℕ, true, List, slice_get, Option, None, Some}
 use Rattle.std.specs.List.{All, AllZip, Contains}
-use Rattle.std.specs.Vec.{Vec}
+use Rattle.std.specs.Global.{Vec}
 use Rattle.viz_base.specs.declared.node.NodeId.{NodeId}
 use Rattle.viz_network.specs.Cone.{cone_of}
 use Rattle.viz_network.specs.Network.{Network}
@@ -17,7 +17,7 @@ pub record IsExactItem (net : Network) (item : Stored) : Type 0 where
   pub exact : IsExactPart (cone_of net item.key.node.0) item.key.request item.part
 
 -- so each part of a table
-pub record AreExact (net : Network) (table : List (Vec Stored Global)) : Type 0 where
+pub record AreExact (net : Network) (table : List (Vec Stored)) : Type 0 where
   pub each : All (λ items. All (IsExactItem net) items.items) table
 
 -- an item of a list is of the node, and serves the request

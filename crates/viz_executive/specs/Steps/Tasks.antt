@@ -1,9 +1,10 @@
 -- Tasks of a level, and what they make. Only private contracts and proofs speak of it.
 use Rattle.std.specs.Prelude.{◌≡◌, ℕ, ◌+◌, ◌-◌, ◌<◌, ◌≤◌, Bool, true, false, List, [], ◌∷◌, ◌++◌, length, map, filter, slice_get}
-use Rattle.std.specs.Prelude.{Option, None, Some, Result, IfOk, Global}
+use Rattle.std.specs.Prelude.{Option, None, Some, Result, IfOk}
 use Rattle.std.specs.List.{All, Contains, flat_map}
 use Rattle.std.specs.Option.{option_map_or}
-use Rattle.std.specs.Vec.{Vec}
+use Rattle.std.specs.Global.{Vec}
+use Rattle.viz_plan.specs.Sites.{known_in}
 use Rattle.viz_kept.specs.True.{HasStamp}
 use Rattle.viz_network.specs.Network.{Network, node_of}
 use Rattle.viz_node_rules.specs.declared.stop.OwnStop.{OwnStop}
@@ -25,10 +26,10 @@ pub record ArePlanned (k : Known) (sink : ℕ) (requests : List Request) (keys :
   pub stamps : All (HasStamp k.net) keys
 
 -- a task of a level, whose tasks are numbered from the first on
-pub record IsLevelTask (g : GroundData) (table : List (Vec Stored Global)) (keys : List Key)
+pub record IsLevelTask (g : GroundData) (table : List (Vec Stored)) (keys : List Key)
     (first task : ℕ) : Type 0 where
-  pub exact : AreExact g.known.net table
-  pub planned : ArePlanned g.known g.sink g.requests keys
+  pub exact : AreExact g.sites.net table
+  pub planned : ArePlanned (known_in g.sites) g.sink g.requests keys
   pub from : first ≤ task
   pub below : task < first + length keys
 
@@ -45,7 +46,7 @@ pub record IsItemOf (net : Network) (key : Key) (item : Stored) : Type 0 where
 -- a task's item is one under its key, if it came out
 abbrev pub HasItem : GroundData → List Key → ℕ → ℕ → Result Stored OwnStop → Type 0
 HasItem g keys first task item =
-    (key : Key) → slice_get keys (task - first) ≡ Some key → IfOk item (IsItemOf g.known.net key)
+    (key : Key) → slice_get keys (task - first) ≡ Some key → IfOk item (IsItemOf g.sites.net key)
 
 -- items of all keys
 pub record AreItemsOf (net : Network) (keys : List Key) (items : List Stored) : Type 0 where
@@ -53,7 +54,7 @@ pub record AreItemsOf (net : Network) (keys : List Key) (items : List Stored) : 
   pub each : All (IsTaskItem net) items
 
 -- what stands after some tasks: parts of a table, and those of nodes that aren't given up
-pub record IsDone (net : Network) (done : List (ℕ × Request)) (table : List (Vec Stored Global))
+pub record IsDone (net : Network) (done : List (ℕ × Request)) (table : List (Vec Stored))
     (made : List Stored) : Type 0 where
   pub exact : AreExact net table
   pub each : All (HasTaskPart net) done
@@ -61,7 +62,7 @@ pub record IsDone (net : Network) (done : List (ℕ × Request)) (table : List (
   pub items : All (IsTaskItem net) made
 
 -- the needs of all levels, one after the other
-abbrev pub all_needs : List (Vec Key Global) → List (ℕ × Request)
+abbrev pub all_needs : List (Vec Key) → List (ℕ × Request)
 all_needs levels = flat_map (λ keys. needs_in keys.items) levels
 
 -- whether a node's parts stay after an update
