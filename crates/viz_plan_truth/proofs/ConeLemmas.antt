@@ -21,20 +21,26 @@ use Rattle.viz_parts.specs.declared.request.Request.{Request}
 use Rattle.viz_plan_law.specs.Kept.{KeptPartsServe}
 use Rattle.viz_plan_law.proofs.ConeLemmas.{AllAt, IsAt, placed_at}
 use Rattle.viz_plan_meaning.specs.Known.{Known, asked_at, kept_at, widened_at}
+use Rattle.viz_plan_meaning.specs.Laws.{plan_of}
 use Rattle.viz_plan_meaning.specs.Networks.{passes, way_of, ways, ways_to}
 use Rattle.viz_plan_meaning.specs.Plan.{Upstream, all_needs, met, needs}
 use Rattle.viz_requests.specs.Serving.{ServesItself, ServesOn}
-use Rattle.viz_plan_truth.specs.Truth.{AreForAll, IsNarrowFoot, PlansAreNarrow, PlansGive}
+use Rattle.viz_plan_truth.specs.Truth.{
+  AreForAll,
+  HasTaskPart,
+  IsNarrowFoot,
+  PlansAreNarrow,
+  PlansGive,
+}
 use Rattle.viz_plan_truth.proofs.FamilyLemmas.{Shown, either_shown, shown_map}
 use Rattle.viz_plan_truth.proofs.PlanLemmas.{
   Each,
-  HasPart,
   IsMet,
   Need,
   all_met,
   each_back,
   each_front,
-  made_parts,
+  each_part,
   requests_met,
 }
 use Rattle.viz_plan_truth.proofs.StemLemmas.{
@@ -81,7 +87,7 @@ module _ (k : Known) (given : GivenAreNarrow) (serve : KeptPartsServe)
   -- ---- needs
 
   abbrev Good : Need → Type 0
-  Good = IsMet (HasPart k.net)
+  Good = IsMet (HasTaskPart k.net)
 
   abbrev needs_of : Upstream → Request → List Need
   needs_of = needs (kept_at k) (widened_at k) (asked_at k)
@@ -196,19 +202,16 @@ sink_narrow (Some t) h = (h.0, h.1)
 
 pub plans_narrow : GivenAreNarrow → KeptPartsServe → ServesItself → ServesOn → NodesAreNarrow
     → PlansAreNarrow
-plans_narrow given serve itself on node k sink rs made placed have are a parts same =
+plans_narrow given serve itself on node k sink rs came =
     let needed = all_needs (kept_at k) (widened_at k) (asked_at k) (ways_to k.net sink) rs in
-    let each = subst (Each (HasPart k.net)) same (made_parts k.net made parts) in
-    let met = all_met itself on (HasPart k.net) needed each in
+    let each = each_part k.net (plan_of k sink rs) came.each in
+    let met = all_met itself on (HasTaskPart k.net) needed each in
     let shown = requests_met (kept_at k) (widened_at k) (asked_at k) (ways_to k.net sink)
-    (IsMet (HasPart k.net)) rs met in
+    (IsMet (HasTaskPart k.net)) rs met in
     sink_narrow (cone_of k.net sink)
-    (cone_narrow k given serve are node rs a (port (cone_of k.net sink) none)
-    (placed_at k.net sink placed have) shown)
+    (cone_narrow k given serve came.entries node rs came.all (port (cone_of k.net sink) none)
+    (placed_at k.net sink came.placed came.ports) shown)
 
 pub plans_give : NarrowAreGiven → PlansAreNarrow → PlansGive
-plans_give law narrow k sink rs made placed have are a parts same i whole told exact = (
-  Ok i,
-  told,
-  law (cone_of k.net sink) whole exact (narrow k sink rs made placed have are a parts same),
-)
+plans_give law narrow k sink rs came i whole told exact =
+    (Ok i, told, law (cone_of k.net sink) whole exact (narrow k sink rs came))

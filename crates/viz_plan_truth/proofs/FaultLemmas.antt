@@ -1,6 +1,5 @@
 -- Where a task of a plan failed, the node of the plan gives no dataset.
-use Rattle.std.proofs.Common.{◌≡◌, ℕ, Bool, true, false, cond, List, [], ◌∷◌, ◌++◌, Option, None, Some, Result, Ok, Err, refl, sym, subst, ◌∙◌, ⊎_elim}
-use Rattle.std.specs.List.{Contains}
+use Rattle.std.proofs.Common.{◌≡◌, ℕ, List, [], ◌∷◌, Option, None, Some, Result, Ok, Err, refl, subst, ⊎_elim}
 use Rattle.viz_dataset.specs.declared.dataset.Dataset.{Dataset}
 use Rattle.viz_dataset.specs.declared.dataset.Dataset.TheVariants.{Image, Mesh}
 use Rattle.viz_fraction.specs.declared.forms.Form.{Form}
@@ -8,33 +7,22 @@ use Rattle.viz_kinds.specs.declared.settings.Settings.{Settings}
 use Rattle.viz_kinds.specs.declared.settings.Settings.TheVariants as settings
 use Rattle.viz_meaning.specs.Narrow.{AreNarrowSections}
 use Rattle.viz_meaning.specs.Tetrahedra.{sheets_of}
-use Rattle.viz_network.specs.Cone.{Cone, Tree, none, empty, fed, cone_of, port}
+use Rattle.viz_network.specs.Cone.{Cone, Tree, none, empty, fed, cone_of}
 use Rattle.viz_network.specs.declared.fault.Cause.{Cause}
-use Rattle.viz_network.specs.declared.fault.Fault.{Fault}
-use Rattle.viz_network.specs.declared.node.Node.{Node}
 use Rattle.viz_node_division.specs.Divided.{Divided, IsDivided, wholes}
 use Rattle.viz_node_division.specs.Exact.{ExactRule}
 use Rattle.viz_node_division.specs.Laws.{AreDivided, DividedAreExact}
 use Rattle.viz_node_division.proofs.RowLemmas.{first_whole, whole_at}
 use Rattle.viz_node_meaning.specs.Data.{DataRule, IsEvaluated, contour_forms, cut_forms}
-use Rattle.viz_node_meaning.specs.Fold.{AreGiven, IsGiven, IsMade}
+use Rattle.viz_node_meaning.specs.Fold.{AreGiven, IsGiven}
 use Rattle.viz_node_meaning.specs.Information.{fed_at}
 use Rattle.viz_node_meaning.specs.Rules.{Inputs, IsOne}
 use Rattle.viz_node_narrow.specs.Nodes.{AreNarrowOf, GivenAreNarrow, IsNarrowOf}
 use Rattle.viz_node_narrow.specs.Pieces.{SlabsAreNarrow}
-use Rattle.viz_node_narrow.proofs.NodeLemmas.{both_ok, inputs_ok, rest_ok}
 use Rattle.viz_parts.specs.Pieces.{Division}
-use Rattle.viz_parts.specs.declared.request.Part.{Part}
 use Rattle.viz_parts.specs.declared.request.Request.{Request}
 use Rattle.viz_parts.specs.declared.request.Request.TheVariants.{Block, Piece}
 use Rattle.viz_piece_divisions.specs.Narrow.{PiecesAreNarrow}
-use Rattle.viz_plan_law.proofs.ConeLemmas.{AllAt, IsAt, placed_at}
-use Rattle.viz_plan_meaning.specs.Known.{Known, asked_at, kept_at, widened_at}
-use Rattle.viz_plan_meaning.specs.Laws.{plan_of}
-use Rattle.viz_plan_meaning.specs.Networks.{passes, way_of, ways, ways_to}
-use Rattle.viz_plan_meaning.specs.Plan.{Upstream, all_needs, met, needs, served, thin}
-use Rattle.viz_requests.specs.Serving.{serves}
-use Rattle.viz_sheet.proofs.MemberLemmas.{member_cases, no_member}
 use Rattle.viz_plan_truth.specs.Faults.{
   FaultsShow,
   IsFaultyFoot,
@@ -44,9 +32,9 @@ use Rattle.viz_plan_truth.specs.Faults.{
   IsWideTask,
 }
 use Rattle.viz_plan_truth.specs.Truth.{AllAreLeveled}
-use Rattle.viz_plan_truth.proofs.PlanLemmas.{Each, Need, each_both}
+use Rattle.viz_plan_truth.proofs.NeedLemmas.{task_has}
 use Rattle.viz_plan_truth.proofs.SectionLemmas.{PortDivided, first_divided}
-use Rattle.viz_plan_truth.proofs.WayLemmas.{first_needs, passed_needs, writer_first}
+use Rattle.viz_plan_truth.proofs.ValueLemmas.{HasValue, cone_values, inputs_ok}
 
 -- ---- files
 
@@ -151,119 +139,12 @@ module _ (pieces : PiecesAreNarrow) (slabs : SlabsAreNarrow) (levels : AllAreLev
           kind_wide t.0.settings (fed_at 1 inputs) (first_divided t.1 inputs d)
           (subst (IsNarrowOf t.0.settings) (first_whole inputs) is) w wide
 
--- ---- all nodes upstream give datasets
-
-abbrev AllGiven : Cone → Type 0
-AllGiven none = Unit {0}
-AllGiven (empty others) = AllGiven others
-AllGiven (fed n own others) =
-    ((d : Dataset) × IsGiven DataRule (Some (n, own)) (Ok d)) × AllGiven own × AllGiven others
-
-all_given : (cone : Cone) (all : Result (Inputs Dataset) Fault) (xs : Inputs Dataset)
-    → all ≡ Ok xs → AreGiven DataRule cone all → AllGiven cone
-all_given none all xs e g = tt
-all_given (empty others) all xs e g =
-    let r = rest_ok g.0 xs (sym e ∙ g.2) in
-    all_given others g.0 r.0 r.1 g.1
-all_given (fed n own others) all xs e g =
-    let b = both_ok g.1 g.2 xs (sym e ∙ g.6) in
-    let m = subst (IsMade DataRule n g.0) b.2 g.4 in
-    let i = inputs_ok DataRule n g.0 b.0 m in (
-      (b.0, (g.0, g.3, m)),
-      all_given own g.0 i.0 i.1 g.3,
-      all_given others g.2 b.1 b.3 g.5,
-    )
-
-foot_given : (t : Option Tree) (whole : Dataset) → IsGiven DataRule t (Ok whole)
-    → AllGiven (port t none)
-foot_given None whole g = absurd g
-foot_given (Some t) whole g =
-    let i = inputs_ok DataRule t.0 g.0 whole g.2 in
-    ((whole, g), all_given t.1 g.0 i.0 i.1 g.1, tt)
-
--- ---- needs
-
-module _ (k : Known) where
-  abbrev needs_of : Upstream → Request → List Need
-  needs_of = needs (kept_at k) (widened_at k) (asked_at k)
-
-  abbrev met_at : Option (Request × Part) → ℕ → Request → (Request → List Need) → List Need
-  met_at = met (kept_at k) (widened_at k) (asked_at k)
-
-  -- the node of a need gives a dataset
-  abbrev IsGivenAt : Need → Type 0
-  IsGivenAt x = (d : Dataset) × IsGiven DataRule (cone_of k.net x.0) (Ok d)
-
-  met_given : (id : ℕ) (w : Request) (up : Request → List Need) (o : Option (Request × Part))
-      → IsGivenAt (id, w) → ((q : Request) → Each IsGivenAt (up q))
-      → Each IsGivenAt (met_at o id w up)
-  met_given id w up (Some e) h all = tt
-  met_given id w up None h all = each_both IsGivenAt (up (asked_at k id w)) ((id, w) ∷ [])
-      (all (asked_at k id w)) (h, tt)
-
-  fed_given : (n : Node) (own others : Cone) → IsAt k.net n own → (b : Bool)
-      → passes n.settings ≡ b → (d : Dataset) → IsGiven DataRule (Some (n, own)) (Ok d)
-      → ((q : Request) → Each IsGivenAt (needs_of (ways own) q))
-      → ((q : Request) → Each IsGivenAt (needs_of (ways others) q))
-      → (q : Request) → Each IsGivenAt (needs_of (way_of b n.id.0 (ways own) (ways others)) q)
-  fed_given n own others at false e d g up next q =
-      let id = n.id.0 in
-      let w = widened_at k id q in
-      each_both IsGivenAt (met_at (kept_at k id w) id w (needs_of (ways own)))
-      (needs_of (ways others) q)
-      (met_given id w (needs_of (ways own)) (kept_at k id w)
-      (d, subst (λ t. IsGiven DataRule t (Ok d)) (sym at.cone) g) up)
-      (next q)
-  fed_given n own others at true e d g up next q =
-      let first = first_needs (kept_at k) (widened_at k) (asked_at k) own
-      (writer_first n.settings own e at.ports) in
-      subst (Each IsGivenAt)
-      (sym (passed_needs (kept_at k) (widened_at k) (asked_at k)
-      (ways own) (ways others) first q))
-      (each_both IsGivenAt (needs_of (ways own) q) (needs_of (ways others) q) (up q) (next q))
-
-  each_given : (c : Cone) → AllAt k.net c → AllGiven c → (q : Request)
-      → Each IsGivenAt (needs_of (ways c) q)
-  each_given none a g q = tt
-  each_given (empty others) a g q = each_given others a g q
-  each_given (fed n own others) a g q =
-      fed_given n own others a.0 (passes n.settings) refl g.0.0 g.0.1
-      (each_given own a.1 g.1) (each_given others a.2 g.2) q
-
-  all_each : (c : Cone) → AllAt k.net c → AllGiven c → (rs : List Request)
-      → Each IsGivenAt (all_needs (kept_at k) (widened_at k) (asked_at k) (ways c) rs)
-  all_each c a g [] = tt
-  all_each c a g (r ∷ rs) =
-      each_both IsGivenAt (needs_of (ways c) r)
-      (all_needs (kept_at k) (widened_at k) (asked_at k) (ways c) rs)
-      (each_given c a g r) (all_each c a g rs)
-
 -- ---- the plan
-
-thin_each : (P : Need → Type 0) (front xs : List Need) → Each P xs
-    → Each P (thin serves front xs)
-thin_each P front [] h = tt
-thin_each P front (x ∷ xs) h =
-    by (served serves front x.0 x.1) (thin_each P (front ++ x ∷ []) xs h.1)
-  where
-    by : (b : Bool) → Each P (thin serves (front ++ x ∷ []) xs)
-        → Each P (cond b (thin serves (front ++ x ∷ []) xs)
-        (x ∷ thin serves (front ++ x ∷ []) xs))
-    by true r = r
-    by false r = (h.0, r)
-
-each_member : (P : Need → Type 0) (xs : List Need) (x : Need) → Each P xs → Contains xs x → P x
-each_member P [] x h c = absurd (no_member x c)
-each_member P (y ∷ ys) x h c =
-    ⊎_elim (λ e. subst P e h.0) (λ d. each_member P ys x h.1 d) (member_cases y ys x c)
 
 pub faults_show : IsOne DataRule → GivenAreNarrow → DividedAreExact → PiecesAreNarrow
     → SlabsAreNarrow → AllAreLeveled → FaultsShow
 faults_show one narrow exact pieces slabs levels k sink rs task placed have in_plan fault whole g =
-    let cone = cone_of k.net sink in
-    let all = all_each k (port cone none) (placed_at k.net sink placed have)
-    (foot_given cone whole g) rs in
-    let each = thin_each (IsGivenAt k) []
-    (all_needs (kept_at k) (widened_at k) (asked_at k) (ways_to k.net sink) rs) all in
-    let h = each_member (IsGivenAt k) (plan_of k sink rs) task each in_plan in
-    node_fault pieces slabs levels one narrow exact (cone_of k.net task.0) task.1 h.0 h.1 fault
+    let h = task_has k (HasValue DataRule) sink rs task placed have
+    (cone_values DataRule (cone_of k.net sink) whole g) in_plan in
+    node_fault pieces slabs levels one narrow exact (cone_of k.net task.0) task.1 h.value h.given
+    fault

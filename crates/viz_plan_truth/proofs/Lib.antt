@@ -4,4 +4,7 @@ pub mod SectionLemmas
 pub mod PlanLemmas
 pub mod WayLemmas
 pub mod ConeLemmas
+pub mod NeedLemmas
+pub mod ValueLemmas
+pub mod MakeLemmas
 pub mod FaultLemmas

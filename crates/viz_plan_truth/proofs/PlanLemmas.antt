@@ -4,13 +4,11 @@ use Rattle.std.specs.List.{All}
 use Rattle.std.proofs.lemmas.Bool.{eqb-true}
 use Rattle.std.proofs.lemmas.List.Elements.{All-head, All-tail}
 use Rattle.viz_network.specs.Network.{Network}
-use Rattle.viz_parts.specs.declared.request.Part.{Part}
 use Rattle.viz_parts.specs.declared.request.Request.{Request}
-use Rattle.viz_plan_meaning.specs.Evaluation.{keys}
 use Rattle.viz_plan_meaning.specs.Plan.{Upstream, all_needs, needs, served, thin}
 use Rattle.viz_plan_meaning.proofs.PlanLemmas.{and-elim, or-elim}
 use Rattle.viz_requests.specs.Serving.{ServesItself, ServesOn, serves}
-use Rattle.viz_plan_truth.specs.Truth.{AreTaskParts, IsTaskPart}
+use Rattle.viz_plan_truth.specs.Truth.{HasTaskPart}
 use Rattle.viz_plan_truth.proofs.FamilyLemmas.{Shown}
 use Rattle.viz_plan_truth.proofs.StemLemmas.{itself_stems}
 
@@ -79,22 +77,12 @@ module _ (itself : ServesItself) (on : ServesOn) (Q : Need → Type 0) where
 
 -- ---- parts
 
--- a task of the node for the request came out
-abbrev pub HasPart : Network → Need → Type 0
-HasPart net x = (p : Part) × IsTaskPart net x.0 x.1 p
-
-abbrev IsOne : Network → Need × Part → Type 0
-IsOne net x = IsTaskPart net x.0.0 x.0.1 x.1
-
-each_part : (net : Network) (xs : List (Need × Part)) → All (IsOne net) xs
-    → Each (HasPart net) (keys xs)
+-- each task has one
+pub each_part : (net : Network) (xs : List Need) → All (HasTaskPart net) xs
+    → Each (HasTaskPart net) xs
 each_part net [] a = tt
 each_part net (x ∷ xs) a =
-    ((x.1, All-head (IsOne net) x xs a), each_part net xs (All-tail (IsOne net) x xs a))
-
-pub made_parts : (net : Network) (made : List (Need × Part)) → AreTaskParts net made
-    → Each (HasPart net) (keys made)
-made_parts net made h = each_part net made h.each
+    (All-head (HasTaskPart net) x xs a, each_part net xs (All-tail (HasTaskPart net) x xs a))
 
 -- ---- requests
 

@@ -1,12 +1,12 @@
 -- Parts that the tasks of a plan make, and what they tell of wide numbers (VTK User's Guide, the executive: the data pass; docs/FORMATS.md, "Exact points").
-use Rattle.std.specs.Prelude.{◌≡◌, ◌⊎◌, ℕ, ◌<◌, List, ◌∷◌, All, map, Option, None, Some, Ok}
+use Rattle.std.specs.Prelude.{◌≡◌, ◌⊎◌, ℕ, ◌<◌, List, ◌∷◌, All, Contains, map, Option, None, Some, Ok}
 use Rattle.std.specs.List.{range_with_len}
 use Rattle.viz_dataset.specs.Images.{ImageData}
 use Rattle.viz_dataset.specs.declared.dataset.Dataset.{Dataset}
 use Rattle.viz_dataset.specs.declared.dataset.Dataset.TheVariants.{Image, Mesh}
 use Rattle.viz_extent.specs.Extent.{Bounds}
 use Rattle.viz_fraction.specs.declared.forms.Form.{Form}
-use Rattle.viz_kept.specs.True.{AreTrueIn}
+use Rattle.viz_kept.specs.True.{AreTrueIn, IsNodePart}
 use Rattle.viz_kinds.specs.declared.settings.Settings.{Settings}
 use Rattle.viz_kinds.specs.declared.settings.Settings.TheVariants as settings
 use Rattle.viz_meaning.specs.Narrow.{AreNarrowSections}
@@ -33,7 +33,6 @@ use Rattle.viz_piece_divisions.specs.Pieces.{HasLevel}
 use Rattle.viz_piece_tets.specs.Asked.{asked}
 use Rattle.viz_plan_law.specs.Cutting.{IsExactPart}
 use Rattle.viz_plan_law.specs.Ports.{HaveOwnPorts}
-use Rattle.viz_plan_meaning.specs.Evaluation.{keys}
 use Rattle.viz_plan_meaning.specs.Known.{Known}
 use Rattle.viz_plan_meaning.specs.Laws.{IsPlaced, plan_of}
 use Rattle.viz_sheet.specs.Sheet.{SheetData}
@@ -78,9 +77,9 @@ pub record IsTaskPart (net : Network) (id : ℕ) (request : Request) (part : Par
   pub exact : IsExactPart (cone_of net id) request part
   pub narrow : IsNarrowFoot (cone_of net id) request
 
--- so each task
-pub record AreTaskParts (net : Network) (made : List ((ℕ × Request) × Part)) : Type 0 where
-  pub each : All (λ x. IsTaskPart net x.0.0 x.0.1 x.1) made
+-- a task that came out: it made some part
+abbrev pub HasTaskPart : Network → ℕ × Request → Type 0
+HasTaskPart net task = (part : Part) × IsTaskPart net task.0 task.1 part
 
 -- ---- requests for all
 
@@ -94,6 +93,15 @@ AreForAll requests =
     ((n : ℕ) × (0 < n) × (requests ≡ all_pieces n))
     ⊎ ((block : Bounds) × (more : List Request) × (requests ≡ Block block ∷ more))
 
+-- a plan of requests for all of what a node gives, in a network with true entries, whose tasks all
+-- came out
+pub record CameOut (k : Known) (sink : ℕ) (requests : List Request) : Type 0 where
+  pub placed : IsPlaced k.net sink
+  pub ports : HaveOwnPorts k.net
+  pub entries : AreTrueIn k.net k.entries
+  pub all : AreForAll requests
+  pub each : All (HasTaskPart k.net) (plan_of k sink requests)
+
 -- ---- laws
 
 -- meshes that are shared out have names of one level in each sheet
@@ -102,20 +110,25 @@ AllAreLeveled =
     (cone : Option Tree) (sheets : List SheetData) (division : Division)
     → IsDivided cone (Mesh sheets) division → All HasLevel sheets
 
--- where a plan of requests for all came out, no number of a section is wide at any node upstream
+-- where such a plan came out, no number of a section is wide at any node upstream
 abbrev pub PlansAreNarrow : Type 0
 PlansAreNarrow =
-    (k : Known) (sink : ℕ) (requests : List Request) (made : List ((ℕ × Request) × Part))
-    → IsPlaced k.net sink → HaveOwnPorts k.net → AreTrueIn k.net k.entries → AreForAll requests
-    → AreTaskParts k.net made → keys made ≡ plan_of k sink requests
+    (k : Known) (sink : ℕ) (requests : List Request) → CameOut k sink requests
     → IsNarrowCone (cone_of k.net sink)
 
 -- then what the node gives by the exact rule it gives from scratch
 abbrev pub PlansGive : Type 0
 PlansGive =
-    (k : Known) (sink : ℕ) (requests : List Request) (made : List ((ℕ × Request) × Part))
-    → IsPlaced k.net sink → HaveOwnPorts k.net → AreTrueIn k.net k.entries → AreForAll requests
-    → AreTaskParts k.net made → keys made ≡ plan_of k sink requests
+    (k : Known) (sink : ℕ) (requests : List Request) → CameOut k sink requests
     → (i : Information) (whole : Dataset)
     → IsGiven InformationRule (cone_of k.net sink) (Ok i)
     → IsGiven ExactRule (cone_of k.net sink) (Ok whole) → IsScratch k.net sink (Ok whole)
+
+-- then each part of a task is one that its node gives from scratch
+abbrev pub PlansMakeParts : Type 0
+PlansMakeParts =
+    (k : Known) (sink : ℕ) (requests : List Request) → CameOut k sink requests
+    → (i : Information) → IsGiven InformationRule (cone_of k.net sink) (Ok i)
+    → (task : ℕ × Request) → Contains (plan_of k sink requests) task
+    → (part : Part) → IsTaskPart k.net task.0 task.1 part
+    → IsNodePart (cone_of k.net task.0) task.1 part

@@ -1,7 +1,7 @@
 //! Laws of plans that came out. A function that calls one may rest on it.
 
 ghost use Rattle.viz_plan_truth.specs.Faults.{FaultsShow};
-ghost use Rattle.viz_plan_truth.specs.Truth.{AllAreLeveled, PlansAreNarrow, PlansGive};
+ghost use Rattle.viz_plan_truth.specs.Truth.{AllAreLeveled, PlansAreNarrow, PlansGive, PlansMakeParts};
 
 use viz_node_division::{datasets_are_divided, divisions_share_out};
 use viz_node_meaning::rules_are_one;
@@ -11,11 +11,12 @@ use viz_plan_law::kept_parts_serve;
 use viz_requests::serving_is_an_order;
 
 /// Where a plan of requests for all of what a node gives came out, no number of a section is wide
-/// at any node upstream, where meshes have names of one level in each sheet; and what the node gives
-/// by the exact rule it gives from scratch.
+/// at any node upstream, where meshes have names of one level in each sheet; what the node gives by
+/// the exact rule it gives from scratch, and each part of a task is one that its node gives so.
 pub fn plans_are_narrow()
     ensures narrow { AllAreLeveled → PlansAreNarrow }
     ensures gives { AllAreLeveled → PlansGive }
+    ensures made { AllAreLeveled → PlansMakeParts }
 {
     datasets_are_divided();
     divisions_share_out();
