@@ -1,0 +1,5 @@
+pub mod ImageLemmas
+pub mod FilterLemmas
+pub mod TellLemmas
+pub mod RowLemmas
+pub mod GivesLemmas
