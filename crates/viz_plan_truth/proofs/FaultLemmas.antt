@@ -31,7 +31,7 @@ use Rattle.viz_plan_truth.specs.Faults.{
   IsWidePort,
   IsWideTask,
 }
-use Rattle.viz_plan_truth.specs.Truth.{AllAreLeveled}
+use Rattle.viz_given.specs.Given.{AllAreLeveled}
 use Rattle.viz_plan_truth.proofs.NeedLemmas.{task_has}
 use Rattle.viz_plan_truth.proofs.SectionLemmas.{PortDivided, first_divided}
 use Rattle.viz_plan_truth.proofs.ValueLemmas.{HasValue, cone_values, inputs_ok}

@@ -6,6 +6,7 @@ use Rattle.viz_dataset.specs.declared.dataset.Dataset.TheVariants.{Image, Mesh}
 use Rattle.viz_fraction.specs.declared.forms.Form.{Form}
 use Rattle.viz_kinds.specs.declared.settings.Settings.{Settings}
 use Rattle.viz_kinds.specs.declared.settings.Settings.TheVariants as settings
+use Rattle.viz_given.specs.Given.{AllAreLeveled}
 use Rattle.viz_meaning.specs.Narrow.{AreNarrowSections}
 use Rattle.viz_meaning.specs.Tetrahedra.{sheets_of}
 use Rattle.viz_network.specs.Cone.{Cone, Tree, none, empty, fed}
@@ -33,7 +34,6 @@ use Rattle.viz_parts.specs.declared.request.Request.{Request}
 use Rattle.viz_parts.specs.declared.request.Request.TheVariants.{Block, Piece}
 use Rattle.viz_sheet.specs.Sheet.{SheetData}
 use Rattle.viz_plan_truth.specs.Truth.{
-  AllAreLeveled,
   AreForAll,
   IsNarrowFoot,
   IsNarrowMade,

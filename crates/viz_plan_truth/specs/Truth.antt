@@ -104,12 +104,6 @@ pub record CameOut (k : Known) (sink : ℕ) (requests : List Request) : Type 0 w
 
 -- ---- laws
 
--- meshes that are shared out have names of one level in each sheet
-abbrev pub AllAreLeveled : Type 0
-AllAreLeveled =
-    (cone : Option Tree) (sheets : List SheetData) (division : Division)
-    → IsDivided cone (Mesh sheets) division → All HasLevel sheets
-
 -- where such a plan came out, no number of a section is wide at any node upstream
 abbrev pub PlansAreNarrow : Type 0
 PlansAreNarrow =

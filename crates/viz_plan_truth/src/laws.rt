@@ -1,8 +1,9 @@
 //! Laws of plans that came out. A function that calls one may rest on it.
 
 ghost use Rattle.viz_plan_truth.specs.Faults.{FaultsShow};
-ghost use Rattle.viz_plan_truth.specs.Truth.{AllAreLeveled, PlansAreNarrow, PlansGive, PlansMakeParts};
+ghost use Rattle.viz_plan_truth.specs.Truth.{PlansAreNarrow, PlansGive, PlansMakeParts};
 
+use viz_given::given_meshes_are_leveled;
 use viz_node_division::{datasets_are_divided, divisions_share_out};
 use viz_node_meaning::rules_are_one;
 use viz_node_narrow::{given_sections_are_narrow, pieces_make_narrow};
@@ -11,15 +12,16 @@ use viz_plan_law::kept_parts_serve;
 use viz_requests::serving_is_an_order;
 
 /// Where a plan of requests for all of what a node gives came out, no number of a section is wide
-/// at any node upstream, where meshes have names of one level in each sheet; what the node gives by
-/// the exact rule it gives from scratch, and each part of a task is one that its node gives so.
+/// at any node upstream; what the node gives by the exact rule it gives from scratch, and each part
+/// of a task is one that its node gives so.
 pub fn plans_are_narrow()
-    ensures narrow { AllAreLeveled → PlansAreNarrow }
-    ensures gives { AllAreLeveled → PlansGive }
-    ensures made { AllAreLeveled → PlansMakeParts }
+    ensures narrow { PlansAreNarrow }
+    ensures gives { PlansGive }
+    ensures made { PlansMakeParts }
 {
     datasets_are_divided();
     divisions_share_out();
+    given_meshes_are_leveled();
     given_sections_are_narrow();
     kept_parts_serve();
     pieces_make_narrow();
@@ -28,9 +30,10 @@ pub fn plans_are_narrow()
 
 /// Where a task of a plan failed, the node of the plan gives no dataset.
 pub fn faults_show()
-    ensures faults { AllAreLeveled → FaultsShow }
+    ensures faults { FaultsShow }
 {
     datasets_are_divided();
+    given_meshes_are_leveled();
     given_sections_are_narrow();
     pieces_make_narrow();
     rules_are_one();
