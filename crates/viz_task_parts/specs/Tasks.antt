@@ -1,7 +1,7 @@
--- What the tasks of a plan take, and what they make of it (VTK User's Guide, the executive: the data pass; docs/FORMATS.md, "Exact points").
+-- What the tasks of a plan take, and what they make of it (VTK User's Guide, the executive: the
+-- data pass; docs/FORMATS.md, "Exact points").
 use Rattle.std.specs.Prelude.{◌≡◌, ℕ, List, Option, Some}
 use Rattle.std.specs.List.{All, Contains}
-use Rattle.viz_kept.specs.True.{AreTrueIn}
 use Rattle.viz_network.specs.Cone.{Cone, cone_of}
 use Rattle.viz_network.specs.Network.{Network}
 use Rattle.viz_network.specs.declared.node.Node.{Node}
@@ -18,7 +18,7 @@ use Rattle.viz_plan_meaning.specs.Laws.{IsPlaced, inputs_of, plan_of}
 use Rattle.viz_plan_meaning.specs.Networks.{head_of, ways_to}
 use Rattle.viz_plan_truth.specs.Truth.{IsTaskPart}
 
--- an update of a node by requests that can be made to it, where the nodes are known as they are told
+-- an update of a node by requests that can be made to it, where the nodes are known as told
 pub record IsUpdate (k : Known) (sink : ℕ) (requests : List Request) : Type 0 where
   pub placed : IsPlaced k.net sink
   pub ports : HaveOwnPorts k.net

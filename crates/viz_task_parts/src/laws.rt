@@ -1,16 +1,31 @@
 //! Laws of the tasks of a plan. A law is a function that does nothing: its contract holds of the
 //! definitions alone.
 
+ghost use Rattle.viz_task_parts.specs.Premises.{AllAreFit, AllAreLeveled, NodesMakeExact};
 ghost use Rattle.viz_task_parts.specs.Tasks.{PartsArePassed, TasksMake, TasksTake};
+
+use viz_node_division::{datasets_are_divided, divided_by_ports, divisions_share_out};
+use viz_node_parts::{asked_parts_are_taken, parts_made_answer};
+use viz_plan_law::{plans_fit, told_is_of_datasets};
 
 /// Of parts of what feeds its node, for what it asks for, a task makes a part of what the node
 /// gives.
 pub fn tasks_make_parts()
-    ensures take { TasksTake }
-    ensures made { TasksMake }
-{}
+    ensures take { NodesMakeExact → AllAreFit → TasksTake }
+    ensures made { NodesMakeExact → AllAreLeveled → TasksMake }
+{
+    asked_parts_are_taken();
+    datasets_are_divided();
+    divided_by_ports();
+    divisions_share_out();
+    parts_made_answer();
+    plans_fit();
+    told_is_of_datasets();
+}
 
 /// Parts of what feeds a writer are parts of the writer.
 pub fn parts_are_passed()
     ensures passed { PartsArePassed }
-{}
+{
+    divided_by_ports();
+}
