@@ -18,8 +18,3 @@ mod tasks;
 mod wholes;
 
 pub use produced::{Produced, produce};
-
-#[test]
-fn nothing() {
-    prove!(1 + 1 == 2);
-}

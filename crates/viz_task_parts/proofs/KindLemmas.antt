@@ -19,6 +19,7 @@ use Rattle.std.proofs.Common.{
 use Rattle.viz_dataset.specs.declared.dataset.Dataset.{Dataset}
 use Rattle.viz_dataset.specs.declared.dataset.Dataset.TheVariants.{Image, Mesh}
 use Rattle.viz_extent.specs.Extent.{Bounds}
+use Rattle.viz_given.specs.Given.{AllAreFit, AllAreLeveled}
 use Rattle.viz_kinds.specs.Kinds.{ports_of}
 use Rattle.viz_kinds.specs.Settings.{kind_of}
 use Rattle.viz_kinds.specs.declared.settings.Settings.{Settings}
@@ -30,6 +31,7 @@ use Rattle.viz_node_division.proofs.RowLemmas.{first_whole, row_made, whole_at}
 use Rattle.viz_node_division.specs.Divided.{Divided, IsDivided, IsMadeOf}
 use Rattle.viz_node_division.specs.Exact.{IsExact}
 use Rattle.viz_node_division.specs.Laws.{DivisionsShareOut}
+use Rattle.viz_node_gives.specs.Gives.{HasReading}
 use Rattle.viz_node_meaning.specs.Data.{DataRule, IsEvaluated, IsOfMesh, merge_of}
 use Rattle.viz_node_meaning.specs.Fold.{AreGiven, IsGiven}
 use Rattle.viz_node_meaning.specs.Information.{fed_at}
@@ -53,7 +55,6 @@ use Rattle.viz_parts.specs.declared.request.Request.{Request}
 use Rattle.viz_plan_law.proofs.PortLemmas.{AreFirst}
 use Rattle.viz_plan_meaning.specs.Networks.{passes}
 use Rattle.viz_plan_truth.proofs.SectionLemmas.{PortDivided}
-use Rattle.viz_task_parts.specs.Premises.{AllAreFit, AllAreLeveled, HasReading}
 
 -- ---- meshes at a port
 

@@ -24,6 +24,7 @@ use Rattle.viz_node_division.specs.Divided.{Divided, IsDivided}
 use Rattle.viz_node_division.specs.Laws.{AreDivided, DividedAreExact, DividedByPorts}
 use Rattle.viz_node_meaning.specs.Fold.{IsGiven}
 use Rattle.viz_node_meaning.specs.Information.{InformationRule, information_of}
+use Rattle.viz_node_gives.specs.Gives.{AreValid, IsValid}
 use Rattle.viz_node_meaning.specs.Rules.{Inputs}
 use Rattle.viz_node_parts.specs.Answering.{AreAnswered, dataset_extent, extent_at_ports}
 use Rattle.viz_parts.specs.Pieces.{Division, IsAnswer}
@@ -41,7 +42,6 @@ use Rattle.viz_plan_meaning.specs.Evaluation.{IsFed}
 use Rattle.viz_plan_meaning.specs.Known.{Known, ports_extent}
 use Rattle.viz_plan_meaning.specs.Networks.{head_of, passes, ways}
 use Rattle.viz_plan_meaning.specs.Plan.{heads}
-use Rattle.viz_task_parts.specs.Premises.{AreValid, IsValid}
 use Rattle.viz_task_parts.proofs.ReachedLemmas.{reached_some}
 use Rattle.viz_task_parts.proofs.WriterLemmas.{reached_exact, way_heads}
 

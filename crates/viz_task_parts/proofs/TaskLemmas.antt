@@ -2,6 +2,7 @@
 use Rattle.std.proofs.Common.{◌≡◌, ℕ, List, Option, Some, Ok, sym, subst}
 use Rattle.std.proofs.lemmas.List.Elements.{All-contains}
 use Rattle.viz_extent.specs.Extent.{Bounds}
+use Rattle.viz_given.specs.Given.{AllAreFit, AllAreLeveled}
 use Rattle.viz_network.specs.Cone.{Cone, Tree, cone_of}
 use Rattle.viz_network.specs.declared.node.Node.{Node}
 use Rattle.viz_node_division.specs.Divided.{Divided, IsDivided, IsMadeOf, wholes}
@@ -11,6 +12,7 @@ use Rattle.viz_node_division.specs.Laws.{
   DivisionsAreOne,
   DivisionsShareOut,
 }
+use Rattle.viz_node_gives.specs.Gives.{HasReading, NodesMakeExact}
 use Rattle.viz_node_meaning.specs.Fold.{IsGiven}
 use Rattle.viz_node_meaning.specs.Information.{InformationRule, fed_at}
 use Rattle.viz_node_meaning.specs.Rules.{Inputs}
@@ -39,12 +41,6 @@ use Rattle.viz_plan_truth.proofs.PlanLemmas.{Need}
 use Rattle.viz_plan_truth.proofs.SectionLemmas.{first_divided}
 use Rattle.viz_plan_truth.specs.Truth.{IsNarrowFoot, IsNarrowTask}
 use Rattle.viz_requests.specs.Upstream.{Fits, asked, widened}
-use Rattle.viz_task_parts.specs.Premises.{
-  AllAreFit,
-  AllAreLeveled,
-  HasReading,
-  NodesMakeExact,
-}
 use Rattle.viz_task_parts.specs.Tasks.{HasParts, IsTaskAt, IsUpdate, TasksMake, TasksTake}
 use Rattle.viz_task_parts.proofs.KindLemmas.{
   HasFile,

@@ -1,23 +1,26 @@
 //! Laws of the tasks of a plan. A law is a function that does nothing: its contract holds of the
 //! definitions alone.
 
-ghost use Rattle.viz_task_parts.specs.Premises.{AllAreFit, AllAreLeveled, NodesMakeExact};
 ghost use Rattle.viz_task_parts.specs.Tasks.{PartsArePassed, TasksMake, TasksTake};
 
+use viz_given::given_meshes_are_leveled;
 use viz_node_division::{datasets_are_divided, divided_by_ports, divisions_share_out};
+use viz_node_gives::nodes_make_exact;
 use viz_node_parts::{asked_parts_are_taken, parts_made_answer};
 use viz_plan_law::{plans_fit, told_is_of_datasets};
 
 /// Of parts of what feeds its node, for what it asks for, a task makes a part of what the node
 /// gives.
 pub fn tasks_make_parts()
-    ensures take { NodesMakeExact → AllAreFit → TasksTake }
-    ensures made { NodesMakeExact → AllAreLeveled → TasksMake }
+    ensures take { TasksTake }
+    ensures made { TasksMake }
 {
     asked_parts_are_taken();
     datasets_are_divided();
     divided_by_ports();
     divisions_share_out();
+    given_meshes_are_leveled();
+    nodes_make_exact();
     parts_made_answer();
     plans_fit();
     told_is_of_datasets();
