@@ -7,6 +7,7 @@ mod PartLemmas
 mod PlanLemmas
 mod ProduceLemmas
 mod TableLemmas
+mod TaskLemmas
 mod UpdateLemmas
 mod WholeLemmas
 mod ZipLemmas

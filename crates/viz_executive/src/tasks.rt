@@ -75,7 +75,8 @@ fn task_part(
         return Err(OwnStop::Memory);
     };
     let site = ground.site(place, key.node);
-    node_part(alloc, node, &site.whole, &key.request, &parts)
+    let part = node_part(alloc, node, &site.whole, &key.request, &parts)?;
+    Ok(part)
 }
 
 /// What a task makes of the parts that are there, under its key.
