@@ -1,0 +1,72 @@
+//! What later updates find kept, and what no update keeps.
+
+use crate::edits::{Plan, network};
+use crate::kinds::SOLID;
+use crate::updates::{Row, got, wanted};
+use Plan::{Add, Connect, Load, Set};
+use std::test::Fail;
+use viz_base::OpenGate;
+use viz_network::{Kind, Param};
+
+// A contour of the mean of an image.
+const SURFACE: [Plan; 7] = [
+    Add(Kind::File, "src"),
+    Load("src", SOLID),
+    Add(Kind::Smooth, "mean"),
+    Connect("src", "mean", 1),
+    Add(Kind::Contour, "iso"),
+    Connect("mean", "iso", 1),
+    Set("iso", Param::Levels, 1, [4, 0, 0, 0, 0, 0, 0, 0]),
+];
+
+const LEVEL: Plan<'static> = Set("iso", Param::Levels, 1, [5, 0, 0, 0, 0, 0, 0, 0]);
+
+const RADIUS: Plan<'static> = Set("mean", Param::Radius, 1, [2, 0, 0, 0, 0, 0, 0, 0]);
+
+const ROWS: [Row<'static>; 9] = [
+    (&[], "iso", 1, 3, 3, 0),
+    // all is kept, and the contour alone is used
+    (&[], "iso", 1, 0, 0, 1),
+    (&[], "mean", 3, 0, 0, 1),
+    // a level behind a kept mean
+    (&[LEVEL], "iso", 1, 1, 1, 1),
+    // a whole mesh serves no piece, and a whole image each block
+    (&[], "iso", 2, 2, 2, 1),
+    (&[], "iso", 2, 0, 0, 2),
+    // a radius behind a kept file
+    (&[RADIUS], "iso", 1, 2, 2, 1),
+    // a file that is loaded anew
+    (&[Load("src", SOLID)], "iso", 1, 3, 3, 0),
+    (&[], "src", 1, 0, 0, 1),
+];
+
+#[test]
+fn what_is_kept_is_not_made_again(rt: HostRuntime) -> Result<(), Fail> {
+    let mut story = network(rt.alloc(), &SURFACE)?;
+    for (i, row) in ROWS.iter().enumerate() {
+        let got = got(&rt, rt.alloc(), &mut story, row, &OpenGate)?;
+        assert_eq!(rt; got, wanted(row), "row {i}");
+    }
+    Ok(())
+}
+
+const RELEASE: Plan<'static> = Set("mean", Param::Release, 1, [1, 0, 0, 0, 0, 0, 0, 0]);
+
+const RELEASED: [Row<'static>; 4] = [
+    // the mean runs, and no part of it is among the made
+    (&[RELEASE], "iso", 1, 3, 2, 0),
+    (&[], "iso", 1, 0, 0, 1),
+    (&[LEVEL], "iso", 1, 2, 1, 1),
+    // also where the node is the sink
+    (&[], "mean", 2, 2, 0, 1),
+];
+
+#[test]
+fn a_node_with_release_keeps_nothing(rt: HostRuntime) -> Result<(), Fail> {
+    let mut story = network(rt.alloc(), &SURFACE)?;
+    for (i, row) in RELEASED.iter().enumerate() {
+        let got = got(&rt, rt.alloc(), &mut story, row, &OpenGate)?;
+        assert_eq!(rt; got, wanted(row), "row {i}");
+    }
+    Ok(())
+}
