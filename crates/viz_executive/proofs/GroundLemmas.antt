@@ -1,8 +1,8 @@
 -- What an update goes by, at the places of steps.
-use Rattle.std.proofs.Common.{◌≡◌, ℕ, zero, suc, List, [], ◌∷◌, Option, None, Some, slice_get, refl, sym, subst, ◌∙◌, ap}
+use Rattle.std.proofs.Common.{◌≡◌, ℕ, zero, suc, List, [], ◌∷◌, Option, None, Some, slice_get, sym, subst, ◌∙◌, ap}
 use Rattle.viz_base.specs.declared.node.NodeId.{NodeId}
 use Rattle.viz_network.specs.Network.{Network}
-use Rattle.viz_network.specs.Step.{AreSteps, nodes_of}
+use Rattle.viz_network.specs.Step.{nodes_of}
 use Rattle.viz_network.specs.declared.steps.Step.{Step}
 use Rattle.viz_plan_meaning.specs.Networks.{head_of, ways_at, ways_to}
 use Rattle.viz_plan_meaning.specs.Plan.{heads}

@@ -24,7 +24,7 @@ pub zip_yield : {X Y Z : Type 0} (R : Y → Z → Type 0) (f : X → Y) (xs : Li
 zip_yield R f xs x zs next z h r e =
     subst (AllZip R (map f (xs ++ x ∷ []))) (sym e)
     (subst (λ l. AllZip R l (zs ++ z ∷ [])) (sym (map-append f xs (x ∷ [])))
-        (zip_push R (map f xs) zs (f x) z h r))
+    (zip_push R (map f xs) zs (f x) z h r))
 
 -- one more, where what is made of the items so far are those of a list
 pub map_more : {X Y : Type 0} (f : X → Y) (xs : List X) (x : X) (next : List X) (all : List Y)

@@ -1,13 +1,11 @@
 -- Parts that are cut.
-use Rattle.std.proofs.Common.{◌≡◌, ℕ, true, List, Option, Some, sym, subst, ◌∙◌, ap}
+use Rattle.std.proofs.Common.{◌≡◌, ℕ, true, List, Option, sym, subst, ◌∙◌, ap}
 use Rattle.std.proofs.lemmas.List.Elements.{All-contains}
 use Rattle.std.specs.List.{All}
 use Rattle.viz_base.specs.declared.node.NodeId.{NodeId}
 use Rattle.viz_dataset.specs.declared.dataset.Dataset.{Dataset}
 use Rattle.viz_dataset.specs.declared.dataset.Dataset.TheVariants.{Image, Mesh}
-use Rattle.viz_extent.specs.Extent.{Bounds}
-use Rattle.viz_network.specs.Cone.{Cone, Tree, cone_of}
-use Rattle.viz_network.specs.declared.node.Node.{Node}
+use Rattle.viz_network.specs.Cone.{Tree, cone_of}
 use Rattle.viz_parts.specs.Pieces.{Division, IsAnswer}
 use Rattle.viz_parts.specs.declared.request.Part.{Part}
 use Rattle.viz_parts.specs.declared.request.Request.{Request}

@@ -105,8 +105,8 @@ module _ (k : Known) (sink : ℕ) (rs : List Request) (levels : List (Vec Key))
   same_tasks =
       subst (λ p. IsPermutation p (all_needs levels)) plan_is
       (subst (IsPermutation (needs_of tasks)) (sym (needs_joined ∙ levels_joined tasks count))
-          (IsPermutation-map (λ (x : (ℕ × Request) × ℕ). x.0) tasks (by_level count tasks)
-          (levels_lose_none count tasks are.under)))
+      (IsPermutation-map (λ (x : (ℕ × Request) × ℕ). x.0) tasks (by_level count tasks)
+      (levels_lose_none count tasks are.under)))
 
   pub as_many : length (all_needs levels) ≡ length (plan_of k sink rs)
   as_many = length_permutation (plan_of k sink rs) (all_needs levels) same_tasks

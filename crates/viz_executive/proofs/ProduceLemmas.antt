@@ -1,5 +1,5 @@
 -- A plan that is carried out.
-use Rattle.std.proofs.Common.{◌≡◌, ℕ, ◌<◌, ◌⊎◌, inl, inr, slice_index_or, List, [], ◌∷◌, map, length, Option, None, Some, Ok, refl, sym, subst, ◌∙◌, ap, arith}
+use Rattle.std.proofs.Common.{◌≡◌, ℕ, ◌<◌, inl, inr, slice_index_or, List, [], ◌∷◌, map, length, Option, None, Some, Ok, refl, sym, subst, ◌∙◌, ap, arith}
 use Rattle.std.proofs.lemmas.List.{length-map}
 use Rattle.std.proofs.Math.ListN.{get_or-map}
 use Rattle.std.proofs.lemmas.List.Elements.{All-filter}
@@ -7,16 +7,13 @@ use Rattle.std.proofs.lemmas.List.FromFn.{length-map-range_with_len}
 use Rattle.std.specs.Global.{Vec}
 use Rattle.std.specs.List.{All, Contains, range_with_len}
 use Rattle.viz_extent.specs.Extent.{Bounds}
-use Rattle.viz_inform.specs.Informed.{AreTold}
-use Rattle.viz_inform.specs.declared.told.Told.{Told}
 use Rattle.viz_kept.specs.True.{AreMadeIn, AreTrueIn, HasStamp, IsMadeIn}
-use Rattle.viz_network.specs.Network.{Network}
 use Rattle.viz_node_meaning.specs.Scratch.{IsScratch}
 use Rattle.viz_parts.specs.declared.request.Request.{Request}
-use Rattle.viz_parts.specs.declared.request.Request.TheVariants.{Block, Piece}
+use Rattle.viz_parts.specs.declared.request.Request.TheVariants.{Piece}
 use Rattle.viz_parts.specs.declared.stored.Key.{Key}
 use Rattle.viz_parts.specs.declared.stored.Stored.{Stored}
-use Rattle.viz_plan.specs.Told.{AreLevelsOf, extent_told, known_with, needs_in}
+use Rattle.viz_plan.specs.Told.{AreLevelsOf, needs_in}
 use Rattle.viz_plan_law.specs.Fitting.{IsKnown}
 use Rattle.viz_plan_meaning.specs.Known.{Known}
 use Rattle.viz_plan_meaning.specs.Laws.{plan_of, used_of}
@@ -28,9 +25,9 @@ use Rattle.viz_plan_truth.specs.Truth.{
   PlansMakeParts,
 }
 use Rattle.viz_requests.specs.Shapes.{requests_of}
-use Rattle.viz_executive.specs.Produced.{IsByPlan, IsByPlanOf, is_unreleased, keys_of, need_of, unreleased}
+use Rattle.viz_executive.specs.Produced.{IsByPlanOf, is_unreleased, keys_of, need_of, unreleased}
 use Rattle.viz_executive.specs.Steps.Carrying.{IsCarriedOut}
-use Rattle.viz_executive.specs.Steps.Tasks.{IsTaskItem, all_needs}
+use Rattle.viz_executive.specs.Steps.Tasks.{all_needs}
 use Rattle.viz_executive.specs.declared.carrying.Carried.{Carried}
 use Rattle.viz_executive.proofs.PlanLemmas.{
   all_of_plan,
@@ -100,7 +97,7 @@ module _ (k : Known) (sink : ℕ) (rs : List Request) (levels : List (Vec Key))
           let is = done.items i d l in
           let keys : i < length (keys_of c.made.items) = omega (arith, l, length-map c.made.items key) in
           let needs : i < length (needs_in (keys_of c.made.items)) =
-              omega (arith, keys, length-map (keys_of c.made.items) need_of) in
+          omega (arith, keys, length-map (keys_of c.made.items) need_of) in
           let at = made_planned i (need_of d.key) needs in
           let same = get_or-map need_of (keys_of c.made.items) i d.key
           ∙ ap need_of (get_or-map key c.made.items i d) in

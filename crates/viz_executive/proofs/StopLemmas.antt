@@ -1,5 +1,5 @@
 -- Stops of an update.
-use Rattle.std.proofs.Common.{◌≡◌, ℕ, Result, Ok, Err, IfErr, refl}
+use Rattle.std.proofs.Common.{ℕ, Result, Ok, Err, IfErr, refl}
 use Rattle.viz_dataset.specs.declared.dataset.Dataset.{Dataset}
 use Rattle.viz_inform.specs.Informed.{IsFirstFault}
 use Rattle.viz_network.specs.Network.{Network}

@@ -12,7 +12,7 @@ use Rattle.viz_parts.specs.declared.request.Request.{Request}
 use Rattle.viz_parts.specs.declared.stored.Key.{Key}
 use Rattle.viz_plan.specs.Sites.{IsSite}
 use Rattle.viz_plan.specs.declared.sites.Site.{Site}
-use Rattle.viz_plan_meaning.specs.Known.{Known, ports_extent}
+use Rattle.viz_plan_meaning.specs.Known.{Known}
 use Rattle.viz_plan_meaning.specs.Laws.{plan_of}
 use Rattle.viz_plan_truth.specs.Truth.{IsTaskPart}
 use Rattle.viz_task_parts.specs.Tasks.{HasParts, IsUpdate, TasksMake, TasksTake}
@@ -57,5 +57,5 @@ module _ (k : Known) (sink : ℕ) (rs : List Request) (key : Key) (n : Node) (si
       law k sink rs (need_of key) s.node s.ports parts part u
       (record { planned = planned; is = s.cone }) has
       (subst (λ w. MakesPart s.node.settings s.node.file w key.request parts part) s.whole
-          (subst (λ (x : Node). MakesPart x.settings x.file site.whole key.request parts part)
-          (sym same_node) m))
+      (subst (λ (x : Node). MakesPart x.settings x.file site.whole key.request parts part)
+      (sym same_node) m))

@@ -1,7 +1,6 @@
 -- What an update goes by, and what it comes to.
-use Rattle.std.proofs.Common.{◌≡◌, ℕ, ◌<◌, ◌⊎◌, inl, inr, Bool, true, false, nat_eq, slice_get, List, [], ◌∷◌, map, length, Option, None, Some, IsSome, Ok, refl, sym, subst, ◌∙◌, ap, arith}
+use Rattle.std.proofs.Common.{◌≡◌, ℕ, true, false, nat_eq, slice_get, List, Option, None, Some, IsSome, refl, sym, subst, ◌∙◌, ap}
 use Rattle.std.proofs.lemmas.Bool.{eq-eqb}
-use Rattle.std.specs.List.{All}
 use Rattle.viz_base.specs.declared.node.NodeId.{NodeId}
 use Rattle.viz_inform.specs.Informed.{AreTold}
 use Rattle.viz_inform.specs.declared.told.Told.{Told}
@@ -18,7 +17,6 @@ use Rattle.viz_plan_law.specs.Fitting.{AllKnown, IsKnown, ToldIsKnown, UpdatesFi
 use Rattle.viz_plan_law.specs.Ports.{HaveOwnPorts}
 use Rattle.viz_plan_law.proofs.ConeLemmas.{foot_is}
 use Rattle.viz_plan_meaning.specs.Known.{Known}
-use Rattle.viz_plan_meaning.specs.Laws.{IsPlaced}
 use Rattle.viz_plan_meaning.proofs.NetworkLemmas.{step_at}
 use Rattle.viz_requests.specs.Shapes.{requests_of}
 use Rattle.viz_task_parts.specs.Tasks.{IsUpdate}

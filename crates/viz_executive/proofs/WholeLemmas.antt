@@ -9,7 +9,6 @@ use Rattle.viz_dataset.specs.declared.dataset.Dataset.{Dataset}
 use Rattle.viz_dataset.specs.declared.dataset.Dataset.TheVariants.{Image as OfImage, Mesh as OfMesh}
 use Rattle.viz_extent.specs.Extent.{Bounds}
 use Rattle.viz_extent.specs.Slabs.{slab_of}
-use Rattle.viz_kept.specs.True.{IsDatasetPart}
 use Rattle.viz_network.specs.Cone.{Tree, cone_of}
 use Rattle.viz_node_division.specs.Divided.{IsDivided}
 use Rattle.viz_node_division.specs.Exact.{ExactRule}
@@ -20,12 +19,12 @@ use Rattle.viz_node_meaning.specs.declared.information.Information.TheVariants a
 use Rattle.viz_node_meaning.specs.declared.information.Grid.{Grid}
 use Rattle.viz_node_meaning.specs.Information.{InformationRule}
 use Rattle.viz_parts.specs.Pieces.{Division, IsAnswer, IsImageBlock, IsMeshPiece, SharesOut}
-use Rattle.viz_parts.specs.Stitching.{AreAllOf, ArePiecesOf, AreSlabsOf, slabs_in}
+use Rattle.viz_parts.specs.Stitching.{AreAllOf, slabs_in}
 use Rattle.viz_parts.specs.declared.request.Part.{Part}
 use Rattle.viz_parts.specs.declared.request.Request.{Request}
 use Rattle.viz_parts.specs.declared.request.Request.TheVariants.{Block, Piece}
 use Rattle.viz_plan_law.specs.Cutting.{IsExactPart}
-use Rattle.viz_plan_law.specs.Fitting.{IsExtentTold, IsKnown}
+use Rattle.viz_plan_law.specs.Fitting.{IsExtentTold}
 use Rattle.viz_plan_law.specs.Told.{ToldExtentsAreOwn, ToldMeshesAreGiven}
 use Rattle.viz_requests.specs.Shapes.{requests_of, slab_request}
 use Rattle.viz_plan.specs.Sites.{known_in}
@@ -201,7 +200,7 @@ all_parts one exact shares extents meshes g u n is some parts z =
     by_information one exact shares extents meshes cone known.information known.given own
     known.extent n parts
     (subst (λ rs. AllZip (λ r p. IsExactPart cone r p) rs parts) is
-        (zip_map (IsAnswered g) (λ r p. IsExactPart cone r p) (λ r p h. h.exact) g.requests parts z))
+    (zip_map (IsAnswered g) (λ r p. IsExactPart cone r p) (λ r p h. h.exact) g.requests parts z))
     (subst (λ rs. 0 < length rs) is some)
 
 pub whole_is : (g : GroundData) (parts : List Part)

@@ -19,8 +19,8 @@ zip_more R all i d ys next y l h r e =
     let next_one : suc i ≡ i + 1 = omega arith in
     subst (AllZip R (take (i + 1) all)) (sym e)
     (subst (λ t. AllZip R t (ys ++ y ∷ []))
-        (sym (take-suc all i d l) ∙ ap (λ n. take n all) next_one)
-        (zip_push R (take i all) ys (get_or all i d) y h r))
+    (sym (take-suc all i d l) ∙ ap (λ n. take n all) next_one)
+    (zip_push R (take i all) ys (get_or all i d) y h r))
 
 pub zip_map : {X Y : Type 0} (P Q : X → Y → Type 0) → ((x : X) (y : Y) → P x y → Q x y)
     → (xs : List X) (ys : List Y) → AllZip P xs ys → AllZip Q xs ys

@@ -1,7 +1,7 @@
 -- What an update of a node by its plan gives beside the dataset (VTK User's Guide, the executive: a
 -- filter executes again only where no kept output serves the request).
-use Rattle.std.specs.Prelude.{◌≡◌, ℕ, Bool, true, false, not, List, [], ◌∷◌, length, map, filter}
-use Rattle.std.specs.Prelude.{Option, None, Some, Err}
+use Rattle.std.specs.Prelude.{◌≡◌, ℕ, Bool, false, not, List, length, map, filter}
+use Rattle.std.specs.Prelude.{Err}
 use Rattle.std.specs.List.{All, flat_map, range_with_len}
 use Rattle.std.specs.Option.{option_map_or}
 use Rattle.viz_inform.specs.Informed.{AreTold}
@@ -43,7 +43,8 @@ unreleased net needs = filter (is_unreleased net) needs
 -- the tasks of a plan, level by level, below the level with this number
 abbrev pub level_by_level : Known → ℕ → List Request → ℕ → List (ℕ × Request)
 level_by_level k sink requests levels =
-    flat_map (λ level. needs_of (at_level level (tasks_of k sink requests))) (range_with_len 0 levels)
+    flat_map (λ level. needs_of (at_level level (tasks_of k sink requests)))
+    (range_with_len 0 levels)
 
 -- the kept keys that the plan uses, a part for each of its tasks whose node's parts stay, level by
 -- level, and the number of its tasks

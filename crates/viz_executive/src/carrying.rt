@@ -69,8 +69,8 @@ pub fn carry_out<R: Threads + Sync, G: Gate + Sync>(
     gate: &G,
 ) -> Result<Carried, OwnStop>
     requires entries { AreTrueIn ground.now.sites.net entries.now }
-    requires planned { ArePlannedLevels (known_in ground.now.sites) ground.now.sink ground.now.requests
-        levels.now }
+    requires planned { ArePlannedLevels (known_in ground.now.sites) ground.now.sink
+        ground.now.requests levels.now }
     requires requests { ground.now.requests ≡ requests_of (extent_told ground.now.sites.told
         ground.now.sink)
         shape.now.pieces }

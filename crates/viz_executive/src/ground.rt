@@ -24,7 +24,8 @@ use viz_plan::{Site, Sites, sites_of};
 use viz_plan_walk::{Tasks, task_steps};
 
 /// A network with its steps, what is known of its nodes, and the requests of an update of one.
-/// Contracts see what is told and kept, the nodes of the steps, the node of the update and its requests.
+/// Contracts see what is told and kept, the nodes of the steps, the node of the update and its
+/// requests.
 #[derive(Drop)]
 pub struct Ground<'a> {
     net: &'a Net,

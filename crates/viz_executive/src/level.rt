@@ -81,7 +81,8 @@ pub fn run_tasks<R: Threads + Sync, G: Gate + Sync>(
     gate: &G,
 ) -> Result<Vec<Stored>, OwnStop>
     requires table { AreExact ground.now.sites.net table.now }
-    requires planned { ArePlanned (known_in ground.now.sites) ground.now.sink ground.now.requests keys.now }
+    requires planned { ArePlanned (known_in ground.now.sites) ground.now.sink
+        ground.now.requests keys.now }
     requires workers { 0 < workers }
     requires room { first + length keys.now < 2 ^ 64 }
     ensures items { IfOk result (λ all. AreItemsOf ground.now.sites.net keys.now all.items) }

@@ -95,7 +95,8 @@ fn run_one<R: Threads + Sync, G: Gate + Sync>(
     workers: u32,
     gate: &G,
 ) -> Result<u64, OwnStop>
-    requires planned { ArePlanned (known_in ground.now.sites) ground.now.sink ground.now.requests keys.now }
+    requires planned { ArePlanned (known_in ground.now.sites) ground.now.sink
+        ground.now.requests keys.now }
     requires workers { 0 < workers }
     requires exact { AreExact ground.now.sites.net done.old.table.items }
     ensures number { IfOk result (λ n. n ≡ first + length keys.now) }
@@ -126,8 +127,8 @@ pub fn run_levels<R: Threads + Sync, G: Gate + Sync>(
     workers: u32,
     gate: &G,
 ) -> Result<u64, OwnStop>
-    requires planned { ArePlannedLevels (known_in ground.now.sites) ground.now.sink ground.now.requests
-        levels.now }
+    requires planned { ArePlannedLevels (known_in ground.now.sites) ground.now.sink
+        ground.now.requests levels.now }
     requires workers { 0 < workers }
     requires done { IsDone ground.now.sites.net [] done.old.table.items done.old.made.items }
     ensures number { IfOk result (λ n. n ≡ length (all_needs levels.now)) }

@@ -1,8 +1,8 @@
 //! What an update of a node makes by its plan: level by level, on workers, from what is kept.
 //!
-//! Contract: `produce` gives just the dataset, or the fault, of an evaluation from scratch, with the
-//! kept keys that its plan uses, the parts that its tasks made, and the number of tasks, which is
-//! that of the plan. Definitions: `specs/Produced.antt`; `specs/Steps/` has the words of private
+//! Contract: `produce` gives just the dataset, or the fault, of an evaluation from scratch, with
+//! the kept keys that its plan uses, the parts that its tasks made, and the number of tasks, which
+//! is that of the plan. Definitions: `specs/Produced.antt`; `specs/Steps/` has the words of private
 //! contracts.
 #![tactic(auto)]
 

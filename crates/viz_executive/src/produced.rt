@@ -99,8 +99,8 @@ fn carried<R: Threads + Sync, G: Gate + Sync>(
 ///
 /// # Errors
 ///
-/// `Fault` exactly where an evaluation from scratch has it, and that one. Want of memory may come in
-/// place of it.
+/// `Fault` exactly where an evaluation from scratch has it, and that one. Want of memory may come
+/// in place of it.
 pub fn produce<R: Threads + Sync, G: Gate + Sync>(
     rt: &R,
     alloc: Global,

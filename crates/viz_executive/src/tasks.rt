@@ -25,7 +25,8 @@ use viz_task_parts::tasks_make_parts;
 // What the task asks its inputs for.
 fn request_of(ground: &Ground<'_>, place: usize, key: &Key) -> Option<Request>
     requires at { slice_get ground.now.order place ≡ Some key.now.node }
-    ensures { IfSome result (λ r. r ≡ asked_at (known_in ground.now.sites) key.now.node.0 key.now.request) }
+    ensures { IfSome result (λ r. r ≡ asked_at (known_in ground.now.sites) key.now.node.0
+        key.now.request) }
 {
     let site = ground.site(place, key.node);
     asked(&site.settings, &site.whole, &key.request)
@@ -41,7 +42,8 @@ fn parts_for(
 ) -> Result<Vec<Option<Shared<Part>>>, AllocError>
     requires at { slice_get ground.now.order place ≡ Some key.now.node }
     requires table { AreExact ground.now.sites.net table.now }
-    ensures parts { IfOk result (λ parts. HasParts (known_in ground.now.sites) (need_of key.now) parts.items) }
+    ensures parts { IfOk result (λ parts. HasParts (known_in ground.now.sites) (need_of key.now)
+        parts.items) }
 {
     let Some(request) = request_of(ground, place, key) else {
         return Err(AllocError);
@@ -61,8 +63,8 @@ fn task_part(
     key: &Key,
 ) -> Result<Part, OwnStop>
     requires table { AreExact ground.now.sites.net table.now }
-    requires planned { Contains (plan_of (known_in ground.now.sites) ground.now.sink ground.now.requests)
-        (need_of key.now) }
+    requires planned { Contains (plan_of (known_in ground.now.sites) ground.now.sink
+        ground.now.requests) (need_of key.now) }
     ensures part { IfOk result (IsTaskPart ground.now.sites.net key.now.node.0 key.now.request) }
 {
     tasks_make_parts();
@@ -91,8 +93,8 @@ pub fn run_task(
     key: &Key,
 ) -> Result<Stored, OwnStop>
     requires table { AreExact ground.now.sites.net table.now }
-    requires planned { Contains (plan_of (known_in ground.now.sites) ground.now.sink ground.now.requests)
-        (need_of key.now) }
+    requires planned { Contains (plan_of (known_in ground.now.sites) ground.now.sink
+        ground.now.requests) (need_of key.now) }
     requires stamp { HasStamp ground.now.sites.net key.now }
     ensures item { IfOk result (IsItemOf ground.now.sites.net key.now) }
 {

@@ -5,7 +5,12 @@ ghost use Rattle.viz_plan.specs.Told.{extent_told};
 ghost use Rattle.viz_requests.specs.Shapes.{requests_of};
 ghost use Rattle.viz_executive.specs.Steps.Grounds.{IsReached};
 ghost use Rattle.viz_executive.specs.Steps.Tables.{AreExact};
-ghost use Rattle.viz_executive.specs.Steps.Wholes.{AreAllAnswered, AreAnswered, IsAnswered, IsWhole};
+ghost use Rattle.viz_executive.specs.Steps.Wholes.{
+  AreAllAnswered,
+  AreAnswered,
+  IsAnswered,
+  IsWhole,
+};
 
 use crate::fetching::fetch;
 use crate::ground::Ground;

@@ -10,7 +10,8 @@ use Rattle.viz_plan_meaning.specs.Networks.{head_of, ways_to}
 use Rattle.viz_plan_walk.specs.TaskSteps.{AreTasks}
 use Rattle.viz_task_parts.specs.Tasks.{IsUpdate}
 
--- what contracts see: what is told and kept, the nodes of the steps, the node of the update and its requests
+-- what contracts see: what is told and kept, the nodes of the steps, the node of the update and its
+-- requests
 pub record GroundData : Type 0 where
   pub sites : SitesData
   pub order : List NodeId

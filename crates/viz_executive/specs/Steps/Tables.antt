@@ -1,5 +1,5 @@
--- Parts that are there, by the places of the steps of their nodes. Only private contracts and proofs
--- speak of it.
+-- Parts that are there, by the places of the steps of their nodes. Only private contracts and
+-- proofs speak of it.
 use Rattle.std.specs.Prelude.{◌≡◌, ℕ, true, List, slice_get, Option, None, Some}
 use Rattle.std.specs.List.{All, AllZip, Contains}
 use Rattle.std.specs.Global.{Vec}
@@ -40,5 +40,6 @@ IsFetched net order request (Some place) (Some part) =
 IsFetched net order request _ _ = ⊥
 
 -- so each of some places
-abbrev pub AreFetched : Network → List NodeId → Request → List (Option ℕ) → List (Option Part) → Type 0
+abbrev pub AreFetched : Network → List NodeId → Request → List (Option ℕ) → List (Option Part)
+    → Type 0
 AreFetched net order request places parts = AllZip (IsFetched net order request) places parts

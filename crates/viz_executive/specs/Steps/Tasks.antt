@@ -1,6 +1,7 @@
 -- Tasks of a level, and what they make. Only private contracts and proofs speak of it.
-use Rattle.std.specs.Prelude.{◌≡◌, ℕ, ◌+◌, ◌-◌, ◌<◌, ◌≤◌, Bool, true, false, List, [], ◌∷◌, ◌++◌, length, map, filter, slice_get}
-use Rattle.std.specs.Prelude.{Option, None, Some, Result, IfOk}
+use Rattle.std.specs.Prelude.{◌≡◌, ℕ, ◌+◌, ◌-◌, ◌<◌, ◌≤◌, Bool, true, false, List, [], ◌∷◌}
+use Rattle.std.specs.Prelude.{length, slice_get}
+use Rattle.std.specs.Prelude.{Some, Result, IfOk}
 use Rattle.std.specs.List.{All, Contains, flat_map}
 use Rattle.std.specs.Option.{option_map_or}
 use Rattle.std.specs.Global.{Vec}
@@ -15,7 +16,7 @@ use Rattle.viz_plan.specs.Told.{needs_in}
 use Rattle.viz_plan_meaning.specs.Known.{Known}
 use Rattle.viz_plan_meaning.specs.Laws.{plan_of}
 use Rattle.viz_plan_truth.specs.Truth.{HasTaskPart, IsTaskPart}
-use Rattle.viz_executive.specs.Produced.{keys_of, need_of, stays, unreleased}
+use Rattle.viz_executive.specs.Produced.{keys_of, stays, unreleased}
 use Rattle.viz_executive.specs.Steps.Grounds.{GroundData}
 use Rattle.viz_executive.specs.Steps.Tables.{AreExact}
 

@@ -1,5 +1,5 @@
--- Parts of the node of an update for all of its requests. Only private contracts and proofs speak of
--- it.
+-- Parts of the node of an update for all of its requests. Only private contracts and proofs speak
+-- of it.
 use Rattle.std.specs.Prelude.{◌≡◌, List, map, Ok}
 use Rattle.std.specs.List.{All, AllZip}
 use Rattle.viz_dataset.specs.declared.dataset.Dataset.{Dataset}

@@ -1,5 +1,4 @@
 use Rattle.std.proofs.Common.{subst, sym, ◌∙◌, ap}
-use Rattle.viz_parts.specs.declared.stored.Key.{Key}
 use Rattle.viz_plan.specs.Sites.{known_in}
 use Rattle.viz_executive.specs.Steps.Tasks.{ArePlanned}
 use Rattle.viz_executive.proofs.levels.run_levels.Goals as goal

@@ -10,4 +10,4 @@ new-requires-clause-update g c =
     subst (IsUpdate (known_with c.args.net.now c.args.told.now c.args.entries.now) c.args.sink.0)
     (sym (c.deref-2.ensures.value ∙ c.in_ok-requests.ensures.value ∙ ap (λ o. requests_of o c.args.shape.now.pieces) c.extent_told.ensures))
     (update_of c.plans_fit.ensures.told c.plans_fit.ensures.update c.args.net.now c.args.told.now c.args.entries.now c.args.sink c.args.shape.now.pieces c.in_ok-steps.steps.items c.in_ok-steps.ensures c.requires.there c.requires.ports
-        c.requires.told)
+    c.requires.told)

@@ -1,4 +1,4 @@
-use Rattle.std.proofs.Common.{◌≡◌, Some, slice_get, sym, subst, ◌∙◌, ap}
+use Rattle.std.proofs.Common.{slice_get, sym, subst, ◌∙◌, ap}
 use Rattle.viz_network.specs.Step.{nodes_of}
 use Rattle.viz_plan_meaning.specs.Networks.{ways_at}
 use Rattle.viz_plan_meaning.specs.Plan.{heads}
@@ -20,4 +20,4 @@ returns-in-Some c =
     let here = read_at c.deref.result.now i.tasks.steps.items c.args.place step look.3.0 look.1 c.deref.ensures.value in
     subst (λ n. AreSourced c.args.self.now.order c.args.place (heads (ways_at n c.args._node.0)) step.inputs) net
     (subst (λ o. AreSourced o c.args.place (heads (ways_at i.net.now c.args._node.0)) step.inputs) order
-        (sourced i.net.now (nodes_of i.steps.now) i.tasks.steps.items i.tasks.sources.items inv.past c.args.place step c.args._node at here))
+    (sourced i.net.now (nodes_of i.steps.now) i.tasks.steps.items i.tasks.sources.items inv.past c.args.place step c.args._node at here))
