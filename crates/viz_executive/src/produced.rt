@@ -17,7 +17,6 @@ use std::alloc::Global;
 use std::thread::Threads;
 use viz_base::{Gate, NodeId, Shape};
 use viz_dataset::Dataset;
-use viz_given::given_meshes_are_leveled;
 use viz_inform::{Told, inform};
 use viz_network::{Net, Stop};
 use viz_node_rules::OwnStop;
@@ -118,9 +117,7 @@ pub fn produce<R: Threads + Sync, G: Gate + Sync>(
         p.used.items p.made.items p.ran) }
     ensures fault { IfErr result (IsScratchStop net.now sink.0) }
 {
-    given_meshes_are_leveled();
     plans_are_narrow();
-    plans_fit();
     let all_told = match told_of(alloc, net, sink) {
         Ok(told) => told,
         Err(stop) => return Err(stop),
