@@ -65,7 +65,14 @@ impl Story {
     pub(crate) fn keep(&mut self, used: &[Key], made: &[Stored])
         requires made { AreMadeIn (network_of self.old.history) made.now }
     {
-        made_is_true();
-        self.core.publish(used, made);
+        keep_in(&mut self.core, used, made);
     }
+}
+
+fn keep_in(core: &mut Core, used: &[Key], made: &[Stored])
+    requires made { AreMadeIn (network_of core.old.history) made.now }
+    ensures same { core.new.history ≡ core.old.history }
+{
+    made_is_true();
+    core.publish(used, made);
 }
