@@ -13,10 +13,6 @@ pub read_at : {X : Type 0} (xs ys : List X) (i : ℕ) (x : X) → i < length xs 
 read_at xs ys i x l is same =
     subst (λ zs. slice_get zs i ≡ Some x) same (slice_get-get_or xs i x l ∙ ap Some (sym is))
 
-pub map_same : {X : Type 0} (xs : List X) → map (λ x. x) xs ≡ xs
-map_same [] = refl
-map_same (x ∷ xs) = ap (λ l. x ∷ l) (map_same xs)
-
 -- one more, as a loop over what is given up finds it
 pub zip_yield : {X Y Z : Type 0} (R : Y → Z → Type 0) (f : X → Y) (xs : List X) (x : X)
     (zs next : List Z) (z : Z) → AllZip R (map f xs) zs → R (f x) z → next ≡ zs ++ z ∷ []

@@ -24,7 +24,7 @@ AllHave P (fed n own others) = P (Some (n, own)) × AllHave P own × AllHave P o
 
 -- ---- lists
 
-thin_each : (P : Need → Type 0) (front xs : List Need) → Each P xs
+pub thin_each : (P : Need → Type 0) (front xs : List Need) → Each P xs
     → Each P (thin serves front xs)
 thin_each P front [] h = tt
 thin_each P front (x ∷ xs) h =
@@ -36,7 +36,8 @@ thin_each P front (x ∷ xs) h =
     by true r = r
     by false r = (h.0, r)
 
-each_member : (P : Need → Type 0) (xs : List Need) (x : Need) → Each P xs → Contains xs x → P x
+pub each_member : (P : Need → Type 0) (xs : List Need) (x : Need) → Each P xs → Contains xs x
+    → P x
 each_member P [] x h c = absurd (no_member x c)
 each_member P (y ∷ ys) x h c =
     ⊎_elim (λ e. subst P e h.0) (λ d. each_member P ys x h.1 d) (member_cases y ys x c)

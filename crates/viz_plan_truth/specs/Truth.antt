@@ -1,4 +1,5 @@
--- Parts that the tasks of a plan make, and what they tell of wide numbers (VTK User's Guide, the executive: the data pass; docs/FORMATS.md, "Exact points").
+-- Parts that the tasks of a plan make, and what they tell of wide numbers (VTK User's Guide, the
+-- executive: the data pass; docs/FORMATS.md, "Exact points").
 use Rattle.std.specs.Prelude.{◌≡◌, ◌⊎◌, ℕ, ◌<◌, List, ◌∷◌, All, Contains, map, Option, None, Some, Ok}
 use Rattle.std.specs.List.{range_with_len}
 use Rattle.viz_dataset.specs.Images.{ImageData}
@@ -39,8 +40,8 @@ use Rattle.viz_sheet.specs.Sheet.{SheetData}
 
 -- ---- sections of a part
 
--- a piece of a section by forms of a dataset is made of a part of that, none of whose sections has a
--- wide number
+-- a piece of a section by forms of a dataset is made of a part of that, none of whose sections has
+-- a wide number
 abbrev pub IsNarrowMade : List Form → Dataset → Division → Request → Type 0
 IsNarrowMade forms (Image image) division (Piece p n ghosts) =
     (block : ImageData) × IsBlockOf image (asked p n ghosts image.extent) block

@@ -5,11 +5,9 @@ use Rattle.std.proofs.Common.{
   Bool,
   true,
   false,
-  cond,
   List,
   [],
   ◌∷◌,
-  ◌++◌,
   Option,
   None,
   Some,
@@ -17,9 +15,7 @@ use Rattle.std.proofs.Common.{
   sym,
   ap,
   subst,
-  ⊎_elim,
 }
-use Rattle.std.specs.List.{Contains}
 use Rattle.viz_extent.specs.Extent.{Bounds}
 use Rattle.viz_kinds.specs.declared.settings.Settings.{Settings}
 use Rattle.viz_kinds.specs.declared.settings.Settings.TheVariants as settings
@@ -32,12 +28,11 @@ use Rattle.viz_plan_law.specs.Fitting.{IsKnown}
 use Rattle.viz_plan_meaning.specs.Known.{Known, asked_at, kept_at, tree_widened, widened_at}
 use Rattle.viz_plan_meaning.specs.Laws.{plan_of}
 use Rattle.viz_plan_meaning.specs.Networks.{passes, way_of, ways, ways_to}
-use Rattle.viz_plan_meaning.specs.Plan.{Upstream, all_needs, met, needs, served, thin}
+use Rattle.viz_plan_meaning.specs.Plan.{Upstream, all_needs, met, needs}
+use Rattle.viz_plan_truth.proofs.NeedLemmas.{each_member, thin_each}
 use Rattle.viz_plan_truth.proofs.PlanLemmas.{Each, Need, each_both}
 use Rattle.viz_plan_truth.proofs.WayLemmas.{first_needs, passed_needs, writer_first}
-use Rattle.viz_requests.specs.Serving.{serves}
 use Rattle.viz_requests.specs.Upstream.{widened}
-use Rattle.viz_sheet.proofs.MemberLemmas.{member_cases, no_member}
 use Rattle.viz_task_parts.specs.Tasks.{IsTaskAt, IsUpdate}
 
 -- what is made for what is made for a request is that
@@ -157,23 +152,6 @@ module _ (k : Known) where
       (each_planned c a h r) (all_planned c a h rs)
 
 -- ---- the plan
-
-thin_each : (P : Need → Type 0) (front xs : List Need) → Each P xs
-    → Each P (thin serves front xs)
-thin_each P front [] h = tt
-thin_each P front (x ∷ xs) h =
-    by (served serves front x.0 x.1) (thin_each P (front ++ x ∷ []) xs h.1)
-  where
-    by : (b : Bool) → Each P (thin serves (front ++ x ∷ []) xs)
-        → Each P (cond b (thin serves (front ++ x ∷ []) xs)
-        (x ∷ thin serves (front ++ x ∷ []) xs))
-    by true r = r
-    by false r = (h.0, r)
-
-each_member : (P : Need → Type 0) (xs : List Need) (x : Need) → Each P xs → Contains xs x → P x
-each_member P [] x h c = absurd (no_member x c)
-each_member P (y ∷ ys) x h c =
-    ⊎_elim (λ e. subst P e h.0) (λ d. each_member P ys x h.1 d) (member_cases y ys x c)
 
 same_tree : (o : Option Tree) (t u : Tree) → o ≡ Some t → o ≡ Some u → t ≡ u
 same_tree o t u e f = let same : t ≡ u = cc in same
