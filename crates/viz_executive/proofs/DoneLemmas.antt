@@ -82,6 +82,16 @@ module _ (net : Network) where
         (staying_made (is_staying net item.key.node.0) item h));
   }
 
+  -- parts of a table are given up
+  pub done_less : (needs : Needs) (table after : List (Vec Stored)) (made : List Stored)
+      → IsDone net needs table made → AreExact net after → IsDone net needs after made
+  done_less needs table after made d exact = record {
+    exact = exact;
+    each = d.each;
+    made_are = d.made_are;
+    items = d.items;
+  }
+
   pub done_are : (needs others : Needs) (table : List (Vec Stored)) (made : List Stored)
       → needs ≡ others → IsDone net needs table made → IsDone net others table made
   done_are needs others table made e d = subst (λ n. IsDone net n table made) e d

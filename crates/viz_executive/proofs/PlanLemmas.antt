@@ -41,7 +41,7 @@ flat_joined : {X Y : Type 0} (f : X → List Y) (xs : List X) → flat_map f xs 
 flat_joined f [] = refl
 flat_joined f (x ∷ xs) = ap (λ l. f x ++ l) (flat_joined f xs)
 
-front : {X : Type 0} (P : X → Type 0) (xs ys : List X) → All P (xs ++ ys) → All P xs
+pub front : {X : Type 0} (P : X → Type 0) (xs ys : List X) → All P (xs ++ ys) → All P xs
 front P [] ys h = All-nil P
 front P (x ∷ xs) ys h =
     All-cons P x xs (All-head P x (xs ++ ys) h) (front P xs ys (All-tail P x (xs ++ ys) h))

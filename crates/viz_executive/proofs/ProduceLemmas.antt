@@ -1,11 +1,35 @@
 -- A plan that is carried out.
-use Rattle.std.proofs.Common.{◌≡◌, ℕ, ◌<◌, inl, inr, slice_index_or, List, [], ◌∷◌, map, length, Option, None, Some, Ok, refl, sym, subst, ◌∙◌, ap, arith}
-use Rattle.std.proofs.lemmas.List.{length-map}
+use Rattle.std.proofs.Common.{
+  ◌≡◌,
+  ℕ,
+  ◌<◌,
+  inl,
+  inr,
+  slice_index_or,
+  List,
+  [],
+  ◌∷◌,
+  map,
+  length,
+  Option,
+  None,
+  Some,
+  IfSome,
+  Ok,
+  refl,
+  sym,
+  subst,
+  ◌∙◌,
+  ap,
+  arith,
+}
+use Rattle.std.proofs.lemmas.List.{length-map, map-append}
 use Rattle.std.proofs.Math.ListN.{get_or-map}
 use Rattle.std.proofs.lemmas.List.Elements.{All-filter}
 use Rattle.std.proofs.lemmas.List.FromFn.{length-map-range_with_len}
 use Rattle.std.specs.Global.{Vec}
 use Rattle.std.specs.List.{All, Contains, range_with_len}
+use Rattle.std.specs.Option.{option_to_list}
 use Rattle.viz_extent.specs.Extent.{Bounds}
 use Rattle.viz_kept.specs.True.{AreMadeIn, AreTrueIn, HasStamp, IsMadeIn}
 use Rattle.viz_node_meaning.specs.Scratch.{IsScratch}
@@ -25,14 +49,24 @@ use Rattle.viz_plan_truth.specs.Truth.{
   PlansMakeParts,
 }
 use Rattle.viz_requests.specs.Shapes.{requests_of}
-use Rattle.viz_executive.specs.Produced.{IsByPlanOf, is_unreleased, keys_of, need_of, unreleased}
-use Rattle.viz_executive.specs.Steps.Carrying.{IsCarriedOut}
+use Rattle.viz_task_parts.specs.Tasks.{DatasetsArePassed}
+use Rattle.viz_executive.specs.Produced.{
+  IsByPlanOf,
+  IsOnly,
+  is_unreleased,
+  keys_of,
+  need_of,
+  unreleased,
+}
+use Rattle.viz_executive.specs.Steps.Carrying.{AsksForAll, IsCarriedOut, IsReachedKey}
 use Rattle.viz_executive.specs.Steps.Tasks.{all_needs}
 use Rattle.viz_executive.specs.declared.carrying.Carried.{Carried}
+use Rattle.viz_executive.specs.declared.produced.Produced.{Produced}
 use Rattle.viz_executive.proofs.PlanLemmas.{
   all_of_plan,
   as_many,
   count,
+  front,
   in_plan,
   needs_at,
   needs_by_level,
@@ -83,9 +117,13 @@ module _ (k : Known) (sink : ℕ) (rs : List Request) (levels : List (Vec Key))
 
   made_planned : All (Contains (plan_of k sink rs)) (needs_in (keys_of c.made.items))
   made_planned =
-      subst (All (Contains (plan_of k sink rs))) (sym done.made_are)
+      let all = subst (All (Contains (plan_of k sink rs))) (sym done.made_are)
       (All-filter (is_unreleased k.net) (Contains (plan_of k sink rs)) (all_needs levels)
-      (in_plan k sink rs levels are))
+      (in_plan k sink rs levels are)) in
+      front (Contains (plan_of k sink rs)) (needs_in (keys_of c.made.items))
+      (needs_in (option_to_list c.only))
+      (subst (All (Contains (plan_of k sink rs)))
+      (map-append need_of (keys_of c.made.items) (option_to_list c.only)) all)
 
   made_in : PlansMakeParts → AreMadeIn k.net c.made.items
   made_in law = record { each = one }
@@ -107,9 +145,32 @@ module _ (k : Known) (sink : ℕ) (rs : List Request) (levels : List (Vec Key))
                 (subst (Contains (plan_of k sink rs)) same at) item.part is.part;
           }
 
-  pub by_plan : PlansMakeParts → (used : List Key) → needs_in used ≡ used_of k sink rs
-      → All (HasStamp k.net) used → IsByPlanOf k sink rs used c.made.items c.ran
-  by_plan law used same stamps = record {
+  -- the dataset is all of what the node gives that requests reach
+  only_in : DatasetsArePassed → IsScratch k.net sink (Ok c.dataset) → (only : Option Key)
+      → IfSome only (IsReachedKey k.net sink) → AsksForAll c.dataset only
+      → IsOnly k.net c.dataset only
+  only_in law given None h a = tt
+  only_in law given (Some key) h a = record {
+    stamp = h.stamp;
+    given = law k.net sink key.node.0 c.dataset done.update.placed done.update.ports given
+        h.reached;
+    all = a;
+  }
+
+  -- what the update gives
+  abbrev pub produced : Vec Key → Produced
+  produced used = record {
+    dataset = c.dataset;
+    used = used;
+    made = c.made;
+    only = c.only;
+    ran = c.ran;
+  }
+
+  pub by_plan : PlansMakeParts → PlansGive → DatasetsArePassed → (used : Vec Key)
+      → needs_in used.items ≡ used_of k sink rs → All (HasStamp k.net) used.items
+      → IsByPlanOf k sink rs (produced used)
+  by_plan law gives passed used same stamps = record {
     used_are = same;
     stamps = stamps;
     levels = count k sink rs levels are;
@@ -117,5 +178,6 @@ module _ (k : Known) (sink : ℕ) (rs : List Request) (levels : List (Vec Key))
     made_are = done.made_are
         ∙ ap (λ l. unreleased k.net l) (needs_by_level k sink rs levels are);
     parts = made_in law;
+    only = only_in passed (scratch_is gives) c.only done.only done.all;
     number = done.number ∙ as_many k sink rs levels are;
   }

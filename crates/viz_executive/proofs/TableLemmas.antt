@@ -22,6 +22,13 @@ module _ (net : Network) where
         h.each;
   }
 
+  pub exact_clear : (table : List (Vec Stored)) (place : ℕ) (new : Vec Stored) → new.items ≡ []
+      → AreExact net table → AreExact net (slice_set table place new)
+  exact_clear table place new none h = record {
+    each = All-set Exact table place new
+        (subst (All (IsExactItem net)) (sym none) (All-nil (IsExactItem net))) h.each;
+  }
+
   pub exact_push : (table next : List (Vec Stored)) (new : Vec Stored) → AreExact net table
       → new.items ≡ [] → next ≡ table ++ new ∷ [] → AreExact net next
   exact_push table next new h none e = record {

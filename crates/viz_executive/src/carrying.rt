@@ -12,6 +12,8 @@ ghost use Rattle.viz_executive.specs.Steps.Wholes.{AreAllAnswered};
 
 use crate::ground::Ground;
 use crate::levels::{Done, run_levels};
+use crate::only::{asks_for_all, take_only};
+use crate::reads::read_until;
 use crate::table::kept_by_place;
 use crate::wholes::{Answered, answers, whole_of};
 use std::alloc::{AllocError, Global};
@@ -22,11 +24,13 @@ use viz_node_rules::OwnStop;
 use viz_parts::{Key, Stored};
 
 /// The dataset of the node of an update, the parts that tasks made of nodes that aren't released,
-/// in the order of the tasks, and the number of tasks.
+/// in the order of the tasks, the key of the last of them where the dataset is that part itself, and
+/// the number of tasks.
 #[derive(Drop)]
 pub struct Carried {
     pub dataset: Dataset,
     pub made: Vec<Stored>,
+    pub only: Option<Key>,
     pub ran: u64,
 }
 
@@ -80,9 +84,28 @@ pub fn carry_out<R: Threads + Sync, G: Gate + Sync>(
 {
     ground.known();
     let mut done = begun(alloc, ground, entries)?;
-    let ran = run_levels(rt, alloc, ground, &mut done, levels, shape.workers, gate)?;
-    let Done { table, made } = done;
+    let until = read_until(alloc, ground, levels)?;
+    let ran = run_levels(
+        rt,
+        alloc,
+        ground,
+        &mut done,
+        levels,
+        &until,
+        shape.workers,
+        gate,
+    )?;
+    let Done { table, mut made } = done;
     let answered = last_answers(alloc, ground, table)?;
+    let only = take_only(ground, &mut made, &answered)?;
     let dataset = whole_of(alloc, ground, shape.pieces, answered)?;
-    Ok(Carried { dataset, made, ran })
+    if !asks_for_all(&only, &dataset) {
+        return Err(OwnStop::Memory);
+    }
+    Ok(Carried {
+        dataset,
+        made,
+        only,
+        ran,
+    })
 }

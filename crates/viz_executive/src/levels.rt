@@ -19,6 +19,7 @@ ghost use Rattle.viz_executive.specs.Steps.Tasks.{
 
 use crate::ground::Ground;
 use crate::level::run_tasks;
+use crate::reads::give_up;
 use crate::table::{copied, put};
 use std::alloc::{AllocError, Global};
 use std::thread::Threads;
@@ -113,7 +114,8 @@ fn run_one<R: Threads + Sync, G: Gate + Sync>(
     Ok(next)
 }
 
-/// Runs all levels, and gives the number of their tasks.
+/// Runs all levels, and gives the number of their tasks. Behind a level parts are given up that are
+/// read until then, as counted in tasks by the places of their nodes' steps.
 ///
 /// # Errors
 ///
@@ -124,6 +126,7 @@ pub fn run_levels<R: Threads + Sync, G: Gate + Sync>(
     ground: &Ground<'_>,
     done: &mut Done,
     levels: &[Vec<Key>],
+    until: &[u64],
     workers: u32,
     gate: &G,
 ) -> Result<u64, OwnStop>
@@ -138,6 +141,7 @@ pub fn run_levels<R: Threads + Sync, G: Gate + Sync>(
     let mut ran = 0;
     for keys in levels {
         ran = run_one(rt, alloc, ground, done, keys, ran, workers, gate)?;
+        give_up(&mut done.table, until, ran);
     }
     Ok(ran)
 }

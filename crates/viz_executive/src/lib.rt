@@ -11,10 +11,13 @@ mod fetching;
 mod ground;
 mod level;
 mod levels;
+mod only;
 mod places;
 mod produced;
+mod reads;
 mod table;
 mod tasks;
 mod wholes;
 
+pub use only::all_made;
 pub use produced::{Produced, produce};

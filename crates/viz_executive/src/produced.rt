@@ -26,15 +26,19 @@ use viz_plan_law::plans_fit;
 use viz_plan_truth::plans_are_narrow;
 use viz_requests::requests_of;
 use viz_scratch::scratch;
+use viz_task_parts::parts_are_passed;
 
 /// What an update gives: the dataset of its node; the keys of kept parts that its plan uses, in the
 /// order of their first use; the parts that its tasks made, under their keys, of nodes that aren't
-/// released, in the order of the tasks; and the number of tasks.
+/// released, in the order of the tasks; the key of the last of them where the dataset is that part
+/// itself, which then isn't among the made; and the number of tasks. `all_made` gives all of them,
+/// once the dataset isn't needed any more.
 #[derive(Drop)]
 pub struct Produced {
     pub dataset: Dataset,
     pub used: Vec<Key>,
     pub made: Vec<Stored>,
+    pub only: Option<Key>,
     pub ran: u64,
 }
 
@@ -113,11 +117,11 @@ pub fn produce<R: Threads + Sync, G: Gate + Sync>(
     requires ports { HaveOwnPorts net.now }
     requires entries { AreTrueIn net.now entries.now }
     ensures dataset { IfOk result (λ p. IsScratch net.now sink.0 (Ok p.dataset)) }
-    ensures plan { IfOk result (λ p. IsByPlan net.now entries.now sink.0 shape.now.pieces
-        p.used.items p.made.items p.ran) }
+    ensures plan { IfOk result (IsByPlan net.now entries.now sink.0 shape.now.pieces) }
     ensures fault { IfErr result (IsScratchStop net.now sink.0) }
 {
     plans_are_narrow();
+    parts_are_passed();
     let all_told = match told_of(alloc, net, sink) {
         Ok(told) => told,
         Err(stop) => return Err(stop),
@@ -129,6 +133,7 @@ pub fn produce<R: Threads + Sync, G: Gate + Sync>(
             dataset: carried.dataset,
             used: plan.used,
             made: carried.made,
+            only: carried.only,
             ran: carried.ran,
         }),
         Err(OwnStop::Memory) => Err(Stop::Memory),

@@ -2,6 +2,7 @@
 
 ghost use Rattle.std.specs.Prelude.{◌≡◌, IfOk, IsSome};
 ghost use Rattle.viz_entries.specs.History.{network_of};
+ghost use Rattle.viz_executive.specs.Produced.{IsOnly};
 ghost use Rattle.viz_kept.specs.True.{AreMadeIn, AreTrueIn};
 ghost use Rattle.viz_network.specs.Network.{node_of};
 ghost use Rattle.viz_plan_law.specs.Ports.{HaveOwnPorts};
@@ -13,7 +14,7 @@ use std::test::Fail;
 use std::thread::Threads;
 use viz_base::{Gate, NodeId, Shape};
 use viz_dataset::Dataset;
-use viz_executive::{Produced, produce};
+use viz_executive::{Produced, all_made, produce};
 use viz_history::Pinned;
 use viz_image_write::Style;
 use viz_network::{Fault, Net, Stop};
@@ -63,6 +64,12 @@ fn faults(one: Fault, other: Fault) -> Outcome {
     }
 }
 
+// How many parts the tasks made, the dataset itself among them.
+fn made_count(produced: &Produced) -> usize {
+    let only = if produced.only.is_some() { 1 } else { 0 };
+    produced.made.len().saturating_add(only)
+}
+
 // A dataset that an update gave.
 fn given(alloc: Global, net: &Net, sink: NodeId, produced: &Produced) -> Outcome
     requires there { IsSome (node_of net.now sink.0) }
@@ -70,7 +77,7 @@ fn given(alloc: Global, net: &Net, sink: NodeId, produced: &Produced) -> Outcome
     match scratch(alloc, net, sink) {
         Ok(whole) if are_same(alloc, sink, &produced.dataset, whole.get()) => Outcome::Same {
             ran: produced.ran,
-            made: produced.made.len(),
+            made: made_count(produced),
             used: produced.used.len(),
         },
         Err(Stop::Memory) => Outcome::Memory,
@@ -102,6 +109,7 @@ fn produced<R: Threads + Sync, G: Gate + Sync>(
     requires ports { HaveOwnPorts pinned.now.net }
     requires entries { AreTrueIn pinned.now.net pinned.now.entries }
     ensures made { IfOk result (λ produced. AreMadeIn pinned.now.net produced.made.items) }
+    ensures only { IfOk result (λ produced. IsOnly pinned.now.net produced.dataset produced.only) }
 {
     produce(
         rt,
@@ -112,6 +120,34 @@ fn produced<R: Threads + Sync, G: Gate + Sync>(
         shape,
         gate,
     )
+}
+
+// Keeps what an update made, once its dataset isn't needed any more.
+fn kept(
+    alloc: Global,
+    story: &mut Story,
+    _net: &Net,
+    produced: Produced,
+    outcome: Outcome,
+) -> Outcome
+    requires network { _net.now ≡ network_of story.old.history }
+    requires made { AreMadeIn _net.now produced.made.items }
+    requires only { IsOnly _net.now produced.dataset produced.only }
+{
+    let Produced {
+        dataset,
+        used,
+        made,
+        only,
+        ..
+    } = produced;
+    match all_made(alloc, dataset, made, only) {
+        Ok(made) => {
+            story.keep(&used, &made);
+            outcome
+        }
+        Err(_) => Outcome::Memory,
+    }
 }
 
 // An update that keeps what it made.
@@ -131,8 +167,8 @@ fn updated<R: Threads + Sync, G: Gate + Sync>(
 {
     match produced(rt, alloc, pinned, sink, shape, gate) {
         Ok(produced) => {
-            story.keep(&produced.used, &produced.made);
-            given(alloc, &pinned.net, sink, &produced)
+            let outcome = given(alloc, &pinned.net, sink, &produced);
+            kept(alloc, story, &pinned.net, produced, outcome)
         }
         Err(stop) => stopped(alloc, &pinned.net, sink, stop),
     }

@@ -1,7 +1,9 @@
 pub mod WriterLemmas
+pub mod PassedLemmas
 pub mod ReachedLemmas
 pub mod PlannedLemmas
 pub mod PortLemmas
 pub mod NarrowLemmas
 pub mod KindLemmas
+pub mod FaultLemmas
 pub mod TaskLemmas

@@ -1,5 +1,5 @@
 -- What a task takes, and what it makes.
-use Rattle.std.proofs.Common.{◌≡◌, ℕ, List, Option, Some, Ok, sym, subst}
+use Rattle.std.proofs.Common.{◌≡◌, ℕ, List, Option, Some, Ok, sym, subst, inl, inr, ⊎_elim}
 use Rattle.std.proofs.lemmas.List.Elements.{All-contains}
 use Rattle.viz_extent.specs.Extent.{Bounds}
 use Rattle.viz_given.specs.Given.{AllAreFit, AllAreLeveled}
@@ -39,9 +39,18 @@ use Rattle.viz_plan_meaning.specs.Networks.{ways_above}
 use Rattle.viz_plan_meaning.specs.Plan.{heads}
 use Rattle.viz_plan_truth.proofs.PlanLemmas.{Need}
 use Rattle.viz_plan_truth.proofs.SectionLemmas.{first_divided}
+use Rattle.viz_plan_truth.specs.Faults.{IsFaultyFoot}
 use Rattle.viz_plan_truth.specs.Truth.{IsNarrowFoot, IsNarrowTask}
 use Rattle.viz_requests.specs.Upstream.{Fits, asked, widened}
-use Rattle.viz_task_parts.specs.Tasks.{HasParts, IsTaskAt, IsUpdate, TasksMake, TasksTake}
+use Rattle.viz_task_parts.specs.Tasks.{
+  HasParts,
+  IsTaskAt,
+  IsUpdate,
+  TasksFail,
+  TasksMake,
+  TasksTake,
+}
+use Rattle.viz_task_parts.proofs.FaultLemmas.{kind_fails}
 use Rattle.viz_task_parts.proofs.KindLemmas.{
   HasFile,
   file_given,
@@ -118,18 +127,18 @@ module _ (laws : Laws) (k : Known) (task : Need) (n : Node) (cone : Cone)
               planned.known d;
         }
 
+    asked_answered : AreAnswered ports.inputs
+        (asked n.settings (extent_at_ports ports.inputs) task.1) parts
+    asked_answered =
+        subst
+        (λ (e : Option Bounds). AreAnswered ports.inputs (asked n.settings e task.1) parts)
+        ports.extent ports.answered
+
     module _ (m : IsTaskMade k n cone ports.inputs) where
       made_fits : Fits (k.extent task.0) task.1 → Fits (dataset_extent m.made.whole) task.1
       made_fits fits =
           subst (λ (e : Option Bounds). Fits e task.1) m.extent
           (subst (λ (x : ℕ). Fits (k.extent x) task.1) (sym planned.id) fits)
-
-      asked_answered : AreAnswered ports.inputs
-          (asked n.settings (extent_at_ports ports.inputs) task.1) parts
-      asked_answered =
-          subst
-          (λ (e : Option Bounds). AreAnswered ports.inputs (asked n.settings e task.1) parts)
-          ports.extent ports.answered
 
       made_widened : widened n.settings (dataset_extent m.made.whole) task.1 ≡ task.1
       made_widened =
@@ -175,7 +184,7 @@ module _ (laws : Laws) where
       task.1 parts
       (made_fits laws k task n own planned parts ports m
       (task_fits laws.fit k sink rs task n own u t))
-      (asked_answered laws k task n own planned parts ports m)))
+      (asked_answered laws k task n own planned parts ports)))
 
   -- the part answers the task's request
   part_answers : AllAreLeveled → PartsMadeAnswer → (k : Known) (task : Need) (n : Node)
@@ -192,7 +201,7 @@ module _ (laws : Laws) where
       (first_divided own ports.inputs ports.divided)
       (file_anywhere laws k task n own planned parts ports m))
       task.1 parts part (made_fits laws k task n own planned parts ports m fits)
-      (asked_answered laws k task n own planned parts ports m) makes)
+      (asked_answered laws k task n own planned parts ports) makes)
 
   -- and no number of it is wide
   part_narrow : (k : Known) (task : Need) (n : Node) (own : Cone)
@@ -205,7 +214,7 @@ module _ (laws : Laws) where
       subst (λ (xs : Inputs Divided). IsNarrowTask n.settings (fed_at 1 xs) task.1)
       (ports_one laws.one own ports.inputs inputs ports.divided d)
       (kind_narrow n.settings n.file ports.inputs task.1 parts part
-      (asked_answered laws k task n own planned parts ports m) makes)
+      (asked_answered laws k task n own planned parts ports) makes)
 
   pub tasks_make : AllAreLeveled → PartsMadeAnswer → TasksMake
   tasks_make leveled made k sink rs task n own parts part u t h makes =
@@ -230,3 +239,15 @@ module _ (laws : Laws) where
         narrow = subst (λ (t : Option Tree). IsNarrowFoot t task.1) (sym t.is)
             (part_narrow k task n own planned parts ports m part of_these);
       }
+
+  -- a task that fails has met a fault
+  pub tasks_fail : AllAreFit → PartsAskedAreTaken → TasksFail
+  tasks_fail fit taken k sink rs task n own parts cause u t h has =
+      let planned = task_planned k sink rs task n own u t in
+      let ports = task_ports laws k task n own planned parts h t.is in
+      let takes = subst (λ (e : Option Bounds). TakesParts n.settings e task.1 parts) ports.extent
+      (tasks_take fit taken k sink rs task n own parts u t h) in
+      subst (λ (f : Option Tree). IsFaultyFoot f task.1) (sym t.is)
+      (⊎_elim inl (λ w. inr (ports.inputs, ports.divided, w))
+      (kind_fails n.settings n.file ports.inputs task.1 parts cause
+      (asked_answered laws k task n own planned parts ports) takes has))

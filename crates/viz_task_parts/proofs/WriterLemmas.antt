@@ -104,7 +104,7 @@ module _ (ports : DividedByPorts) where
 
 -- ---- what feeds a port
 
-passed_head : (u v : Ways) (id : ℕ) → head_of (passed u v) ≡ Some id → head_of u ≡ Some id
+pub passed_head : (u v : Ways) (id : ℕ) → head_of (passed u v) ≡ Some id → head_of u ≡ Some id
 passed_head no_way v id e = let bad : ⊥ = cc in absurd bad
 passed_head (no_node c) v id e = let bad : ⊥ = cc in absurd bad
 passed_head (way m own c) v id e = e

@@ -1,11 +1,14 @@
 -- What the tasks of a plan take, and what they make of it (VTK User's Guide, the executive: the
 -- data pass; docs/FORMATS.md, "Exact points").
-use Rattle.std.specs.Prelude.{◌≡◌, ℕ, List, Option, Some}
+use Rattle.std.specs.Prelude.{◌≡◌, ℕ, List, Option, Some, Ok}
 use Rattle.std.specs.List.{All, Contains}
+use Rattle.viz_dataset.specs.declared.dataset.Dataset.{Dataset}
 use Rattle.viz_network.specs.Cone.{Cone, cone_of}
 use Rattle.viz_network.specs.Network.{Network}
+use Rattle.viz_network.specs.declared.fault.Cause.{Cause}
 use Rattle.viz_network.specs.declared.node.Node.{Node}
-use Rattle.viz_node_parts.specs.Made.{MakesPart}
+use Rattle.viz_node_meaning.specs.Scratch.{IsScratch}
+use Rattle.viz_node_parts.specs.Made.{HasCause, MakesPart}
 use Rattle.viz_node_parts.specs.Taken.{TakesParts}
 use Rattle.viz_parts.specs.declared.request.Part.{Part}
 use Rattle.viz_parts.specs.declared.request.Request.{Request}
@@ -16,6 +19,7 @@ use Rattle.viz_plan_meaning.specs.Evaluation.{IsFed}
 use Rattle.viz_plan_meaning.specs.Known.{Known, asked_at, ports_extent}
 use Rattle.viz_plan_meaning.specs.Laws.{IsPlaced, inputs_of, plan_of}
 use Rattle.viz_plan_meaning.specs.Networks.{head_of, ways_to}
+use Rattle.viz_plan_truth.specs.Faults.{IsFaultyFoot}
 use Rattle.viz_plan_truth.specs.Truth.{IsTaskPart}
 
 -- an update of a node by requests that can be made to it, where the nodes are known as told
@@ -53,6 +57,15 @@ TasksMake =
     → MakesPart n.settings n.file (ports_extent k cone) task.1 parts part
     → IsTaskPart k.net task.0 task.1 part
 
+-- where the node has a cause to make none of them, its file isn't read, or a section of what feeds
+-- it by the exact rule has a wide number: the node of the plan then gives no dataset
+abbrev pub TasksFail : Type 0
+TasksFail =
+    (k : Known) (sink : ℕ) (requests : List Request) (task : ℕ × Request) (n : Node) (cone : Cone)
+    (parts : List (Option Part)) (cause : Cause)
+    → IsUpdate k sink requests → IsTaskAt k sink requests task n cone → HasParts k task parts
+    → HasCause n.settings n.file parts cause → IsFaultyFoot (cone_of k.net task.0) task.1
+
 -- parts of the node that requests to another reach are parts of that one: a writer hands on what
 -- feeds it
 abbrev pub PartsArePassed : Type 0
@@ -60,3 +73,11 @@ PartsArePassed =
     (net : Network) (sink reached : ℕ) (request : Request) (part : Part)
     → IsPlaced net sink → HaveOwnPorts net → head_of (ways_to net sink) ≡ Some reached
     → IsExactPart (cone_of net reached) request part → IsExactPart (cone_of net sink) request part
+
+-- what a node gives from scratch the node gives that requests to it reach: a writer gives what feeds
+-- it
+abbrev pub DatasetsArePassed : Type 0
+DatasetsArePassed =
+    (net : Network) (sink reached : ℕ) (whole : Dataset)
+    → IsPlaced net sink → HaveOwnPorts net → IsScratch net sink (Ok whole)
+    → head_of (ways_to net sink) ≡ Some reached → IsScratch net reached (Ok whole)

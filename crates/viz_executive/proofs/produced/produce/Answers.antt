@@ -28,5 +28,5 @@ returns-in-Ok-carried-clause-plan g c =
       told = told;
       are = subst (AreTold c.args.net.now c.args.sink.0) (sym c.as_slice-told.ensures.value) c.in-Ok.ensures.told;
       by = by_plan (known_with c.args.net.now told c.args.entries.now) c.args.sink.0 (requests_of own c.args.shape.now.pieces) c.in_ok-plan.plan.levels.items c.in_ok-plan.ensures.levels c.requires.entries
-          (for_all own c.args.shape.now.pieces done.some) c.in-Ok-carried.carried done c.plans_are_narrow.ensures.made c.in_ok-plan.plan.used.items c.in_ok-plan.ensures.used c.in_ok-plan.ensures.used_stamps;
+          (for_all own c.args.shape.now.pieces done.some) c.in-Ok-carried.carried done c.plans_are_narrow.ensures.made c.plans_are_narrow.ensures.gives c.parts_are_passed.ensures.datasets c.in_ok-plan.plan.used c.in_ok-plan.ensures.used c.in_ok-plan.ensures.used_stamps;
     }

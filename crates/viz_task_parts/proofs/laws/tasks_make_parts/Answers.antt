@@ -1,4 +1,4 @@
-use Rattle.viz_task_parts.proofs.TaskLemmas.{Laws, tasks_make, tasks_take}
+use Rattle.viz_task_parts.proofs.TaskLemmas.{Laws, tasks_fail, tasks_make, tasks_take}
 use Rattle.viz_task_parts.proofs.laws.tasks_make_parts.Goals as goal
 
 pub returns : goal.returns
@@ -16,4 +16,5 @@ returns c =
     record {
       take = tasks_take laws given.fit c.asked_parts_are_taken.ensures.taken;
       made = tasks_make laws given.leveled c.parts_made_answer.ensures.made;
+      fault = tasks_fail laws given.fit c.asked_parts_are_taken.ensures.taken;
     }
