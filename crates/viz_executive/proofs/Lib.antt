@@ -3,6 +3,7 @@ mod FetchLemmas
 mod GroundLemmas
 mod StopLemmas
 mod ListLemmas
+mod OnlyLemmas
 mod PartLemmas
 mod PlanLemmas
 mod ProduceLemmas

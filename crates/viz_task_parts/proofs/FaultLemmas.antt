@@ -36,12 +36,10 @@ wide_made : (forms : List Form) (whole : Dataset) (division : Division) (r : Req
     (input : Part) → IsAnswer whole division (layers_request (dataset_extent whole) r) input
     → TakesEither (dataset_extent whole) r (Some input)
     → (IsNarrowInput forms (Some input) → ⊥) → IsWideMade forms whole division r
-wide_made forms (dataset.Image image) division (Piece p n ghosts) (Image slab) a t h = (
-  t.0,
-  slab,
-  slab_given (shared_as (dataset.Image image) division) p n ghosts image.extent (Image slab) a,
-  h,
-)
+wide_made forms (dataset.Image image) division (Piece p n ghosts) (Image slab) a t h =
+    let given = slab_given (shared_as (dataset.Image image) division) p n ghosts image.extent
+    (Image slab) a in
+    (t.0, (slab, given, h))
 wide_made forms (dataset.Image image) division (Piece p n ghosts) (Mesh parts) a t h = absurd a
 wide_made forms (dataset.Image image) division (Block block) input a t h = absurd t
 wide_made forms (dataset.Mesh sheets) division (Piece p n ghosts) (Mesh parts) a t h =
