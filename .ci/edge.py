@@ -66,7 +66,8 @@ class Place:
 
 def wants(what, found, wanted):
     if found != wanted:
-        shown = [repr(it) if len(repr(it)) < 300 else repr(it)[:300] + ".." for it in (found, wanted)]
+        shown = [repr(it) if len(repr(it)) < 300 else "%s.. (%d in all)" % (repr(it)[:300], len(repr(it)))
+                 for it in (found, wanted)]
         errors.append("%s: %s, and not %s" % (what, *shown))
 
 
