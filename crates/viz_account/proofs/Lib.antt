@@ -1,7 +1,6 @@
 pub mod HistoryLemmas
 pub mod AccountLemmas
 mod MadeLemmas
-mod RanLemmas
 pub mod ScriptLemmas
 mod OnceLemmas
 mod NumberLemmas

@@ -1,11 +1,17 @@
 -- What an update and an audit are answered, and the lines of the report that tell it (docs/FORMATS.md, "Report").
-use Rattle.std.specs.Prelude.{ℕ, Option, None, Some}
+use Rattle.std.specs.Prelude.{◌≡◌, ℕ, List, Option, None, Some, Ok, Err}
+use Rattle.viz_dataset.specs.declared.dataset.Dataset.{Dataset}
+use Rattle.viz_kept.specs.True.{AreMadeIn}
+use Rattle.viz_network.specs.Network.{Network, named}
+use Rattle.viz_network.specs.declared.node.Node.{Node}
+use Rattle.viz_node_meaning.specs.Scratch.{IsScratch}
 use Rattle.viz_account.specs.declared.answer.Missing.{Missing}
 use Rattle.viz_account.specs.declared.answer.Missing.TheVariants as missing
 use Rattle.viz_account.specs.declared.answer.Answer.{Answer}
 use Rattle.viz_account.specs.declared.answer.Answer.TheVariants as answer
 use Rattle.viz_account.specs.declared.answer.AuditAnswer.{AuditAnswer}
 use Rattle.viz_account.specs.declared.answer.AuditAnswer.TheVariants as audit
+use Rattle.viz_account.specs.declared.parts.UpdateParts.{UpdateParts}
 use Rattle.viz_report.specs.declared.line.Line.{Line}
 use Rattle.viz_report.specs.declared.line.Line.TheVariants as line
 use Rattle.viz_report.specs.declared.line.Reason.TheVariants as reason
@@ -33,6 +39,32 @@ at_of (answer.Unknown at) = Some at
 at_of (answer.Network fault name at) = Some at
 at_of (answer.WriteFault at) = Some at
 at_of answer.Memory = None
+
+-- ---- the parts of an update by its plan
+
+-- what is handed out to be kept: parts that are made in the network, where the node that was asked has a dataset
+pub record GivesParts (net : Network) (parts : UpdateParts) : Type 0 where
+  pub dataset : Dataset
+  pub given : IsScratch net parts.sink.0 (Ok dataset)
+  pub made : AreMadeIn net parts.made.items
+
+-- the node of this name is the one with this number
+pub record IsNamed (net : Network) (node : List ℕ) (id : ℕ) : Type 0 where
+  pub found : Node
+  pub there : named net node ≡ Some found
+  pub same : found.id.0 ≡ id
+
+-- an answer beside which nothing is handed out: the node is unknown, or has no dataset, or memory ran out
+abbrev pub HasNoParts : Network → List ℕ → Answer → Type 0
+HasNoParts net node (answer.Unknown at) = Unit {0}
+HasNoParts net node (answer.Network fault name at) = (id : ℕ) × IsNamed net node id × IsScratch net id (Err fault)
+HasNoParts net node answer.Memory = Unit {0}
+HasNoParts net node a = ⊥
+
+-- what is handed out beside an answer
+abbrev pub HandsOut : Network → List ℕ → Answer → Option UpdateParts → Type 0
+HandsOut net node a None = HasNoParts net node a
+HandsOut net node a (Some parts) = IsNamed net node parts.sink.0 × GivesParts net parts
 
 -- ---- audits
 

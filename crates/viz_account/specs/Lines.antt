@@ -18,7 +18,7 @@ use Rattle.viz_account.specs.Audited.{IsAuditOf}
 use Rattle.viz_report.specs.declared.line.Line.{Line}
 use Rattle.viz_report.specs.declared.line.Line.TheVariants as line
 use Rattle.viz_report.specs.declared.line.Reason.TheVariants as reason
-use Rattle.viz_account.specs.Written.{IsWritten}
+use Rattle.viz_account.specs.Written.{IsWritten, HasRan}
 
 -- the network of the first n entries
 abbrev pub network_at : List Entry → ℕ → Network
@@ -55,20 +55,24 @@ TellsLoad limit h passes n node file line.Memory calls = ReadsAtMost file calls
 TellsLoad limit h passes n node file l calls =
     (bytes : List ℕ) × TellsEdit limit h passes n (edits.Load node bytes) l × (calls ≡ Read file (read.Given bytes) ∷ [])
 
--- an update on the network of the first n entries: the file of its node was written; or its node is unknown; or has no file; or the
--- write of its file failed
-abbrev pub TellsUpdate : Network → ℕ → List ℕ → List ℕ → Line → List Call → Type 0
-TellsUpdate net n node file (line.File at cells points ran) calls =
-    (at ≡ n) × ((x : Node) × (text : List ℕ) × (named net node ≡ Some x) × IsWritten net x.id.0 text cells points ran
+-- an update of a network that n entries made, with what is said of a node and the number behind `ran`: the file of its node was written;
+-- or its node is unknown; or has no file; or the write of its file failed
+abbrev pub TellsFile : (ℕ → ℕ → Type 0) → Network → ℕ → List ℕ → List ℕ → Line → List Call → Type 0
+TellsFile Ran net n node file (line.File at cells points ran) calls =
+    (at ≡ n) × ((x : Node) × (text : List ℕ) × (named net node ≡ Some x) × IsWritten net x.id.0 text cells points × Ran x.id.0 ran
     × (calls ≡ Write file text write.Written ∷ []))
-TellsUpdate net n node file (line.Refused reason.Unknown at) calls = (at ≡ n) × (named net node ≡ None) × (calls ≡ [])
-TellsUpdate net n node file (line.Refused (reason.Fault fault name) at) calls =
+TellsFile Ran net n node file (line.Refused reason.Unknown at) calls = (at ≡ n) × (named net node ≡ None) × (calls ≡ [])
+TellsFile Ran net n node file (line.Refused (reason.Fault fault name) at) calls =
     (at ≡ n) × ((x : Node) × (named net node ≡ Some x) × IsFileOf net x.id.0 (Err fault))
     × (name_of net fault.node.0 ≡ Some name) × (calls ≡ [])
-TellsUpdate net n node file line.WriteFault calls =
+TellsFile Ran net n node file line.WriteFault calls =
     (x : Node) × (text : List ℕ) × (named net node ≡ Some x) × IsFileOf net x.id.0 (Ok text) × (calls ≡ Write file text write.Failed ∷ [])
-TellsUpdate net n node file line.Memory calls = calls ≡ []
-TellsUpdate net n node file l calls = ⊥
+TellsFile Ran net n node file line.Memory calls = calls ≡ []
+TellsFile Ran net n node file l calls = ⊥
+
+-- an update in so many pieces, by its plan: the number is that of the plan's tasks
+abbrev pub TellsUpdate : Network → ℕ → List ℕ → List ℕ → ℕ → Line → List Call → Type 0
+TellsUpdate net n node file pieces l calls = TellsFile (HasRan net pieces) net n node file l calls
 
 -- an audit on the network of the first n entries: the counts of its node; or its node is unknown; or has a fault in their place
 abbrev pub TellsAudit : Network → ℕ → List ℕ → Line → Type 0
@@ -85,5 +89,5 @@ TellsAudit net n node l = ⊥
 abbrev pub Tells : ℕ → List Entry → List ℕ → ℕ → Asked → Line → List Call → Type 0
 Tells limit h passes n (edit e) l calls = TellsEdit limit h passes n e l × (calls ≡ [])
 Tells limit h passes n (load node file) l calls = TellsLoad limit h passes n node file l calls
-Tells limit h passes n (update node file pieces workers) l calls = TellsUpdate (network_at h n) n node file l calls
+Tells limit h passes n (update node file pieces workers) l calls = TellsUpdate (network_at h n) n node file pieces l calls
 Tells limit h passes n (audit node pieces workers) l calls = TellsAudit (network_at h n) n node l × (calls ≡ [])

@@ -22,7 +22,7 @@ pub enum Missing {
 /// What an update came to. `at` is the number of entries of the history that made the network.
 #[derive(Clone, Copy, PartialEq, Eq, Debug)]
 pub enum Answer {
-    /// The file was written: its cells and points, and how many nodes ran for it.
+    /// The file was written: its cells and points, and how many tasks ran for it.
     Written {
         at: u32,
         cells: u64,

@@ -1,8 +1,10 @@
 //! The account of a script: a history, a line for each command, and the calls of each actor's port.
 //!
-//! Contract: an update and an audit of a network are answered as their lines in the account say. The
-//! audit of a node counts the sides of the surface that a contour makes of an image, evaluated from
-//! scratch: what it counts is closed up to the boundary of the image's grid. Definitions:
+//! Contract: an update and an audit of a network are answered as their lines in the account say. An
+//! update goes by its plan, writes what evaluation from scratch gives, and hands out parts to be
+//! kept; the same update from scratch makes no plan. The audit of a node counts the sides of the
+//! surface that a contour makes of an image, evaluated from scratch: what it counts is closed up to
+//! the boundary of the image's grid. Definitions:
 //! `specs/Account.antt`, `specs/Lines.antt`, `specs/Audited.antt`, `specs/SurfaceLaws.antt`; the
 //! rules are those of docs/FORMATS.md, "Report".
 #![tactic(auto)]
@@ -12,7 +14,8 @@ mod auditing;
 mod ground;
 mod laws;
 mod made;
-mod running;
+mod parts;
+mod planned;
 mod sums;
 mod surface;
 mod surface_laws;
@@ -23,8 +26,9 @@ pub use auditing::audit;
 pub use laws::{
     accounts_hold_later, audit_lines_are_closed, entries_are_told_once, lines_count_edits,
 };
+pub use parts::UpdateParts;
 pub use surface::audit_of;
 pub use surface_laws::{audits_are_closed, audits_are_one};
-pub use updating::{update, word_text};
+pub use updating::{update, update_from_scratch, word_text};
 pub use viz_report::{Line, Reason};
 pub use viz_surface_law::Counts;

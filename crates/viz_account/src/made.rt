@@ -3,28 +3,46 @@
 ghost use Rattle.std.specs.Prelude.{IsSome, Ok};
 ghost use Rattle.viz_network.specs.Network.{node_of};
 ghost use Rattle.viz_node_meaning.specs.Scratch.{IsScratch};
-ghost use Rattle.viz_scratch.specs.Written.{IsFileOf};
 ghost use Rattle.viz_account.specs.Steps.Made.{IsStop, Makes, MakesNamed};
 
 use crate::answer::Missing;
-use crate::running::ran;
 use std::alloc::Global;
 use viz_base::{Bytes, NodeId, Shared, Word};
 use viz_dataset::Dataset;
 use viz_network::{Net, Stop};
-use viz_scratch::{cell_count, point_count, scratch, style_with, text_of};
+use viz_scratch::{cell_count, point_count, scratch, style_with, text_of, text_with};
 
-/// The text of a node's file, with the numbers that its line tells.
+/// The text of a node's file, with the numbers of what it has.
 #[derive(Debug, Drop)]
 pub struct Made {
     pub text: Bytes,
     pub cells: u64,
     pub points: u64,
-    pub ran: u32,
 }
 
-// The file of a node that gives this dataset. Its counts are taken first, since the dataset is
-// given up while its text is made.
+/// The file of a node that gives this dataset.
+pub fn file_by(alloc: Global, net: &Net, node: NodeId, dataset: &Dataset) -> Result<Made, Stop>
+    requires there { IsSome (node_of net.now node.0) }
+    requires given { IsScratch net.now node.0 (Ok dataset.now) }
+    ensures { Makes net.now node.0 result }
+{
+    let style = style_with(&net.node(node).unwrap().settings);
+    let cells = cell_count(dataset);
+    let points = point_count(dataset);
+    match text_with(alloc, node, &style, dataset) {
+        Ok(text) => match (cells, points) {
+            (Some(cells), Some(points)) => Ok(Made {
+                text,
+                cells,
+                points,
+            }),
+            _ => Err(Stop::Memory),
+        },
+        Err(stop) => Err(stop),
+    }
+}
+
+// The same. Its counts are taken first, since the dataset is given up while its text is made.
 fn file_with(alloc: Global, net: &Net, node: NodeId, dataset: Shared<Dataset>) -> Result<Made, Stop>
     requires there { IsSome (node_of net.now node.0) }
     requires given { IsScratch net.now node.0 (Ok dataset) }
@@ -34,12 +52,11 @@ fn file_with(alloc: Global, net: &Net, node: NodeId, dataset: Shared<Dataset>) -
     let cells = cell_count(dataset.get());
     let points = point_count(dataset.get());
     match text_of(alloc, node, &style, dataset) {
-        Ok(text) => match (cells, points, ran(alloc, net, node)) {
-            (Some(cells), Some(points), Ok(ran)) => Ok(Made {
+        Ok(text) => match (cells, points) {
+            (Some(cells), Some(points)) => Ok(Made {
                 text,
                 cells,
                 points,
-                ran,
             }),
             _ => Err(Stop::Memory),
         },
@@ -47,7 +64,7 @@ fn file_with(alloc: Global, net: &Net, node: NodeId, dataset: Shared<Dataset>) -
     }
 }
 
-// The file of a node that is there.
+// The file of a node that is there, evaluated from scratch.
 fn file_of(alloc: Global, net: &Net, node: NodeId) -> Result<Made, Stop>
     requires there { IsSome (node_of net.now node.0) }
     ensures { Makes net.now node.0 result }
@@ -81,7 +98,7 @@ pub fn missing_of(net: &Net, stop: Stop) -> Missing
     }
 }
 
-/// The file of the node of this name, or why there is none.
+/// The file of the node of this name, evaluated from scratch, or why there is none.
 pub fn made_of(alloc: Global, net: &Net, node: &Word) -> Result<Made, Missing>
     ensures { MakesNamed net.now node.now result }
 {

@@ -1,0 +1,83 @@
+//! What an update of a node by its plan makes: the text of its file, and parts to be kept.
+
+ghost use Rattle.std.specs.Prelude.{IsSome, Ok};
+ghost use Rattle.viz_executive.specs.Produced.{IsByPlan};
+ghost use Rattle.viz_kept.specs.True.{AreTrueIn};
+ghost use Rattle.viz_network.specs.Network.{node_of};
+ghost use Rattle.viz_node_meaning.specs.Scratch.{IsScratch};
+ghost use Rattle.viz_plan_law.specs.Ports.{HaveOwnPorts};
+ghost use Rattle.viz_account.specs.Steps.Made.{IsPlanned};
+
+use crate::made::{Made, file_by};
+use crate::parts::{UpdateParts, parts_of};
+use std::alloc::Global;
+use std::thread::Threads;
+use viz_base::{Gate, NodeId, Shape};
+use viz_executive::{Produced, produce};
+use viz_network::{Net, Stop};
+use viz_parts::Stored;
+
+/// The text of a node's file with its numbers, or why there is none; how many tasks ran for it; and
+/// the parts to be kept, where the node has a dataset.
+#[derive(Drop)]
+pub struct Planned {
+    pub file: Result<Made, Stop>,
+    pub ran: u64,
+    pub parts: Option<UpdateParts>,
+}
+
+// What an update made that gave this.
+fn planned_by(
+    alloc: Global,
+    net: &Net,
+    _entries: &[Stored],
+    sink: NodeId,
+    _shape: &Shape,
+    produced: Produced,
+) -> Planned
+    requires there { IsSome (node_of net.now sink.0) }
+    requires entries { AreTrueIn net.now _entries.now }
+    requires given { IsScratch net.now sink.0 (Ok produced.dataset) }
+    requires plan { IsByPlan net.now _entries.now sink.0 _shape.now.pieces produced }
+    ensures { IsPlanned net.now _shape.now.pieces sink.0 result }
+{
+    let Produced {
+        dataset,
+        used,
+        made,
+        only,
+        ran,
+    } = produced;
+    let file = file_by(alloc, net, sink, &dataset);
+    let parts = parts_of(alloc, net, sink, dataset, used, made, only);
+    Planned {
+        file,
+        ran,
+        parts: Some(parts),
+    }
+}
+
+/// An update of a node that is there, by its plan.
+pub fn make_by_plan<R: Threads + Sync, G: Gate + Sync>(
+    rt: &R,
+    alloc: Global,
+    net: &Net,
+    entries: &[Stored],
+    sink: NodeId,
+    shape: &Shape,
+    gate: &G,
+) -> Planned
+    requires there { IsSome (node_of net.now sink.0) }
+    requires ports { HaveOwnPorts net.now }
+    requires entries { AreTrueIn net.now entries.now }
+    ensures { IsPlanned net.now shape.now.pieces sink.0 result }
+{
+    match produce(rt, alloc, net, entries, sink, shape, gate) {
+        Ok(produced) => planned_by(alloc, net, entries, sink, shape, produced),
+        Err(stop) => Planned {
+            file: Err(stop),
+            ran: 0,
+            parts: None,
+        },
+    }
+}
