@@ -7,7 +7,9 @@ use Rattle.std.proofs.lemmas.Bool.{false_from_ne_true}
 use Rattle.viz_base.specs.declared.port.Port as port
 use Rattle.viz_turn.specs.Tales.{has, once, clear}
 use Rattle.viz_turn.specs.Known.{Identity}
-use Rattle.viz_hub.specs.Passes.{PassKnown, numbers, at_seen, elder, younger, IsFresh}
+use Rattle.viz_turn.specs.Known as turn
+use Rattle.viz_hub.specs.Passes.{PassKnown, numbers, as_known, with_sent, elder, younger, IsFresh}
+use Rattle.viz_hub.specs.declared.sent.Sent.{Sent}
 use Rattle.viz_turn.proofs.ListLemmas.{has_head, has_tail, has_cons, once_cons}
 use Rattle.viz_entries.specs.declared.entry.Entry.{Entry}
 use Rattle.viz_entries.specs.History.{by_of}
@@ -95,7 +97,9 @@ module _ {P : Type 0} where
 pub record OneDid {P : Type 0} (m : port.Ghosts P) (limit : ℕ) (steps : List Step) (hub : Identity) (before : List Entry) (k actor : ℕ)
     (lines : List Line) (s n : Place P) : Type 0 where
   pub seen : List Entry
-  pub pass : n.pass ≡ Some (record { turn = hub; number = k; ended = []; born = []; seen = seen; sent = 0; last = None })
+  pub sent : ℕ
+  pub last : Option Sent
+  pub pass : n.pass ≡ Some (record { turn = hub; number = k; ended = []; born = []; seen = seen; sent = sent; last = last })
   pub fresh : clear by_of (k ∷ []) before ≡ true
   pub added : n.lines.items ≡ s.lines.items ++ lines
   pub served : ServesAll m limit k (commands_of actor steps) lines before seen s.port n.port
@@ -110,16 +114,16 @@ module _ {P : Type 0} (m : port.Ghosts P) (limit : ℕ) (steps : List Step) wher
   Did hub before actor ks lines ss ns = ⊥
 
   served_by : (p : PassKnown) (s n : Place P) (o : Option PassKnown) → n.pass ≡ o → PassServed m limit steps (Some p) o s n
-      → (seen : List Entry) × (n.pass ≡ Some (at_seen p seen)) × AddsLines m limit p.number (commands_of s.actor steps) s.lines.items n.lines.items p.seen seen s.port n.port
+      → (seen : List Entry) × (sent : ℕ) × (last : Option Sent) × (n.pass ≡ Some (with_sent sent last (turn.at_seen (as_known p) seen))) × AddsLines m limit p.number (commands_of s.actor steps) s.lines.items n.lines.items p.seen seen s.port n.port
   served_by p s n None e h = absurd h
-  served_by p s n (Some q) e h = (q.seen, e ∙ ap Some h.0, h.1)
+  served_by p s n (Some q) e h = (q.seen, q.sent, q.last, e ∙ ap Some h.0, h.1)
 
   one_did : (root : PassKnown) (actor k : ℕ) (s n : Place P) → IsFresh k root → PlaceServed m limit steps (with_pass s actor (younger k root)) n
       → (lines : List Line) × OneDid m limit steps root.turn root.seen k actor lines s n
   one_did root actor k s n fresh h =
       let o = served_by (younger k root) (with_pass s actor (younger k root)) n n.pass refl h.served in (
-        o.2.lines,
-        record { seen = o.0; pass = o.1; fresh = fresh.entries; added = o.2.added; served = o.2.served; capacity = h.capacity; told = h.told; actor_is = h.actor },
+        o.4.lines,
+        record { seen = o.0; sent = o.1; last = o.2; pass = o.3; fresh = fresh.entries; added = o.4.added; served = o.4.served; capacity = h.capacity; told = h.told; actor_is = h.actor },
       )
 
   pub did : (actor : ℕ) (root : PassKnown) (old mid new : List (Place P)) (r : PassKnown) (h : Splits actor root old mid r) → EachServed m limit steps mid new → length new ≡ length mid

@@ -1,15 +1,19 @@
 -- Lines of commands, between the entries that a pass had seen and has seen then.
-use Rattle.std.proofs.Common.{◌≡◌, ℕ, suc, ◌+◌, ◌≤◌, ⊎_elim, Bool, IsTrue, eq-eqb, true, false, true≢false, not, cond, List, [], ◌∷◌, ◌++◌, length, length-append, take, drop, slice_get, append_assoc, append-nil, Err, refl, sym, ap, subst, ◌∙◌, arith, ◌==◌}
+use Rattle.std.proofs.Common.{◌≡◌, ℕ, suc, ◌+◌, ◌%◌, ◌^◌, ◌≤◌, Option, None, Some, ⊎_elim, Bool, IsTrue, eq-eqb, true, false, true≢false, not, cond, List, [], ◌∷◌, ◌++◌, length, length-append, take, drop, slice_get, append_assoc, append-nil, Err, refl, sym, ap, subst, ◌∙◌, arith, ◌==◌}
 use Rattle.std.proofs.lemmas.Bool.{and_parts, not-true, ne_eqb}
-use Rattle.std.proofs.lemmas.List.{take-append-drop}
+use Rattle.std.proofs.lemmas.List.{take-append-drop, take-append-le}
+use Rattle.viz_base.specs.declared.node.Shape.{Shape}
 use Rattle.viz_base.specs.declared.call.Call.{Call}
 use Rattle.viz_base.specs.declared.call.Call.TheVariants.{Read}
 use Rattle.viz_base.specs.declared.call.ReadAnswer.TheVariants as read
 use Rattle.viz_base.specs.declared.port.Port as port
 use Rattle.viz_turn.specs.Tales.{has, clear, GoesOn}
-use Rattle.viz_hub.specs.Passes.{PassKnown, numbers, GoesFurther}
+use Rattle.viz_turn.specs.Known as turn
+use Rattle.viz_hub.specs.Passes.{PassKnown, numbers, as_known, at_seen, with_sent, GoesFurther, Looks}
+use Rattle.viz_hub.specs.Publishing.{publication}
+use Rattle.viz_hub.specs.declared.sent.Sent.{Sent}
 use Rattle.viz_turn.proofs.ListLemmas.{has_head, has_cons}
-use Rattle.viz_turn.proofs.TaleLemmas.{clear_sub}
+use Rattle.viz_turn.proofs.TaleLemmas.{clear_sub, all_of_it}
 use Rattle.viz_network.specs.declared.edit.Edit.{Edit}
 use Rattle.viz_network.specs.Network.{Network}
 use Rattle.viz_network.specs.Edits.{apply}
@@ -23,12 +27,17 @@ use Rattle.viz_script.specs.Orders.{Asked, seen, load, update, audit}
 use Rattle.viz_report.specs.declared.line.Line.{Line}
 use Rattle.viz_report.specs.declared.line.Line.TheVariants as line
 use Rattle.viz_report.specs.declared.line.Reason.TheVariants as reason
+use Rattle.viz_account.specs.Answers.{line_of}
 use Rattle.viz_account.specs.Lines.{TellsUpdate, TellsAudit, Tells}
 use Rattle.viz_account.specs.Account.{edited, least, places_from, places, AreTold, faults_told, RoseBy}
-use Rattle.viz_account.specs.Served.{Extends, Updates, Serves, ServesAll}
+use Rattle.viz_account.specs.Served.{Extends, Serves, ServesAll}
+use Rattle.viz_account.specs.declared.answer.Answer.{Answer}
+use Rattle.viz_account.specs.declared.answer.Answer.TheVariants as answers
+use Rattle.viz_account.specs.declared.parts.UpdateParts.{UpdateParts}
 use Rattle.viz_account.proofs.AccountLemmas.{rose_none, served_none, served_one, served_append}
 use Rattle.viz_account.proofs.HistoryLemmas.{take-all, slice_get-end, places_append_from, places_grow}
 use Rattle.viz_actor.specs.Serving.{commands_of, edit_line, AddsLines, Edits}
+use Rattle.viz_actor.specs.Updating.{IsSamePass, IsUpdate, Publishes}
 
 -- ---- what others add
 
@@ -121,14 +130,14 @@ edits_told p e new answer.Memory h =
 -- ---- updates and audits
 
 -- their lines tell of no entry
-quiet_update : (net : Network) (n : ℕ) (node file : List ℕ) (l : Line) (calls : List Call) → TellsUpdate net n node file l calls → (edited l ≡ []) × ((k : ℕ) → least k l ≡ k)
-quiet_update net n node file (line.File at cells points ran) calls t = (refl, (λ k. refl))
-quiet_update net n node file (line.Refused r at) calls t = (refl, (λ k. refl))
-quiet_update net n node file line.WriteFault calls t = (refl, (λ k. refl))
-quiet_update net n node file line.Memory calls t = (refl, (λ k. refl))
-quiet_update net n node file (line.Edit at) calls t = absurd t
-quiet_update net n node file (line.Audit at sides two lone border) calls t = absurd t
-quiet_update net n node file line.ReadFault calls t = absurd t
+quiet_update : (net : Network) (n : ℕ) (node file : List ℕ) (pieces : ℕ) (l : Line) (calls : List Call) → TellsUpdate net n node file pieces l calls → (edited l ≡ []) × ((k : ℕ) → least k l ≡ k)
+quiet_update net n node file pieces (line.File at cells points ran) calls t = (refl, (λ k. refl))
+quiet_update net n node file pieces (line.Refused r at) calls t = (refl, (λ k. refl))
+quiet_update net n node file pieces line.WriteFault calls t = (refl, (λ k. refl))
+quiet_update net n node file pieces line.Memory calls t = (refl, (λ k. refl))
+quiet_update net n node file pieces (line.Edit at) calls t = absurd t
+quiet_update net n node file pieces (line.Audit at sides two lone border) calls t = absurd t
+quiet_update net n node file pieces line.ReadFault calls t = absurd t
 
 quiet_audit : (net : Network) (n : ℕ) (node : List ℕ) (l : Line) → TellsAudit net n node l → (edited l ≡ []) × ((k : ℕ) → least k l ≡ k) × (faults_told (l ∷ []) ≡ 0)
 quiet_audit net n node (line.Audit at sides two lone border) t = (refl, (λ k. refl), refl)
@@ -140,27 +149,7 @@ quiet_audit net n node line.ReadFault t = absurd t
 quiet_audit net n node line.WriteFault t = absurd t
 
 module _ {P : Type 0} (m : port.Ghosts P) (p : PassKnown) (h : List Entry) (on : GoesFurther p h) where
-  -- an update of the network of what the pass has seen then
-  pub serves_update : (node file : List ℕ) (pieces workers : ℕ) (l : Line) (before after : P) → Updates m (network_of h) (length h) node file l before after
-      → Serves m p.turn.mark p.number (update node file pieces workers) l p.seen h before after
-  serves_update node file pieces workers l before after u =
-      let still = quiet_update (network_of h) (length h) node file l u.gained.0 u.gained.2 in
-      let t = looked p h on in
-      record {
-        further = t.0;
-        own = t.1 ∙ ap (λ e. places (p.number ∷ []) p.seen ++ e) (sym still.0);
-        gained = (
-          length h,
-          u.gained.0,
-          u.gained.1,
-          subst (λ g. TellsUpdate g (length h) node file l u.gained.0) (sym (whole_network h)) u.gained.2,
-          omega (arith, still.1 (length p.seen), t.2),
-          omega arith,
-        );
-        faults = u.faults;
-      }
-
-  -- an audit of it, without a call
+  -- an audit of the network of what the pass has seen then, without a call
   pub serves_audit : (node : List ℕ) (pieces workers : ℕ) (l : Line) (q : P) → TellsAudit (network_of h) (length h) node l
       → Serves m p.turn.mark p.number (audit node pieces workers) l p.seen h q q
   serves_audit node pieces workers l q told =
@@ -192,6 +181,81 @@ module _ {P : Type 0} (m : port.Ghosts P) (p : PassKnown) (h : List Entry) (on :
         gained = (at, Read file (read.TooLong taken) ∷ [], calls, (refl, (taken, refl)), omega (arith, is, t.2), omega (arith, is));
         faults = faults;
       }
+
+-- ---- updates
+
+-- the same pass, whatever it published
+pub same_but : (old new : PassKnown) (sent : ℕ) (last : Option Sent) → new ≡ with_sent sent last (turn.at_seen (as_known old) new.seen)
+    → IsSamePass old new
+same_but old new sent last e =
+    let known = turn.at_seen (as_known old) new.seen in
+    e ∙ ap (λ s. with_sent s last known) (sym (ap (λ (q : PassKnown). q.sent) e))
+    ∙ ap (λ l. with_sent new.sent l known) (sym (ap (λ (q : PassKnown). q.last) e))
+
+-- so where it published nothing
+pub same_seen : (old new : PassKnown) → new ≡ at_seen old new.seen → IsSamePass old new
+same_seen old new e = same_but old new old.sent old.last e
+
+pub same_still : (p q r : PassKnown) → IsSamePass p q → IsSamePass q r → IsSamePass p r
+same_still p q r first then = then ∙ ap (λ (k : PassKnown). with_sent r.sent r.last (turn.at_seen (as_known k) r.seen)) first
+
+-- a pass that was pinned, and published what was handed out
+module _ (old new : PassKnown) (pinned : List Entry) (shape : Shape) where
+  pub handed_same : (o : Option UpdateParts) → Publishes pinned shape o (at_seen old pinned) new → IsSamePass old new
+  handed_same None h =
+      same_but old new old.sent old.last (h ∙ ap (λ l. at_seen old l) (sym (ap (λ (q : PassKnown). q.seen) h)))
+  handed_same (Some parts) h = same_but old new ((old.sent + 1) % 2 ^ 64) (Some (publication pinned parts.sink shape)) h.same
+
+  pub handed_further : (o : Option UpdateParts) → Publishes pinned shape o (at_seen old pinned) new → GoesOn by_of (numbers old) pinned new.seen
+  handed_further None h =
+      subst (λ (l : List Entry). GoesOn by_of (numbers old) pinned l) (sym (ap (λ (q : PassKnown). q.seen) h)) (all_of_it by_of (numbers old) pinned)
+  handed_further (Some parts) h = h.further
+
+-- an update for which memory was wanting before the pass was pinned
+pub update_nothing : {P : Type 0} (m : port.Ghosts P) (node file : List ℕ) (shape : Shape) (old new : PassKnown) (q : P) → Looks old new
+    → IsUpdate m node file shape answers.Memory old new q q
+update_nothing m node file shape old new q looks =
+    record {
+      pinned = new.seen;
+      parts = None;
+      further = looks.further;
+      at = tt;
+      updates = record { gained = ([], (λ tells. sym (append-nil (m.calls q))), refl); faults = rose_none (m.faults q) };
+      hands = tt;
+      publishes = looks.same;
+    }
+
+-- the network of the entries in front of others
+network_front : (pinned rest h : List Entry) → h ≡ pinned ++ rest → network_of (take (length pinned) h) ≡ network_of pinned
+network_front pinned rest h is =
+    ap (λ (t : List Entry). network_of (take (length pinned) t)) is
+    ∙ ap network_of (take-append-le (length pinned) pinned rest (omega arith)) ∙ whole_network pinned
+
+-- an update of the network of what the pass was pinned with
+pub serves_update : {P : Type 0} (m : port.Ghosts P) (p new : PassKnown) (node file : List ℕ) (shape : Shape) (a : Answer) (before after : P)
+    → GoesFurther p new.seen → IsUpdate m node file shape a p new before after
+    → Serves m p.turn.mark p.number (update node file shape.pieces shape.workers) (line_of a) p.seen new.seen before after
+serves_update m p new node file shape a before after on u =
+    let n = length u.pinned in
+    let l = line_of a in
+    let calls = u.updates.gained.0 in
+    let still = quiet_update (network_of u.pinned) n node file shape.pieces l calls u.updates.gained.2 in
+    let t = looked p new.seen on in
+    let up = looked p u.pinned u.further in
+    let behind = handed_further p new u.pinned shape u.parts u.publishes in
+    record {
+      further = t.0;
+      own = t.1 ∙ ap (λ e. places (p.number ∷ []) p.seen ++ e) (sym still.0);
+      gained = (
+        n,
+        calls,
+        u.updates.gained.1,
+        subst (λ g. TellsUpdate g n node file shape.pieces l calls) (sym (network_front u.pinned behind.0 new.seen behind.1)) u.updates.gained.2,
+        omega (arith, still.1 (length p.seen), up.2),
+        omega (arith, ap length behind.1, length-append u.pinned behind.0),
+      );
+      faults = u.updates.faults;
+    }
 
 -- a command for which memory was wanting before anything was done
 pub serves_nothing : {P : Type 0} (m : port.Ghosts P) (limit pass : ℕ) (o : Asked) (h : List Entry) (q : P)

@@ -1,5 +1,6 @@
 pub mod Served
 pub mod Serving
+pub mod Updating
 pub mod Groups
 pub mod Places
 pub mod Runs

@@ -3,7 +3,7 @@ use Rattle.std.specs.Prelude.{◌≡◌, ℕ, zero, suc, ◌+◌, ◌<◌, ◌�
 use Rattle.viz_base.specs.declared.port.Port as port
 use Rattle.viz_turn.specs.Tales.{has, once, clear, GoesOn}
 use Rattle.viz_turn.specs.Known.{Identity}
-use Rattle.viz_hub.specs.Passes.{PassKnown, numbers, at_seen, elder, younger, one, IsWhole, GoesFurther, IsFresh}
+use Rattle.viz_hub.specs.Passes.{PassKnown, numbers, elder, younger, one, IsWhole, GoesFurther, IsFresh}
 use Rattle.viz_entries.specs.declared.entry.Entry.{Entry}
 use Rattle.viz_entries.specs.History.{by_of}
 use Rattle.viz_script.specs.declared.order.Step.{Step}
@@ -12,6 +12,7 @@ use Rattle.viz_report.specs.declared.line.Row.{Row}
 use Rattle.viz_report.specs.Report.{rows_from, phase_rows}
 use Rattle.viz_account.specs.Served.{ServesAll}
 use Rattle.viz_actor.specs.Serving.{commands_of, AddsLines}
+use Rattle.viz_actor.specs.Updating.{IsSamePass}
 use Rattle.viz_actor.specs.declared.places.Place.{Place}
 
 -- ---- room
@@ -52,10 +53,10 @@ pub record IsReady {P : Type 0} (hub : Identity) (steps : List Step) (s : Place 
   pub room : length s.lines.items + length (commands_of s.actor steps) ≤ vec_capacity s.lines
 
 module _ {P : Type 0} (m : port.Ghosts P) (limit : ℕ) (steps : List Step) where
-  -- the pass has seen more, and the commands were served in between
+  -- the pass has seen more, and may have published, and the commands were served in between
   abbrev pub PassServed : Option PassKnown → Option PassKnown → Place P → Place P → Type 0
   PassServed (Some p) (Some q) s t =
-      (q ≡ at_seen p q.seen) × AddsLines m limit p.number (commands_of s.actor steps)
+      IsSamePass p q × AddsLines m limit p.number (commands_of s.actor steps)
       s.lines.items t.lines.items p.seen q.seen s.port t.port
   PassServed (Some p) None s t = ⊥
   PassServed None q s t = Unit {0}

@@ -5,12 +5,12 @@ ghost use Rattle.std.specs.Prelude.{◌≡◌};
 use viz_base::Gate;
 use viz_history::Pinned;
 
-/// The number of the one task of an update or an audit.
+/// The number of the one task of an audit.
 const TASK: u64 = 0;
 
 /// A pinned network whose gate was entered. No clause speaks of the gate, so the type does: an
-/// update and an audit evaluate what is admitted, and `enter` alone admits. A body that evaluates
-/// first and enters afterwards has nothing to evaluate.
+/// audit evaluates what is admitted, and `enter` alone admits. A body that evaluates first and
+/// enters afterwards has nothing to evaluate.
 #[derive(Clone, Copy)]
 pub struct Admitted<'a> {
     pinned: &'a Pinned,

@@ -6,6 +6,7 @@ ghost use Rattle.viz_network.specs.declared.edit.Edit.TheVariants as edits;
 ghost use Rattle.viz_script.specs.Orders.{seen};
 ghost use Rattle.viz_account.specs.Served.{Serves};
 ghost use Rattle.viz_actor.specs.Serving.{commands_of, edit_line, AddsLines, Edits};
+ghost use Rattle.viz_actor.specs.Updating.{IsSamePass};
 
 use crate::updating::{audit_node, update};
 use std::alloc::{AllocError, Global};
@@ -154,7 +155,7 @@ fn write<R: Threads + Wait + Sync, P: Port, G: Gate + Sync>(
     shape: &Shape,
 ) -> (Pass, Line)
     requires belongs { pass.turn ≡ hub.now }
-    ensures same { result.0 ≡ at_seen pass result.0.seen }
+    ensures same { IsSamePass pass result.0 }
     ensures serves { Serves P.Port hub.now.mark pass.number
         (Rattle.viz_script.specs.Orders.update node.now file.now shape.now.pieces
         shape.now.workers) result.1 pass.seen result.0.seen port.old port.new }
@@ -200,7 +201,7 @@ fn serve<R: Threads + Wait + Sync, P: Port, G: Gate + Sync>(
     order: &Order,
 ) -> (Pass, Line)
     requires belongs { pass.turn ≡ hub.now }
-    ensures same { result.0 ≡ at_seen pass result.0.seen }
+    ensures same { IsSamePass pass result.0 }
     ensures serves { Serves P.Port hub.now.mark pass.number (seen order.now) result.1
         pass.seen result.0.seen port.old port.new }
 {
@@ -236,7 +237,7 @@ fn serve_step<R: Threads + Wait + Sync, P: Port, G: Gate + Sync>(
     requires belongs { pass.turn ≡ hub.now }
     requires room { length lines.old.items + length (commands_of actor (step.now ∷ []))
         ≤ vec_capacity lines.old }
-    ensures same { result ≡ at_seen pass result.seen }
+    ensures same { IsSamePass pass result }
     ensures adds { AddsLines P.Port hub.now.mark pass.number (commands_of actor (step.now ∷ []))
         lines.old.items lines.new.items pass.seen result.seen port.old port.new }
     ensures capacity { vec_capacity lines.new ≡ vec_capacity lines.old }
@@ -266,7 +267,7 @@ pub fn serve_steps<R: Threads + Wait + Sync, P: Port, G: Gate + Sync>(
     requires belongs { pass.turn ≡ hub.now }
     requires room { length lines.old.items + length (commands_of actor steps.now)
         ≤ vec_capacity lines.old }
-    ensures same { result ≡ at_seen pass result.seen }
+    ensures same { IsSamePass pass result }
     ensures adds { AddsLines P.Port hub.now.mark pass.number (commands_of actor steps.now)
         lines.old.items lines.new.items pass.seen result.seen port.old port.new }
     ensures capacity { vec_capacity lines.new ≡ vec_capacity lines.old }

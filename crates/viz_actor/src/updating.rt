@@ -3,33 +3,69 @@
 ghost use Rattle.std.specs.Prelude.{◌≡◌, IfSome, length};
 ghost use Rattle.viz_hub.specs.Passes.{at_seen, GoesFurther};
 ghost use Rattle.viz_entries.specs.History.{network_of};
-ghost use Rattle.viz_account.specs.Answers.{line_of, at_of, audit_line_of, audit_at_of};
+ghost use Rattle.viz_kept.specs.True.{AreMadeIn, AreTrueIn};
+ghost use Rattle.viz_plan_law.specs.Ports.{HaveOwnPorts};
+ghost use Rattle.viz_account.specs.Answers.{line_of, at_of, audit_line_of, audit_at_of, HandsOut};
 ghost use Rattle.viz_account.specs.Laws.{IsClosedLine};
 ghost use Rattle.viz_account.specs.Lines.{TellsAudit};
 ghost use Rattle.viz_account.specs.Served.{Updates};
+ghost use Rattle.viz_actor.specs.Updating.{IsSamePass, IsUpdate, Publishes};
 
 use crate::admitted::Admitted;
 use std::alloc::Global;
 use std::sync::Wait;
 use std::thread::Threads;
-use viz_account::{Answer, AuditAnswer};
+use viz_account::{Answer, AuditAnswer, UpdateParts};
 use viz_base::{Gate, Port, Shape, Word};
-use viz_hub::{Hub, Pass};
+use viz_history::Pinned;
+use viz_hub::{Hub, Pass, Pin};
+use viz_plan_law::plans_fit;
 
-// Writes the file of a node of an admitted network.
-fn update_pinned<P: Port>(
+// Writes the file of a node of a pinned network, with what is kept.
+fn update_pinned<R: Threads + Sync, P: Port, G: Gate + Sync>(
+    rt: &R,
     alloc: Global,
-    admitted: &Admitted<'_>,
-    port: &mut P,
+    pinned: &Pinned,
     sink: &Word,
     file: &str,
-) -> Answer
-    ensures updates { Updates P.Port admitted.now.pinned.now.net admitted.now.pinned.now.at
-        sink.now file.now (line_of result) port.old port.new }
-    ensures at { IfSome (at_of result) (λ n. n ≡ admitted.now.pinned.now.at) }
+    shape: &Shape,
+    port: &mut P,
+    gate: &G,
+) -> (Answer, Option<UpdateParts>)
+    requires ports { HaveOwnPorts pinned.now.net }
+    requires entries { AreTrueIn pinned.now.net pinned.now.entries }
+    ensures updates { Updates P.Port pinned.now.net pinned.now.at sink.now file.now
+        shape.now.pieces (line_of result.0) port.old port.new }
+    ensures at { IfSome (at_of result.0) (λ n. n ≡ pinned.now.at) }
+    ensures parts { HandsOut pinned.now.net sink.now result.0 result.1 }
 {
-    let pinned = admitted.pinned();
-    viz_account::update(alloc, &pinned.net, pinned.at, port, sink, file)
+    viz_account::update(
+        rt,
+        alloc,
+        &pinned.net,
+        pinned.entries.list(),
+        pinned.at,
+        shape,
+        port,
+        sink,
+        file,
+        gate,
+    )
+}
+
+// Publishes what an update of a pinned network handed out, and gives the pass back.
+fn hand_in<R: Wait>(rt: &R, hub: &Hub, pin: Pin, shape: &Shape, parts: Option<UpdateParts>) -> Pass
+    requires belongs { pin.pass.turn ≡ hub.now }
+    requires made { IfSome parts (λ p. AreMadeIn (network_of pin.pass.seen) p.made.items) }
+    ensures { Publishes pin.pass.seen shape.now parts pin.pass result }
+{
+    match parts {
+        Some(parts) => {
+            let (pass, _) = hub.publish(rt, pin, parts.sink, shape, &parts.used, &parts.made);
+            pass
+        }
+        None => hub.release(pin),
+    }
 }
 
 // Counts the sides of the surface of a node of an admitted network.
@@ -45,10 +81,11 @@ fn audit_pinned(alloc: Global, admitted: &Admitted<'_>, node: &Word) -> AuditAns
 
 /// Writes the file of a node with one call of the port, as the network of the history up to now
 /// gives it: of all that the pass had seen, and of what others have added since. The network is
-/// evaluated outside of any turn, behind the gate, which is entered once, with task 0.
+/// updated outside of any turn, by its plan and with what is kept; each task enters the gate. What
+/// the tasks made is published, exactly where the node has a dataset.
 ///
 /// `at` of the answer is the number of entries of that history, all of which the pass then has
-/// seen. The shape doesn't change the file.
+/// seen, and maybe more. The shape doesn't change the file.
 pub fn update<R: Threads + Wait + Sync, P: Port, G: Gate + Sync>(
     rt: &R,
     alloc: Global,
@@ -56,28 +93,27 @@ pub fn update<R: Threads + Wait + Sync, P: Port, G: Gate + Sync>(
     pass: Pass,
     sink: &Word,
     file: &str,
-    _shape: &Shape,
+    shape: &Shape,
     port: &mut P,
     gate: &G,
 ) -> (Pass, Answer)
     requires belongs { pass.turn ≡ hub.now }
-    ensures same { result.0 ≡ at_seen pass result.0.seen }
+    ensures same { IsSamePass pass result.0 }
     ensures further { GoesFurther pass result.0.seen }
-    ensures at { IfSome (at_of result.1) (λ n. n ≡ length result.0.seen) }
-    ensures updates { Updates P.Port (network_of result.0.seen) (length result.0.seen) sink.now
-        file.now (line_of result.1) port.old port.new }
+    ensures updates { IsUpdate P.Port sink.now file.now shape.now result.1 pass result.0
+        port.old port.new }
 {
+    plans_fit();
     let pin = match hub.pin(rt, alloc, pass) {
         Ok(pin) => pin,
         Err(pass) => return (pass, Answer::Memory),
     };
-    let admitted = Admitted::enter(gate, pin.pinned());
-    let answer = update_pinned(alloc, &admitted, port, sink, file);
-    (hub.release(pin), answer)
+    let (answer, parts) = update_pinned(rt, alloc, pin.pinned(), sink, file, shape, port, gate);
+    (hand_in(rt, hub, pin, shape, parts), answer)
 }
 
 /// Counts the sides of the surface of a node in the network of the history up to now, as `update`
-/// has it. A node that is no contour on an image is refused as WrongInput(1), behind the faults of
+/// has it, evaluated from scratch behind the gate, which is entered once, with task 0. A node that is no contour on an image is refused as WrongInput(1), behind the faults of
 /// its evaluation.
 pub fn audit_node<R: Threads + Wait + Sync, G: Gate + Sync>(
     rt: &R,

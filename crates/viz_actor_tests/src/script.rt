@@ -52,20 +52,21 @@ fn serve<R: Threads + Wait + Sync>(
 
 #[test]
 fn a_second_phase_begins_behind_the_first(rt: HostRuntime) -> Result<(), Fail> {
-    // second-phase-update; the second actor's read fails, and only its own line tells it
+    // second-phase-update; the second actor's read fails, and only its own line tells it. Nothing is
+    // kept, so that each update runs its task, whoever comes first
     let alloc = rt.alloc();
     let mut ports = Vec::new(alloc);
     ports.push(port(alloc, None)?)?;
     ports.push(port(alloc, Some(FailAt { call: 1, kept: 0 }))?)?;
     ports.push(port(alloc, None)?)?;
-    let script = "1 add file src\n1 load src a.vtk\n2 load src a.vtk\nphase\n\
+    let script = "1 add file src\n1 load src a.vtk\n1 set src release 1\n2 load src a.vtk\nphase\n\
         2 update src o.vtk 1 1\n1 update src o.vtk 1 1\n";
     let served = serve(&rt, alloc, script, &mut ports)?;
     let told = report_text(alloc, &served.rows)?;
-    let want = "edit 1 1 at 1\nedit 1 2 at 2\nfault 2 1 read\n\
-        file 1 3 at 2 cells 1 points 8 ran 1\nfile 2 2 at 2 cells 1 points 8 ran 1\n";
+    let want = "edit 1 1 at 1\nedit 1 2 at 2\nedit 1 3 at 3\nfault 2 1 read\n\
+        file 1 4 at 3 cells 1 points 8 ran 1\nfile 2 2 at 3 cells 1 points 8 ran 1\n";
     assert!(rt; told.list() == want.as_bytes(), "{told:?}");
-    assert_eq!(rt; served.history.len(), 2);
+    assert_eq!(rt; served.history.len(), 3);
     for port in &ports {
         if let Some(bytes) = port.file("o.vtk") {
             assert!(rt; bytes.list() == IMAGE.as_bytes());

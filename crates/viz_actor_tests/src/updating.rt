@@ -8,9 +8,9 @@ use std::sync::Wait;
 use std::test::Fail;
 use std::thread::Threads;
 use viz_actor::{Answer, AuditAnswer, audit_node, update};
-use viz_base::{Bytes, FILE_LIMIT, MemoryPort, OpenGate, Shape, Shared, Word};
+use viz_base::{Bytes, FILE_LIMIT, FailAt, MemoryPort, OpenGate, Shape, Shared, Word};
 use viz_history::EditAnswer;
-use viz_hub::{Hub, Pass};
+use viz_hub::{Hub, Pass, Sent};
 use viz_network::{Cause, Edit, Kind, Param, Value};
 
 // Eight points, of which the last one has the value 9.
@@ -32,7 +32,7 @@ fn begin(alloc: Global, limit: u32) -> Result<(Hub, Pass), AllocError>
     requires { limit < 4294967295 }
     ensures pass { IfOk result (λ r. r.1.turn ≡ r.0) }
 {
-    Hub::start(alloc, limit, 1)
+    Hub::start(alloc, limit, 16)
 }
 
 fn edit<R: Wait>(rt: &R, hub: &Hub, pass: Pass, edit: Edit) -> (Pass, EditAnswer)
@@ -117,6 +117,92 @@ fn a_full_history_still_answers(rt: HostRuntime) -> Result<(), Fail> {
     Ok(())
 }
 
+// The edits that make the corner's contour at 5, and a contour that stands on nothing.
+fn surface(alloc: Global) -> Result<Vec<Edit>, Fail> {
+    let src = word("src")?;
+    let iso = word("iso")?;
+    let wire = Edit::Connect {
+        from: src,
+        to: iso,
+        port: 1,
+    };
+    Ok(vec![in alloc;
+        addition(Kind::File, src),
+        loading(alloc, src)?,
+        addition(Kind::Contour, iso),
+        wire,
+        level(iso, 5),
+        addition(Kind::Contour, word("bare")?),
+    ]?)
+}
+
+fn level(node: Word, level: i64) -> Edit {
+    Edit::Set {
+        node,
+        param: Param::Levels,
+        value: Value::Numbers {
+            count: 1,
+            items: [level, 0, 0, 0, 0, 0, 0, 0],
+        },
+    }
+}
+
+// Makes the edits.
+fn edit_all<R: Wait>(rt: &R, hub: &Hub, pass: Pass, edits: Vec<Edit>) -> Pass
+    requires belongs { pass.turn ≡ hub.now }
+    ensures pass { result.turn ≡ hub.now }
+{
+    let mut pass = pass;
+    for change in edits {
+        let (after, _) = edit(rt, hub, pass, change);
+        pass = after;
+    }
+    pass
+}
+
+// Of an update: how many tasks ran, if the file was written; how often the pass has published; and
+// of how many entries and in how many pieces last.
+type Told = (Option<u64>, u64, Option<(u32, u32)>);
+
+fn told(answer: &Answer, sent: u64, last: Option<Sent>) -> Told {
+    let ran = match answer {
+        Answer::Written { ran, .. } => Some(*ran),
+        _ => None,
+    };
+    let last = match last {
+        Some(Sent { at, sink: _, shape }) => Some((at, shape.pieces)),
+        None => None,
+    };
+    (ran, sent, last)
+}
+
+#[test]
+fn an_update_publishes_where_its_node_has_a_dataset(rt: HostRuntime) -> Result<(), Fail> {
+    // level-changed, sent-and-last
+    let alloc = rt.alloc();
+    let iso = word("iso")?;
+    let (hub, pass) = begin(alloc, 100)?;
+    let pass = edit_all(&rt, &hub, pass, surface(alloc)?);
+    let failing = FailAt { call: 3, kept: 0 };
+    let failing = vec![in alloc; failing]?;
+    let mut port = MemoryPort::new(alloc, Vec::new(alloc), FILE_LIMIT, failing);
+    let (pass, one) = write(&rt, alloc, &hub, pass, &iso, &mut port);
+    assert_eq!(rt; told(&one, pass.sent(), pass.last()), (Some(2), 1, Some((6, 1))));
+    let (pass, again) = write(&rt, alloc, &hub, pass, &iso, &mut port);
+    assert_eq!(rt; told(&again, pass.sent(), pass.last()), (Some(0), 2, Some((6, 1))));
+    let (pass, none) = write(&rt, alloc, &hub, pass, &word("none")?, &mut port);
+    assert_eq!(rt; none, Answer::Unknown { at: 6 });
+    let (pass, bare) = write(&rt, alloc, &hub, pass, &word("bare")?, &mut port);
+    assert_eq!(rt; told(&bare, pass.sent(), pass.last()), (None, 2, Some((6, 1))));
+    let (pass, _) = edit(&rt, &hub, pass, level(iso, 10));
+    let (pass, unwritten) = write(&rt, alloc, &hub, pass, &iso, &mut port);
+    assert_eq!(rt; unwritten, Answer::WriteFault { at: 7 });
+    assert_eq!(rt; (pass.sent(), port.file("o.vtk").is_some()), (3, true));
+    let (pass, last) = write(&rt, alloc, &hub, pass, &iso, &mut port);
+    assert_eq!(rt; told(&last, pass.sent(), pass.last()), (Some(0), 4, Some((7, 1))));
+    Ok(())
+}
+
 #[test]
 fn others_edits_are_seen(rt: HostRuntime) -> Result<(), Fail> {
     let alloc = rt.alloc();
@@ -138,15 +224,7 @@ fn others_edits_are_seen(rt: HostRuntime) -> Result<(), Fail> {
         port: 1,
     };
     let (theirs, _) = edit(&rt, &hub, theirs, wire);
-    let level = Edit::Set {
-        node: iso,
-        param: Param::Levels,
-        value: Value::Numbers {
-            count: 1,
-            items: [5, 0, 0, 0, 0, 0, 0, 0],
-        },
-    };
-    let (_, _) = edit(&rt, &hub, theirs, level);
+    let (_, _) = edit(&rt, &hub, theirs, level(iso, 5));
     let (_, audited) = count(&rt, alloc, &hub, mine, &iso);
     let AuditAnswer::Counted { at, audit } = audited else {
         return Err("no counts".into());

@@ -1,10 +1,10 @@
-//! Updates and audits of networks, their answers and their lines, counted by hand.
+//! Updates and audits of networks from scratch, their answers and their lines, counted by hand.
 
 use crate::story::Story;
 use std::alloc::Global;
 use std::process::Abort;
 use std::test::Fail;
-use viz_account::{Answer, AuditAnswer, Counts, audit, update, word_text};
+use viz_account::{Answer, AuditAnswer, Counts, audit, update_from_scratch, word_text};
 use viz_base::{Bytes, FILE_LIMIT, FailAt, MemoryPort, Shared, Word};
 use viz_network::{ApplyStop, Cause, Edit, Fault, Kind, Net, Param, Value};
 use viz_report::{Line, Reason};
@@ -89,7 +89,7 @@ fn fault_of(net: &Net, node: Word, cause: Cause) -> Result<Fault, Fail> {
 }
 
 #[test]
-fn updates_are_answered(rt: HostRuntime) -> Result<(), Fail> {
+fn updates_from_scratch_are_answered(rt: HostRuntime) -> Result<(), Fail> {
     let alloc = rt.alloc();
     let story = corner_story(alloc)?;
     let fault = fault_of(&story.net, word("bare")?, Cause::Unconnected(1))?;
@@ -98,7 +98,7 @@ fn updates_are_answered(rt: HostRuntime) -> Result<(), Fail> {
         at: 6,
         cells: 6,
         points: 7,
-        ran: 2,
+        ran: 0,
     };
     for (node, failing, want, file) in [
         ("iso", None, written, Some(SURFACE)),
@@ -116,7 +116,8 @@ fn updates_are_answered(rt: HostRuntime) -> Result<(), Fail> {
             failures.push(call)?;
         }
         let mut port = MemoryPort::new(alloc, Vec::new(alloc), FILE_LIMIT, failures);
-        let answer = update(alloc, &story.net, 6, &mut port, &word(node)?, "o.vtk");
+        let node_name = word(node)?;
+        let answer = update_from_scratch(alloc, &story.net, 6, &mut port, &node_name, "o.vtk");
         assert_eq!(rt; answer, want, "{node}");
         let is = match (port.file("o.vtk"), file) {
             (Some(bytes), Some(text)) => bytes.list() == text.as_bytes(),

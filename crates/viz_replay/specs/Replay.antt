@@ -10,7 +10,8 @@ use Rattle.viz_journal.specs.Reading.{edits_of, journal_read}
 use Rattle.viz_network.specs.Network.{Network}
 use Rattle.viz_network.specs.History.{net_of}
 use Rattle.viz_report.specs.declared.line.Line.{Line}
-use Rattle.viz_account.specs.Served.{Updates}
+use Rattle.viz_account.specs.Served.{Writes}
+use Rattle.viz_account.specs.Written.{HasNoPlan}
 use Rattle.viz_told.specs.Calls.{IsCalled}
 use Rattle.viz_told.specs.Ports.{FirstOnly}
 use Rattle.viz_words.specs.declared.refusal.ScriptRefusal.{ScriptRefusal}
@@ -48,10 +49,10 @@ IsRefusal (read.TooLong taken) line r = (line ≡ 0) × (r ≡ refusal.TooLong)
 IsRefusal (read.Given bytes) line r = journal_read bytes ≡ Err (line, r)
 IsRefusal read.Failed line r = ⊥
 
--- the first port was used for an update of the sink on the network of the journal's first entries, and no other was
+-- the first port was used for an update of the sink, without a plan, on the network of the journal's first entries, and no other was
 abbrev pub IsUpdated : {P : Type 0} → port.Ghosts P → Replay → List JournalEntry → Line → List P → List P → Type 0
 IsUpdated m c entries line old new =
-    FirstOnly (Updates m (network_at c.count entries) (entries_at c.count entries) c.sink c.output line) old new
+    FirstOnly (Writes m HasNoPlan (network_at c.count entries) (entries_at c.count entries) c.sink c.output line) old new
 
 -- how a run ended whose read was answered so, and what was done at the ports: they are called only for a journal
 abbrev pub IsEndOfReplay : {P : Type 0} → port.Ghosts P → Replay → Option ReadAnswer → Came → List P → List P → Type 0

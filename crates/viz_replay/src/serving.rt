@@ -8,7 +8,7 @@ ghost use Rattle.viz_replay.specs.Served.{replay_of, IsServed};
 use crate::came::Came;
 use crate::network::network_of;
 use std::alloc::Global;
-use viz_account::{update, word_text};
+use viz_account::{update_from_scratch, word_text};
 use viz_base::{Port, ReadRefusal, Word};
 use viz_journal::{JournalEntry, read_journal};
 use viz_words::{ScriptRefusal, ScriptStop};
@@ -55,7 +55,7 @@ fn serve_entries<P: Port>(
         return Came::Memory;
     };
     let at = entries_at(command.count, entries);
-    let answer = update(alloc, &net, at, port, &command.sink, file);
+    let answer = update_from_scratch(alloc, &net, at, port, &command.sink, file);
     Came::Updated(answer.line())
 }
 

@@ -144,7 +144,7 @@ fn a_changed_level_is_contoured_again(rt: HostRuntime) -> Result<(), Fail> {
     let first = corner(alloc, Vec::new(alloc))?;
     let left = run_over(&rt, alloc, "run s j", LEVELS.as_bytes(), first)?;
     assert!(rt; left.status == Status::Done, "{}", left.text);
-    let want = format!(in alloc; "{LEVELS_REPORT}file 1 8 at 6 cells 0 points 0 ran 2\n")?;
+    let want = format!(in alloc; "{LEVELS_REPORT}file 1 8 at 6 cells 0 points 0 ran 1\n")?;
     assert_eq!(rt; left.text.as_str(), want.as_str());
     assert!(rt; file(&left.ports, "two.vtk") == Some(EMPTY.as_bytes()));
     let journal = left.desk.file("j").ok_or("no journal")?.list();

@@ -63,8 +63,10 @@ LOOKUP_TABLE default
 0 9
 ";
 
+// Nothing is kept, so that each update runs its task, whoever comes first.
 const BESIDE: &str = "1 add file src
 1 load src a.vtk
+1 set src release 1
 phase
 1 update src o.vtk 1 1
 2 update src o.vtk 1 1
@@ -75,7 +77,8 @@ phase
 
 const BESIDE_FRONT: &str = "edit 1 1 at 1
 edit 1 2 at 2
-file 1 3 at 2 cells 1 points 8 ran 1
+edit 1 3 at 3
+file 1 4 at 3 cells 1 points 8 ran 1
 ";
 
 /// The first 40 bytes of the image.
@@ -108,9 +111,9 @@ fn fails_beside<R: Threads + Wait + Sync + Abort>(
 #[test]
 fn a_failing_port_is_its_actors_alone(rt: HostRuntime) -> Result<(), Fail> {
     let alloc = rt.alloc();
-    let written = "file 2 1 at 2 cells 1 points 8 ran 1\n";
-    let loaded = "edit 2 2 at 3\n";
-    let last = "file 2 3 at 3 cells 1 points 8 ran 1\n";
+    let written = "file 2 1 at 3 cells 1 points 8 ran 1\n";
+    let loaded = "edit 2 2 at 4\n";
+    let last = "file 2 3 at 4 cells 1 points 8 ran 1\n";
     for (call, kept, lines, second) in [
         (0, 0, [written, loaded, last], [IMAGE, IMAGE]),
         (1, 0, ["fault 2 1 write\n", loaded, last], ["", IMAGE]),
@@ -121,7 +124,7 @@ fn a_failing_port_is_its_actors_alone(rt: HostRuntime) -> Result<(), Fail> {
             [
                 written,
                 "fault 2 2 read\n",
-                "file 2 3 at 2 cells 1 points 8 ran 1\n",
+                "file 2 3 at 3 cells 1 points 8 ran 1\n",
             ],
             [IMAGE, IMAGE],
         ),

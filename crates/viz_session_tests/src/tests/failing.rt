@@ -9,7 +9,7 @@ edit 1 4 at 4
 edit 1 5 at 5
 file 1 6 at 5 cells 6 points 7 ran 2
 edit 1 7 at 6
-file 1 8 at 6 cells 0 points 0 ran 2
+file 1 8 at 6 cells 0 points 0 ran 1
 ";
 
 const UNREAD: &str = "edit 1 1 at 1
@@ -29,7 +29,7 @@ edit 1 4 at 4
 edit 1 5 at 5
 fault 1 6 write
 edit 1 7 at 6
-file 1 8 at 6 cells 0 points 0 ran 2
+file 1 8 at 6 cells 0 points 0 ran 1
 ";
 
 const SECOND_UNWRITTEN: &str = "edit 1 1 at 1

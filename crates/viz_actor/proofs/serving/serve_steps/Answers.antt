@@ -1,8 +1,7 @@
 use Rattle.std.proofs.Common.{◌≡◌, ◌+◌, ◌∙◌, ◌++◌, [], ◌∷◌, take, length, length-append, sym, ap, subst, refl, arith}
 use Rattle.std.proofs.lemmas.List.{take_more}
-use Rattle.viz_hub.specs.Passes.{at_seen}
 use Rattle.viz_actor.specs.Serving.{commands_of, AddsLines}
-use Rattle.viz_actor.proofs.ServeLemmas.{commands_next, commands_within, adds_none, adds_more, adds_length}
+use Rattle.viz_actor.proofs.ServeLemmas.{commands_next, commands_within, adds_none, adds_more, adds_length, same_still}
 use Rattle.viz_actor.proofs.serving.serve_steps.Goals as goal
 
 pub loop-step-init : goal.loop-step-init
@@ -40,6 +39,6 @@ loop-step-preserved g c =
     let one = subst (λ n. AddsLines g.P.Port limit n mine c.loop-step.lines.items step.new.lines.items c.loop-step.pass.seen step.result.seen c.loop-step.port step.new.port) (ap (λ p. p.number) inv.same) step.ensures.adds in
     record {
       adds = adds_more g.P.Port limit c.args.pass.number _ _ mine _ _ _ _ _ _ _ _ _ (commands_next actor steps i c.step-item.result front) inv.adds one;
-      same = step.ensures.same ∙ ap (λ p. at_seen p step.result.seen) inv.same;
+      same = same_still c.args.pass c.loop-step.pass step.result inv.same step.ensures.same;
       capacity = step.ensures.capacity ∙ inv.capacity;
     }
