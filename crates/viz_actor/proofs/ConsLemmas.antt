@@ -1,11 +1,10 @@
 -- Lists by actor, with what belongs to one phase more in front.
-use Rattle.std.proofs.Common.{◌≡◌, ℕ, zero, suc, ◌+◌, ◌⊎◌, inl, inr, ⊎_elim, Bool, true, false, true≢false, not, List, [], ◌∷◌, ◌++◌, map, length, append-nil, append_assoc, flat_map, refl, sym, ap, ap₂, subst, ◌∙◌, arith, ◌==◌}
+use Rattle.std.proofs.Common.{◌≡◌, ℕ, suc, ◌+◌, ◌⊎◌, inl, inr, ⊎_elim, true, false, true≢false, not, List, [], ◌∷◌, ◌++◌, map, length, flat_map, refl, sym, ap, ap₂, subst, ◌∙◌, arith}
 use Rattle.std.proofs.lemmas.Bool.{false_from_ne_true, and_parts, not-true}
 use Rattle.viz_turn.specs.Tales.{has, once}
 use Rattle.viz_turn.proofs.ListLemmas.{has_head, has_tail, has_cons, has_left, has_right, has_either, once_cons, once_append}
 use Rattle.viz_report.specs.declared.line.Line.{Line}
-use Rattle.viz_report.specs.declared.line.Row.{Row}
-use Rattle.viz_report.specs.Report.{rows_from, phase_rows, next_counts, first_phase, later_phases}
+use Rattle.viz_report.specs.Report.{phase_rows, next_counts, first_phase, later_phases}
 
 -- each list with an item in front
 abbrev pub cons_all : {A : Type 0} → List A → List (List A) → List (List A)

@@ -1,12 +1,12 @@
 -- The passes of a phase are joined, and its lines become rows.
-use Rattle.std.proofs.Common.{◌≡◌, ℕ, zero, suc, ◌+◌, ◌<◌, ◌≤◌, ⊎_elim, Bool, true, false, true≢false, List, [], ◌∷◌, ◌++◌, map, drop, length, length-append, append-nil, append_assoc, Option, Some, None, refl, sym, ap, ap₂, subst, ◌∙◌, arith, ◌==◌}
+use Rattle.std.proofs.Common.{◌≡◌, ℕ, ◌+◌, ◌≤◌, ⊎_elim, true, List, [], ◌∷◌, ◌++◌, map, drop, length, length-append, append-nil, append_assoc, Option, Some, None, refl, sym, ap, ap₂, subst, ◌∙◌, arith}
 use Rattle.std.specs.List.{All}
 use Rattle.std.proofs.lemmas.List.Elements.{All-cons}
 use Rattle.std.proofs.Math.Seq.{drop-append_seam}
 use Rattle.viz_base.specs.declared.port.Port as port
-use Rattle.viz_turn.specs.Tales.{has, once, GoesOn}
+use Rattle.viz_turn.specs.Tales.{has, GoesOn}
 use Rattle.viz_turn.specs.Known.{Identity}
-use Rattle.viz_hub.specs.Passes.{PassKnown, numbers, one, IsWhole, GoesFurther}
+use Rattle.viz_hub.specs.Passes.{PassKnown, numbers, one, GoesFurther}
 use Rattle.viz_turn.proofs.ListLemmas.{has_left, has_right}
 use Rattle.viz_turn.proofs.TaleLemmas.{further_still, all_of_it}
 use Rattle.viz_entries.specs.declared.entry.Entry.{Entry}
@@ -19,7 +19,7 @@ use Rattle.viz_actor.specs.Serving.{commands_of}
 use Rattle.viz_actor.proofs.ServeLemmas.{served_length}
 use Rattle.viz_actor.specs.declared.places.Place.{Place}
 use Rattle.viz_actor.specs.Places.{HasRoom, HaveRoom, work, Splits, Joins, EachServed, HasPass, without, new_rows, all_new_rows, untold, collected, IsPlaceTold, ActorsServed, counts_of, IsPhase}
-use Rattle.viz_actor.proofs.PhaseLemmas.{given, split_root, split_length, split_born, split_once, given_fresh, OneDid, Did, did}
+use Rattle.viz_actor.proofs.PhaseLemmas.{given, split_root, split_born, split_once, given_fresh, OneDid, Did, did}
 
 abbrev pub known_or : PassKnown → Option PassKnown → PassKnown
 known_or d None = d

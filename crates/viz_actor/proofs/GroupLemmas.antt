@@ -1,5 +1,5 @@
 -- The steps of a script, phase after phase, have its commands by actor and phase.
-use Rattle.std.proofs.Common.{◌≡◌, ℕ, zero, suc, ◌+◌, ◌<◌, ◌≤◌, ℤ, Bool, true, false, cond, ◌&&◌, ◌==◌, List, [], ◌∷◌, map, Result, Ok, Err, refl, sym, ap, ap₂, subst, ◌∙◌, true≢false, eqb-true, false-eqb, arith}
+use Rattle.std.proofs.Common.{◌≡◌, ℕ, zero, suc, ◌+◌, ◌<◌, ◌≤◌, Bool, true, false, cond, ◌&&◌, ◌==◌, List, [], ◌∷◌, map, Result, Ok, Err, refl, sym, ap, ap₂, subst, ◌∙◌, true≢false, eqb-true, false-eqb, arith}
 use Rattle.std.proofs.lemmas.Bool.{ne_eqb}
 use Rattle.std.specs.Prelude.{if◌then◌else◌}
 use Rattle.viz_words.specs.declared.refusal.ScriptRefusal.{ScriptRefusal}
@@ -9,7 +9,7 @@ use Rattle.viz_script.specs.declared.order.Step.{Step}
 use Rattle.viz_script.specs.Orders.{Asked, seen}
 use Rattle.viz_script.specs.Script.{Line, silent, begins_phase, asks, Stepped, Stop, stepped, line_in, with_step, told, steps_from, is_too_long, script_of}
 use Rattle.viz_actor.specs.Serving.{commands_of}
-use Rattle.viz_actor.specs.Groups.{numbers, is_of, commands_in, by_phase, by_actor, in_front, behind, chunks_from}
+use Rattle.viz_actor.specs.Groups.{numbers, commands_in, by_phase, in_front, behind, chunks_from}
 use Rattle.viz_actor.proofs.RunLemmas.{scripts_from}
 
 -- ---- phases go up

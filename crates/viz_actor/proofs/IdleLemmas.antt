@@ -1,5 +1,5 @@
 -- Ports of actors without commands are as before.
-use Rattle.std.proofs.Common.{◌≡◌, ◌≢◌, ℕ, zero, suc, ◌+◌, Bool, true, false, cond, ◌&&◌, ◌==◌, List, [], ◌∷◌, ◌++◌, map, flat_map, slice_get, Some, Ok, refl, ap, ◌∙◌, inl, inr, arith}
+use Rattle.std.proofs.Common.{◌≡◌, ◌≢◌, ℕ, zero, suc, ◌+◌, Bool, true, false, cond, ◌&&◌, ◌==◌, List, [], ◌∷◌, ◌++◌, map, flat_map, slice_get, Some, refl, ap, ◌∙◌, inl, inr, arith}
 use Rattle.std.specs.Prelude.{◌⊎◌}
 use Rattle.std.specs.List.{All}
 use Rattle.std.proofs.lemmas.Bool.{eqb-true}
@@ -8,11 +8,11 @@ use Rattle.viz_base.specs.declared.port.Port as port
 use Rattle.viz_base.specs.declared.call.ReadAnswer.TheVariants as read
 use Rattle.viz_entries.specs.declared.entry.Entry.{Entry}
 use Rattle.viz_script.specs.Orders.{Asked as Command}
-use Rattle.viz_script.specs.Script.{Stepped, script_of, phase_limit}
+use Rattle.viz_script.specs.Script.{Stepped, phase_limit}
 use Rattle.viz_report.specs.declared.line.Line.{Line}
 use Rattle.viz_report.specs.declared.line.Row.{Row}
 use Rattle.viz_account.specs.Account.{AreActors}
-use Rattle.viz_actor.specs.Groups.{numbers, is_of, commands_in, by_phase, actors_over, history_limit}
+use Rattle.viz_actor.specs.Groups.{numbers, commands_in, by_phase, actors_over, history_limit}
 use Rattle.viz_actor.specs.declared.ran.Ran.{Ran}
 use Rattle.viz_actor.specs.declared.ran.Ran.TheVariants as ran
 use Rattle.viz_actor.specs.Deeds.{Deed, Nothing, Asked, Kept, IsEndOfScript, IsAccounted, IsServed, bytes_of}

@@ -1,17 +1,16 @@
 -- What an actor did in the phases from one on, in a history that goes further.
-use Rattle.std.proofs.Common.{◌≡◌, ℕ, zero, suc, ◌+◌, ◌≤◌, ◌⊎◌, inl, inr, ⊎_elim, Bool, IsTrue, true, false, true≢false, List, [], ◌∷◌, ◌++◌, map, length, length-append, append_assoc, append-nil, flat_map, refl, sym, ap, ap₂, subst, ◌∙◌, arith, ◌==◌}
+use Rattle.std.proofs.Common.{◌≡◌, ℕ, ◌+◌, ◌≤◌, ⊎_elim, IsTrue, true, true≢false, List, [], ◌∷◌, ◌++◌, length, append_assoc, append-nil, flat_map, refl, sym, ap, ap₂, subst, ◌∙◌, arith}
 use Rattle.viz_base.specs.declared.call.Call.{Call}
 use Rattle.viz_base.specs.declared.port.Port as port
 use Rattle.viz_turn.specs.Tales.{has, clear, GoesOn}
 use Rattle.viz_turn.proofs.ListLemmas.{has_head, has_tail, has_cons}
-use Rattle.viz_turn.proofs.TaleLemmas.{clear_sub, further_still}
+use Rattle.viz_turn.proofs.TaleLemmas.{further_still}
 use Rattle.viz_entries.specs.declared.entry.Entry.{Entry}
 use Rattle.viz_entries.specs.History.{by_of}
 use Rattle.viz_script.specs.declared.order.Step.{Step}
 use Rattle.viz_script.specs.Orders.{Asked}
 use Rattle.viz_report.specs.declared.line.Line.{Line}
 use Rattle.viz_account.specs.Account.{edited, AreTold, ArePhases, places_from, places, faults_told, RoseBy}
-use Rattle.viz_account.specs.Served.{ServesAll}
 use Rattle.viz_account.proofs.HistoryLemmas.{places_append_from}
 use Rattle.viz_account.proofs.AccountLemmas.{told_longer, faults_append, rose_none, rose_more, both_idle}
 use Rattle.viz_actor.specs.Serving.{commands_of}

@@ -1,5 +1,5 @@
 -- Passes are split off for a phase, and each actor works.
-use Rattle.std.proofs.Common.{◌≡◌, ℕ, suc, ◌+◌, ◌<◌, ◌≤◌, ◌⊎◌, inl, inr, ⊎_elim, Bool, true, false, true≢false, List, [], ◌∷◌, ◌++◌, length, Option, Some, None, slice_index_or, refl, sym, ap, subst, ◌∙◌, arith, ◌==◌}
+use Rattle.std.proofs.Common.{◌≡◌, ℕ, suc, ◌+◌, ◌⊎◌, inl, inr, ⊎_elim, true, false, true≢false, List, [], ◌∷◌, ◌++◌, length, Option, Some, None, refl, sym, ap, subst, ◌∙◌, arith}
 use Rattle.std.specs.List.{All}
 use Rattle.std.specs.Prelude.{vec_capacity}
 use Rattle.std.proofs.lemmas.List.Elements.{All-cons}
@@ -18,7 +18,7 @@ use Rattle.viz_report.specs.declared.line.Line.{Line}
 use Rattle.viz_account.specs.Served.{ServesAll}
 use Rattle.viz_actor.specs.Serving.{commands_of, AddsLines}
 use Rattle.viz_actor.specs.declared.places.Place.{Place}
-use Rattle.viz_actor.specs.Places.{HasRoom, HaveRoom, with_pass, Splits, IsReady, PassServed, PlaceServed, EachServed}
+use Rattle.viz_actor.specs.Places.{HaveRoom, with_pass, Splits, IsReady, PassServed, PlaceServed, EachServed}
 
 module _ {P : Type 0} where
   -- the numbers that were given

@@ -1,5 +1,5 @@
 -- There is room for the steps of a phase, and behind it for the others.
-use Rattle.std.proofs.Common.{◌≡◌, ℕ, zero, suc, ◌+◌, ◌≤◌, List, [], ◌∷◌, ◌++◌, length, length-append, vec_capacity, refl, sym, ap, ap₂, subst, ◌∙◌, arith}
+use Rattle.std.proofs.Common.{◌≡◌, ℕ, zero, suc, ◌+◌, List, [], ◌∷◌, ◌++◌, length, length-append, refl, sym, ap, subst, ◌∙◌, arith}
 use Rattle.viz_base.specs.declared.port.Port as port
 use Rattle.viz_hub.specs.Passes.{PassKnown}
 use Rattle.viz_entries.specs.declared.entry.Entry.{Entry}

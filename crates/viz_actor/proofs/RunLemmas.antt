@@ -1,25 +1,23 @@
 -- Phases one after the other, told on the whole history.
-use Rattle.std.proofs.Common.{◌≡◌, ℕ, zero, suc, ◌+◌, ◌≤◌, ◌⊎◌, inl, inr, ⊎_elim, Bool, true, false, true≢false, List, [], ◌∷◌, ◌++◌, map, length, length-append, append_assoc, append-nil, flat_map, refl, sym, ap, ap₂, subst, ◌∙◌, arith, ◌==◌}
-use Rattle.std.proofs.lemmas.Bool.{false_from_ne_true}
+use Rattle.std.proofs.Common.{◌≡◌, ℕ, zero, suc, ◌+◌, ◌≤◌, ⊎_elim, true, true≢false, List, [], ◌∷◌, ◌++◌, map, length, length-append, refl, sym, ap, ap₂, subst, ◌∙◌, arith}
 use Rattle.viz_base.specs.declared.port.Port as port
-use Rattle.viz_turn.specs.Tales.{has, once, clear, GoesOn}
+use Rattle.viz_turn.specs.Tales.{has, clear, GoesOn}
 use Rattle.viz_hub.specs.Passes.{PassKnown, numbers, IsWhole, GoesFurther}
-use Rattle.viz_turn.proofs.ListLemmas.{has_head, has_tail, has_cons, has_left, has_right, has_either}
-use Rattle.viz_turn.proofs.TaleLemmas.{clear_left, clear_sub, further_still, all_of_it}
+use Rattle.viz_turn.proofs.ListLemmas.{has_head, has_tail, has_cons, has_left, has_right}
+use Rattle.viz_turn.proofs.TaleLemmas.{clear_sub, further_still, all_of_it}
 use Rattle.viz_entries.specs.declared.entry.Entry.{Entry}
 use Rattle.viz_entries.specs.History.{by_of}
 use Rattle.viz_script.specs.declared.order.Step.{Step}
 use Rattle.viz_script.specs.Orders.{Asked}
 use Rattle.viz_report.specs.declared.line.Line.{Line}
 use Rattle.viz_report.specs.declared.line.Row.{Row}
-use Rattle.viz_report.specs.Report.{phase_rows, next_counts, first_phase, later_phases, phases_rows}
+use Rattle.viz_report.specs.Report.{next_counts}
 use Rattle.viz_actor.specs.Serving.{commands_of}
-use Rattle.viz_actor.proofs.ServeLemmas.{longer}
 use Rattle.viz_actor.specs.declared.places.Place.{Place}
-use Rattle.viz_actor.specs.Places.{ActorServed, ActorsServed, counts_of, IsPhase}
+use Rattle.viz_actor.specs.Places.{ActorsServed, counts_of}
 use Rattle.viz_actor.specs.Runs.{RunsChunk, Runs, ports_of}
-use Rattle.viz_actor.proofs.ConsLemmas.{cons_all, flat, has_cons_all, has_front, has_behind, once_cons_all, first_cons, later_cons, silence, silence_rows, silence_counts, silence_length}
-use Rattle.viz_actor.proofs.LaterLemmas.{IsLater, AreLater, later_none, later_idle, later_phase}
+use Rattle.viz_actor.proofs.ConsLemmas.{cons_all, flat, silence}
+use Rattle.viz_actor.proofs.LaterLemmas.{AreLater, later_none, later_idle, later_phase}
 
 -- the commands by actor and phase, of so many actors from this one on
 abbrev pub scripts_from : ℕ → ℕ → List (List Step) → List (List (List Asked))

@@ -1,14 +1,14 @@
 -- The account of a whole script, by its phases.
-use Rattle.std.proofs.Common.{◌≡◌, ℕ, zero, suc, ◌+◌, ◌<◌, ◌≤◌, ◌⊎◌, ⊎_elim, Bool, true, false, true≢false, not, ◌&&◌, min, List, [], ◌∷◌, ◌++◌, All, Ok, map, length, length-append, append_assoc, flat_map, refl, sym, ap, ap₂, subst, ◌∙◌, arith}
-use Rattle.std.proofs.lemmas.List.{length-map, map-append}
+use Rattle.std.proofs.Common.{◌≡◌, ℕ, zero, suc, ◌+◌, ◌≤◌, ⊎_elim, Bool, true, false, true≢false, not, ◌&&◌, List, [], ◌∷◌, ◌++◌, All, Ok, map, length, refl, sym, ap, ap₂, subst, ◌∙◌, arith}
+use Rattle.std.proofs.lemmas.List.{length-map}
 use Rattle.std.proofs.lemmas.List.Elements.{All-rest}
 use mathlib.Core.Option.{some, some-ne-none}
 use lib.ListN.{get_elem?}
 use Rattle.viz_base.specs.declared.port.Port as port
-use Rattle.viz_turn.specs.Tales.{has, once, clear, entries_of, HasNoOther}
+use Rattle.viz_turn.specs.Tales.{has, clear, HasNoOther}
 use Rattle.viz_turn.specs.Known.{Identity}
 use Rattle.viz_hub.specs.Passes.{PassKnown, first_pass, numbers, IsWhole, GoesFurther}
-use Rattle.viz_turn.proofs.ListLemmas.{has_cons, same_at}
+use Rattle.viz_turn.proofs.ListLemmas.{same_at}
 use Rattle.viz_turn.proofs.TaleLemmas.{further_still}
 use Rattle.viz_turn.proofs.LawLemmas.{no_other}
 use Rattle.viz_entries.specs.declared.entry.Entry.{Entry}
@@ -29,7 +29,7 @@ use Rattle.viz_actor.proofs.ConsLemmas.{flat}
 use Rattle.viz_actor.proofs.GroupLemmas.{script_ascends, all_commands}
 use Rattle.viz_actor.proofs.LaterLemmas.{IsLater, AreLater}
 use Rattle.viz_actor.proofs.RunLemmas.{scripts_from, runs_later, runs_turn, later_length}
-use Rattle.viz_actor.proofs.TaleLemmas.{IsTale, runs_tale}
+use Rattle.viz_actor.proofs.TaleLemmas.{runs_tale}
 
 pub chunks_length : (count phase : ℕ) (steps : List Step) → length (chunks_from count phase steps) ≡ count
 chunks_length zero phase steps = refl

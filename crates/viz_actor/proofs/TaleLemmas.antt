@@ -1,5 +1,5 @@
 -- What a run of phases comes to, told on the whole history.
-use Rattle.std.proofs.Common.{◌≡◌, ℕ, zero, suc, ◌+◌, ◌≤◌, ◌⊎◌, inl, inr, ⊎_elim, Bool, true, false, true≢false, List, [], ◌∷◌, ◌++◌, map, length, length-append, append_assoc, append-nil, flat_map, refl, sym, ap, ap₂, subst, ◌∙◌, arith, ◌==◌}
+use Rattle.std.proofs.Common.{◌≡◌, ℕ, suc, ◌+◌, ◌⊎◌, inl, inr, ⊎_elim, true, false, true≢false, List, [], ◌∷◌, ◌++◌, length, append_assoc, append-nil, refl, sym, ap, ap₂, subst, ◌∙◌}
 use Rattle.std.proofs.lemmas.Bool.{false_from_ne_true}
 use Rattle.std.proofs.lemmas.List.{length-map}
 use Rattle.viz_base.specs.declared.port.Port as port
@@ -12,10 +12,10 @@ use Rattle.viz_entries.specs.History.{by_of}
 use Rattle.viz_script.specs.declared.order.Step.{Step}
 use Rattle.viz_report.specs.declared.line.Line.{Line}
 use Rattle.viz_report.specs.declared.line.Row.{Row}
-use Rattle.viz_report.specs.Report.{phase_rows, next_counts, first_phase, later_phases, phases_rows}
+use Rattle.viz_report.specs.Report.{phase_rows, next_counts, phases_rows}
 use Rattle.viz_actor.proofs.ServeLemmas.{longer}
 use Rattle.viz_actor.specs.declared.places.Place.{Place}
-use Rattle.viz_actor.specs.Places.{ActorsServed, counts_of, IsPhase}
+use Rattle.viz_actor.specs.Places.{counts_of, IsPhase}
 use Rattle.viz_actor.specs.Runs.{RunsChunk, Runs, ports_of}
 use Rattle.viz_actor.proofs.ConsLemmas.{cons_all, flat, has_cons_all, has_front, has_behind, once_cons_all, first_cons, later_cons, silence, silence_rows, silence_counts, silence_length}
 use Rattle.viz_actor.proofs.LaterLemmas.{AreLater}

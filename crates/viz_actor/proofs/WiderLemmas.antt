@@ -1,5 +1,5 @@
 -- What is told of an actor by some passes is told of it by more.
-use Rattle.std.proofs.Common.{◌≡◌, ℕ, suc, ◌+◌, ◌⊎◌, inl, inr, ⊎_elim, Bool, true, false, true≢false, not, cond, ◌||◌, List, [], ◌∷◌, ◌++◌, length, refl, sym, ap, ap₂, subst, ◌∙◌, arith, ◌==◌}
+use Rattle.std.proofs.Common.{◌≡◌, ℕ, ◌+◌, Bool, true, false, not, cond, ◌||◌, List, [], ◌∷◌, refl, ap, ap₂, ◌==◌}
 use Rattle.std.proofs.lemmas.Bool.{and_parts, not-true}
 use Rattle.viz_base.specs.declared.call.Call.{Call}
 use Rattle.viz_network.specs.declared.edit.Edit.{Edit}
@@ -11,8 +11,8 @@ use Rattle.viz_script.specs.Orders.{Asked, edit, load, update, audit}
 use Rattle.viz_report.specs.declared.line.Line.{Line}
 use Rattle.viz_report.specs.declared.line.Line.TheVariants as line
 use Rattle.viz_report.specs.declared.line.Reason.TheVariants as reason
-use Rattle.viz_account.specs.Lines.{IsEntry, TellsEdit, TellsLoad, Tells}
-use Rattle.viz_account.specs.Account.{AreTold, ArePhases, places_from, places}
+use Rattle.viz_account.specs.Lines.{TellsEdit, TellsLoad, Tells}
+use Rattle.viz_account.specs.Account.{AreTold, ArePhases, places_from}
 
 module _ (limit : ℕ) (h : List Entry) (ps qs : List ℕ) (sub : (x : ℕ) → has x ps ≡ true → has x qs ≡ true) where
   edit_wider : (n : ℕ) (e : Edit) (l : Line) → TellsEdit limit h ps n e l → TellsEdit limit h qs n e l

@@ -15,7 +15,6 @@ use Rattle.viz_report.specs.Report.{rows_text}
 use Rattle.viz_actor.specs.Groups.{actors_over}
 use Rattle.viz_words.specs.Refusals.{refused_script}
 use Rattle.viz_told.specs.declared.status.Status.{Status}
-use Rattle.viz_told.specs.declared.status.Status.TheVariants as status
 use Rattle.viz_told.specs.Calls.{IsCalled, HasAnswered}
 use Rattle.viz_told.specs.Lines.{read_fault_line}
 use Rattle.viz_told.specs.Puts.{GainsLine, PutsOrBreaks, EndsInScript}

@@ -1,5 +1,5 @@
 -- Phases, one after the other. Words of private contracts alone.
-use Rattle.std.specs.Prelude.{◌≡◌, ℕ, ◌+◌, ◌≤◌, List, [], ◌∷◌, length, map, vec_capacity}
+use Rattle.std.specs.Prelude.{◌≡◌, ℕ, List, [], ◌∷◌, length, map}
 use Rattle.viz_base.specs.declared.port.Port as port
 use Rattle.viz_hub.specs.Passes.{PassKnown}
 use Rattle.viz_entries.specs.declared.entry.Entry.{Entry}

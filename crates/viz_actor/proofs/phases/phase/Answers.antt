@@ -1,7 +1,7 @@
-use Rattle.std.proofs.Common.{◌≡◌, ◌+◌, ◌++◌, ◌≤◌, length, map, sym, subst, ap, ◌∙◌, arith}
+use Rattle.std.proofs.Common.{◌++◌, map, sym, subst, ap, ◌∙◌, arith}
 use Rattle.std.specs.List.{All}
-use Rattle.viz_actor.specs.Places.{IsReady, HasPass, IsPhase, IsPlaceTold, without, untold, all_new_rows, collected}
-use Rattle.viz_actor.proofs.PhaseLemmas.{given, split_ready, split_root, did}
+use Rattle.viz_actor.specs.Places.{HasPass, IsPhase, IsPlaceTold, untold, all_new_rows, collected}
+use Rattle.viz_actor.proofs.PhaseLemmas.{split_ready, split_root, did}
 use Rattle.viz_actor.proofs.DoneLemmas.{did_ready, told_rows, phase_done}
 use Rattle.viz_actor.proofs.phases.phase.Goals as goal
 

@@ -1,4 +1,4 @@
-use Rattle.std.proofs.Common.{◌≡◌, ◌+◌, ◌-◌, ◌++◌, ◌≤◌, length, vec_capacity, suc, sym, subst, ap, ◌∙◌, arith}
+use Rattle.std.proofs.Common.{◌≡◌, ◌+◌, ◌-◌, ◌≤◌, length, vec_capacity, suc, subst, ap, ◌∙◌, arith}
 use Rattle.viz_actor.specs.Places.{HaveRoom, work}
 use Rattle.viz_actor.proofs.RoomLemmas.{work-append, room_front, chunk_room, runs_more}
 use Rattle.viz_actor.proofs.running.+run_phases.Goals as goal

@@ -1,13 +1,9 @@
-use Rattle.std.proofs.Common.{◌≡◌, ◌≤◌, ℕ, List, [], ◌∷◌, All, Ok, length, map, refl, sym, ap, subst, ◌∙◌, arith}
+use Rattle.std.proofs.Common.{◌≡◌, List, [], Ok, length, map, sym, ap, subst, ◌∙◌}
 use Rattle.std.proofs.lemmas.List.{length-map}
-use Rattle.viz_hub.specs.Passes.{first_pass, IsWhole}
-use Rattle.viz_entries.specs.declared.entry.Entry.{Entry}
-use Rattle.viz_script.specs.Script.{script_of, stepped, phase_limit}
-use Rattle.viz_report.specs.declared.line.Line.{Line}
+use Rattle.viz_script.specs.Script.{script_of, stepped}
 use Rattle.viz_report.specs.declared.line.Row.{Row}
-use Rattle.viz_account.specs.Account.{IsAccountOf}
-use Rattle.viz_actor.specs.Groups.{chunks_from, by_actor}
-use Rattle.viz_actor.specs.Runs.{ports_of, IsIdle, Runs, IsSeatedScript}
+use Rattle.viz_actor.specs.Groups.{chunks_from}
+use Rattle.viz_actor.specs.Runs.{ports_of, Runs}
 use Rattle.viz_actor.proofs.RunLemmas.{runs_turn}
 use Rattle.viz_actor.proofs.ScriptLemmas.{seated_account, is_seated}
 use Rattle.viz_actor.proofs.script.serve_seated.Goals as goal

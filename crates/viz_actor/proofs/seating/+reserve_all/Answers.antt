@@ -1,4 +1,4 @@
-use Rattle.std.proofs.Common.{◌≡◌, ◌+◌, ◌≤◌, length, sym, ap, subst, ◌∙◌, arith, rules, All}
+use Rattle.std.proofs.Common.{length, ap, arith, rules}
 use Rattle.std.proofs.lemmas.List.Elements.{All-rest, All-cons}
 use Rattle.viz_actor.specs.Runs.{IsIdle}
 use Rattle.viz_actor.proofs.seating.+reserve_all.Goals as goal

@@ -1,8 +1,8 @@
-use Rattle.std.proofs.Common.{◌≡◌, ℕ, ◌+◌, ◌==◌, true, false, cond, List, [], ◌∷◌, ◌++◌, take, length, length-append, sym, ap, ◌∙◌, arith}
+use Rattle.std.proofs.Common.{◌≡◌, ℕ, ◌+◌, cond, List, [], ◌∷◌, ◌++◌, take, length, length-append, sym, ap, ◌∙◌, arith}
 use Rattle.std.proofs.lemmas.Bool.{ne_eqb, eq-eqb}
 use Rattle.std.proofs.lemmas.List.{take_more}
 use Rattle.viz_script.specs.declared.order.Step.{Step}
-use Rattle.viz_script.specs.Orders.{Asked, seen}
+use Rattle.viz_script.specs.Orders.{seen}
 use Rattle.viz_actor.specs.Serving.{commands_of}
 use Rattle.viz_actor.proofs.ServeLemmas.{commands-append}
 use Rattle.viz_actor.proofs.seating.command_count.Goals as goal

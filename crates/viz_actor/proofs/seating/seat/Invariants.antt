@@ -1,4 +1,4 @@
-use Rattle.std.proofs.Common.{◌≡◌, ◌≤◌, All, length, vec_capacity}
+use Rattle.std.proofs.Common.{◌≡◌, All, vec_capacity}
 use Rattle.viz_actor.specs.Runs.{ports_of, IsIdle}
 use Rattle.viz_actor.proofs.seating.seat.Given as goal
 

@@ -1,4 +1,4 @@
-use Rattle.std.proofs.Common.{◌≡◌, length, vec_capacity}
+use Rattle.std.proofs.Common.{◌≡◌, vec_capacity}
 use Rattle.viz_actor.specs.Runs.{ports_of}
 use Rattle.viz_actor.proofs.seating.unseat.Given as goal
 
