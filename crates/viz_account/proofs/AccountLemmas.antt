@@ -64,7 +64,8 @@ tells_more : (limit : ℕ) (h more : List Entry) (ps : List ℕ) (n : ℕ) (o : 
     → Tells limit h ps n o l calls → Tells limit (h ++ more) ps n o l calls
 tells_more limit h more ps n (edit e) l calls b t = (edit_more limit h more ps n e l b t.0, t.1)
 tells_more limit h more ps n (load node file) l calls b t = load_more limit h more ps n node file l calls b t
-tells_more limit h more ps n (update node file pieces workers) l calls b t = subst (λ g. TellsUpdate g n node file pieces l calls) (network_more h more n b) t
+tells_more limit h more ps n (update node file pieces workers) l calls b t =
+    subst (λ g. TellsUpdate g n node file pieces l calls) (network_more h more n b) t
 tells_more limit h more ps n (audit node pieces workers) l calls b t = (subst (λ g. TellsAudit g n node l) (network_more h more n b) t.0, t.1)
 
 -- an account holds of each longer history

@@ -42,9 +42,11 @@ scratch_stopped net id (stop.Fault f) a = (Err f, a, refl)
 scratch_stopped net id stop.Memory a = tt
 
 -- a stop of the writing
-pub text_stopped : (net : Network) (id : ℕ) (d : Dataset) (style : Style) (s : Stop) → IsScratch net id (Ok d) → style ≡ style_of (cone_of net id)
+pub text_stopped : (net : Network) (id : ℕ) (d : Dataset) (style : Style) (s : Stop)
+    → IsScratch net id (Ok d) → style ≡ style_of (cone_of net id)
     → Answers (IsTextOf style id d) (Err s) → Makes net id (Err s)
-text_stopped net id d style (stop.Fault f) given is a = (Ok d, given, subst (λ t. IsTextOf t id d (Err f)) is a)
+text_stopped net id d style (stop.Fault f) given is a =
+    (Ok d, given, subst (λ t. IsTextOf t id d (Err f)) is a)
 text_stopped net id d style stop.Memory given is a = tt
 
 -- the node that was found by its name
@@ -63,29 +65,39 @@ stopped_missing net node x stop.Memory missing.Unknown there made t = absurd t
 stopped_missing net node x stop.Memory missing.Memory there made t = tt
 
 -- a node that was found is there by its name
-pub named_by : (net : Network) (node : List ℕ) (id : NodeId) → option_map (λ (n : Node). n.id) (named net node) ≡ Some id → IsNamed net node id.0
+pub named_by : (net : Network) (node : List ℕ) (id : NodeId)
+    → option_map (λ (n : Node). n.id) (named net node) ≡ Some id → IsNamed net node id.0
 named_by net node id p =
     let x = found (named net node) id p in
     record { found = x.0; there = x.1; same = ap (λ (i : NodeId). i.0) x.2 }
 
 -- without a file the line tells of the update, and the port isn't called
 module _ (Ran : ℕ → ℕ → Type 0) where
-  missing_update : (net : Network) (n : ℕ) (node file : List ℕ) (m : Missing) → IsMissing net node m → TellsFile Ran net n node file (line_of (without m n)) []
+  missing_update : (net : Network) (n : ℕ) (node file : List ℕ) (m : Missing) → IsMissing net node m
+      → TellsFile Ran net n node file (line_of (without m n)) []
   missing_update net n node file missing.Unknown t = (refl, t, refl)
   missing_update net n node file (missing.Fault fault name) t = (refl, t.0, t.1, refl)
   missing_update net n node file missing.Memory t = refl
 
-  pub not_called : {P : Type 0} (m : port.Ghosts P) (net : Network) (n : ℕ) (node file : List ℕ) (gone : Missing) (p : P)
+  pub not_called : {P : Type 0} (m : port.Ghosts P) (net : Network) (n : ℕ) (node file : List ℕ)
+      (gone : Missing) (p : P)
       → IsMissing net node gone → Writes m Ran net n node file (line_of (without gone n)) p p
   not_called m net n node file gone p t =
       record {
-        gained = ([], (λ tells. sym (append-nil (m.calls p))), missing_update net n node file gone t);
-        faults = subst (λ k. RoseBy k (m.faults p) (m.faults p)) (sym (no_fault n gone)) (rose_none (m.faults p));
+        gained = (
+          [],
+          (λ tells. sym (append-nil (m.calls p))),
+          missing_update net n node file gone t,
+        );
+        faults = subst (λ k. RoseBy k (m.faults p) (m.faults p)) (sym (no_fault n gone))
+            (rose_none (m.faults p));
       }
 
   -- a text that was written, or not, with its numbers
-  pub wrote : {P : Type 0} (m : port.Ghosts P) (net : Network) (n : ℕ) (node file : List ℕ) (x : Node) (made : Made) (ran : ℕ) (a : Answer) (p q : P)
-      → named net node ≡ Some x → IsWritten net x.id.0 made.text made.cells made.points → Ran x.id.0 ran
+  pub wrote : {P : Type 0} (m : port.Ghosts P) (net : Network) (n : ℕ) (node file : List ℕ)
+      (x : Node) (made : Made) (ran : ℕ) (a : Answer) (p q : P)
+      → named net node ≡ Some x → IsWritten net x.id.0 made.text made.cells made.points
+      → Ran x.id.0 ran
       → WritesText m file made ran n a p q → Writes m Ran net n node file (line_of a) p q
   wrote m net n node file x made ran (answer.Written at cells points tasks) p q there is has t =
       record {
@@ -98,7 +110,8 @@ module _ (Ran : ℕ → ℕ → Type 0) where
               x,
               made.text,
               there,
-              subst (λ c. IsWritten net x.id.0 made.text c points) (sym t.1) (subst (λ c. IsWritten net x.id.0 made.text made.cells c) (sym t.2) is),
+              subst (λ c. IsWritten net x.id.0 made.text c points) (sym t.1)
+                  (subst (λ c. IsWritten net x.id.0 made.text made.cells c) (sym t.2) is),
               subst (Ran x.id.0) (sym t.3) has,
               refl,
             ),
@@ -108,25 +121,33 @@ module _ (Ran : ℕ → ℕ → Type 0) where
       }
   wrote m net n node file x made ran (answer.WriteFault at) p q there is has t =
       record {
-        gained = (Write file made.text write.Failed ∷ [], t.2, (x, made.text, there, is.file, refl));
+        gained = (
+          Write file made.text write.Failed ∷ [],
+          t.2,
+          (x, made.text, there, is.file, refl),
+        );
         faults = t.1;
       }
-  wrote m net n node file x made ran answer.Memory p q there is has t = record { gained = ([], t.1, refl); faults = t.0 }
+  wrote m net n node file x made ran answer.Memory p q there is has t =
+      record { gained = ([], t.1, refl); faults = t.0 }
   wrote m net n node file x made ran (answer.Unknown at) p q there is has t = absurd t
   wrote m net n node file x made ran (answer.Network fault name at) p q there is has t = absurd t
 
 -- ---- the parts of an update
 
 -- a node that has a file has parts
-pub file_hands : (net : Network) (node : List ℕ) (id : ℕ) (m : Made) (a : Answer) (o : Option UpdateParts) → IsNamed net node id
+pub file_hands : (net : Network) (node : List ℕ) (id : ℕ) (m : Made) (a : Answer)
+    (o : Option UpdateParts) → IsNamed net node id
     → HasParts net id (Ok m) o → HandsOut net node a o
 file_hands net node id m a None named h = absurd h
 file_hands net node id m a (Some parts) named h = (subst (IsNamed net node) (sym h.0) named, h.1)
 
 -- a node that has none may have parts; without a dataset it hasn't
-pub stop_hands : (net : Network) (node : List ℕ) (id n : ℕ) (s : Stop) (m : Missing) (o : Option UpdateParts) → IsNamed net node id
+pub stop_hands : (net : Network) (node : List ℕ) (id n : ℕ) (s : Stop) (m : Missing)
+    (o : Option UpdateParts) → IsNamed net node id
     → IsStop net s m → HasParts net id (Err s) o → HandsOut net node (without m n) o
-stop_hands net node id n s m (Some parts) named t h = (subst (IsNamed net node) (sym h.0) named, h.1)
+stop_hands net node id n s m (Some parts) named t h =
+    (subst (IsNamed net node) (sym h.0) named, h.1)
 stop_hands net node id n (stop.Fault f) (missing.Fault g name) None named t h =
     (id, named, subst (λ e. IsScratch net id (Err e)) (sym t.0) h)
 stop_hands net node id n (stop.Fault f) missing.Unknown None named t h = absurd t
@@ -136,12 +157,14 @@ stop_hands net node id n stop.Memory missing.Unknown None named t h = absurd t
 stop_hands net node id n stop.Memory missing.Memory None named t h = tt
 
 -- a stop of the plan is one of the file, and nothing is handed out
-pub plan_stopped : (net : Network) (id : ℕ) (s : Stop) → IsScratchStop net id s → Makes net id (Err s) × IsWithoutParts net id (Err s)
+pub plan_stopped : (net : Network) (id : ℕ) (s : Stop) → IsScratchStop net id s
+    → Makes net id (Err s) × IsWithoutParts net id (Err s)
 plan_stopped net id (stop.Fault f) h = ((Err f, h, refl), h)
 plan_stopped net id stop.Memory h = (tt, tt)
 
 -- how many tasks ran is the number of those of the plan
-pub plan_ran : (net : Network) (pieces id : ℕ) (entries : List Stored) (p : Produced) (file : Result Made Stop) → AreTrueIn net entries
+pub plan_ran : (net : Network) (pieces id : ℕ) (entries : List Stored) (p : Produced)
+    (file : Result Made Stop) → AreTrueIn net entries
     → IsByPlan net entries id pieces p → RanFor net pieces id file p.ran
 plan_ran net pieces id entries p (Ok m) kept by =
     record { entries = entries; told = by.told; kept = kept; are = by.are; number = by.by.number }

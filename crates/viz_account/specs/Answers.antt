@@ -42,7 +42,8 @@ at_of answer.Memory = None
 
 -- ---- the parts of an update by its plan
 
--- what is handed out to be kept: parts that are made in the network, where the node that was asked has a dataset
+-- what is handed out to be kept: parts that are made in the network, where the node that was asked
+-- has a dataset
 pub record GivesParts (net : Network) (parts : UpdateParts) : Type 0 where
   pub dataset : Dataset
   pub given : IsScratch net parts.sink.0 (Ok dataset)
@@ -54,10 +55,12 @@ pub record IsNamed (net : Network) (node : List ℕ) (id : ℕ) : Type 0 where
   pub there : named net node ≡ Some found
   pub same : found.id.0 ≡ id
 
--- an answer beside which nothing is handed out: the node is unknown, or has no dataset, or memory ran out
+-- an answer beside which nothing is handed out: the node is unknown, or has no dataset, or memory
+-- ran out
 abbrev pub HasNoParts : Network → List ℕ → Answer → Type 0
 HasNoParts net node (answer.Unknown at) = Unit {0}
-HasNoParts net node (answer.Network fault name at) = (id : ℕ) × IsNamed net node id × IsScratch net id (Err fault)
+HasNoParts net node (answer.Network fault name at) =
+    (id : ℕ) × IsNamed net node id × IsScratch net id (Err fault)
 HasNoParts net node answer.Memory = Unit {0}
 HasNoParts net node a = ⊥
 

@@ -55,13 +55,16 @@ TellsLoad limit h passes n node file line.Memory calls = ReadsAtMost file calls
 TellsLoad limit h passes n node file l calls =
     (bytes : List ℕ) × TellsEdit limit h passes n (edits.Load node bytes) l × (calls ≡ Read file (read.Given bytes) ∷ [])
 
--- an update of a network that n entries made, with what is said of a node and the number behind `ran`: the file of its node was written;
--- or its node is unknown; or has no file; or the write of its file failed
+-- an update of a network that n entries made, with what is said of a node and the number behind
+-- `ran`: the file of its node was written; or its node is unknown; or has no file; or the write of
+-- its file failed
 abbrev pub TellsFile : (ℕ → ℕ → Type 0) → Network → ℕ → List ℕ → List ℕ → Line → List Call → Type 0
 TellsFile Ran net n node file (line.File at cells points ran) calls =
-    (at ≡ n) × ((x : Node) × (text : List ℕ) × (named net node ≡ Some x) × IsWritten net x.id.0 text cells points × Ran x.id.0 ran
+    (at ≡ n) × ((x : Node) × (text : List ℕ) × (named net node ≡ Some x)
+    × IsWritten net x.id.0 text cells points × Ran x.id.0 ran
     × (calls ≡ Write file text write.Written ∷ []))
-TellsFile Ran net n node file (line.Refused reason.Unknown at) calls = (at ≡ n) × (named net node ≡ None) × (calls ≡ [])
+TellsFile Ran net n node file (line.Refused reason.Unknown at) calls =
+    (at ≡ n) × (named net node ≡ None) × (calls ≡ [])
 TellsFile Ran net n node file (line.Refused (reason.Fault fault name) at) calls =
     (at ≡ n) × ((x : Node) × (named net node ≡ Some x) × IsFileOf net x.id.0 (Err fault))
     × (name_of net fault.node.0 ≡ Some name) × (calls ≡ [])
@@ -89,5 +92,6 @@ TellsAudit net n node l = ⊥
 abbrev pub Tells : ℕ → List Entry → List ℕ → ℕ → Asked → Line → List Call → Type 0
 Tells limit h passes n (edit e) l calls = TellsEdit limit h passes n e l × (calls ≡ [])
 Tells limit h passes n (load node file) l calls = TellsLoad limit h passes n node file l calls
-Tells limit h passes n (update node file pieces workers) l calls = TellsUpdate (network_at h n) n node file pieces l calls
+Tells limit h passes n (update node file pieces workers) l calls =
+    TellsUpdate (network_at h n) n node file pieces l calls
 Tells limit h passes n (audit node pieces workers) l calls = TellsAudit (network_at h n) n node l × (calls ≡ [])

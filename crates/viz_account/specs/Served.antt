@@ -19,16 +19,19 @@ commands steps = map (λ s. seen s.order) steps
 abbrev pub Extends : List Entry → List Entry → Type 0
 Extends old new = (more : List Entry) × (new ≡ old ++ more)
 
--- an update of a node of this network, which n entries made, with what is said of the number behind `ran`: what its line says, and what
--- the port gained
-pub record Writes {P : Type 0} (m : port.Ghosts P) (Ran : ℕ → ℕ → Type 0) (net : Network) (n : ℕ) (node file : List ℕ) (l : Line)
-    (before after : P) : Type 0 where
-  pub gained : (mine : List Call) × (IsTrue m.tells_calls → m.calls after ≡ m.calls before ++ mine) × TellsFile Ran net n node file l mine
+-- an update of a node of this network, which n entries made, with what is said of the number behind
+-- `ran`: what its line says, and what the port gained
+pub record Writes {P : Type 0} (m : port.Ghosts P) (Ran : ℕ → ℕ → Type 0) (net : Network) (n : ℕ)
+    (node file : List ℕ) (l : Line) (before after : P) : Type 0 where
+  pub gained : (mine : List Call) × (IsTrue m.tells_calls → m.calls after ≡ m.calls before ++ mine)
+      × TellsFile Ran net n node file l mine
   pub faults : RoseBy (faults_told (l ∷ [])) (m.faults before) (m.faults after)
 
 -- so of an update in so many pieces, by its plan
-abbrev pub Updates : {P : Type 0} → port.Ghosts P → Network → ℕ → List ℕ → List ℕ → ℕ → Line → P → P → Type 0
-Updates m net n node file pieces l before after = Writes m (HasRan net pieces) net n node file l before after
+abbrev pub Updates : {P : Type 0} → port.Ghosts P → Network → ℕ → List ℕ → List ℕ → ℕ → Line
+    → P → P → Type 0
+Updates m net n node file pieces l before after =
+    Writes m (HasRan net pieces) net n node file l before after
 
 -- one command by a pass: entries that it has seen before and after, its line, and what the port gained
 pub record Serves {P : Type 0} (m : port.Ghosts P) (limit pass : ℕ) (o : Asked) (l : Line) (old new : List Entry)

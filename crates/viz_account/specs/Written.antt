@@ -15,14 +15,15 @@ pub record IsWritten (net : Network) (id : ℕ) (text : List ℕ) (cells points 
   pub file : IsFileOf net id (Ok text)
   pub counts : HasCounts net id cells points
 
--- so many tasks has the plan of an update of the sink in so many pieces, by what is told of the network and some entries that are true
--- in it
+-- so many tasks has the plan of an update of the sink in so many pieces, by what is told of the
+-- network and some entries that are true in it
 pub record HasRan (net : Network) (pieces sink ran : ℕ) : Type 0 where
   pub entries : List Stored
   pub told : List Told
   pub kept : AreTrueIn net entries
   pub are : AreTold net sink told
-  pub number : ran ≡ length (plan_of (known_with net told entries) sink (requests_of (extent_told told sink) pieces))
+  pub number : ran
+      ≡ length (plan_of (known_with net told entries) sink (requests_of (extent_told told sink) pieces))
 
 -- no task of a plan ran, since there is none
 abbrev pub HasNoPlan : ℕ → ℕ → Type 0

@@ -50,7 +50,15 @@ module _ {P : Type 0} (m : port.Ghosts P) (limit : ℕ) (steps : List Step) wher
   joined hub before actor (k ∷ ks) (ls ∷ lines) (s ∷ ss) [] root end d j = absurd d
   joined hub before actor (k ∷ ks) (ls ∷ lines) (s ∷ ss) (n ∷ ns) root end d j =
       let o = d.0 in
-      let q : PassKnown = record { turn = hub; number = k; ended = []; born = []; seen = o.seen; sent = o.sent; last = o.last } in
+      let q : PassKnown = record {
+        turn = hub;
+        number = k;
+        ended = [];
+        born = [];
+        seen = o.seen;
+        sent = o.sent;
+        last = o.last;
+      } in
       let is : j.0 ≡ q = ap (known_or q) (sym j.2 ∙ o.pass) in
       let mid = j.1 in
       let mid_is : mid ≡ one root q = j.3 ∙ ap (one root) is in

@@ -99,7 +99,15 @@ pub record OneDid {P : Type 0} (m : port.Ghosts P) (limit : ℕ) (steps : List S
   pub seen : List Entry
   pub sent : ℕ
   pub last : Option Sent
-  pub pass : n.pass ≡ Some (record { turn = hub; number = k; ended = []; born = []; seen = seen; sent = sent; last = last })
+  pub pass : n.pass ≡ Some (record {
+    turn = hub;
+    number = k;
+    ended = [];
+    born = [];
+    seen = seen;
+    sent = sent;
+    last = last;
+  })
   pub fresh : clear by_of (k ∷ []) before ≡ true
   pub added : n.lines.items ≡ s.lines.items ++ lines
   pub served : ServesAll m limit k (commands_of actor steps) lines before seen s.port n.port
@@ -114,7 +122,10 @@ module _ {P : Type 0} (m : port.Ghosts P) (limit : ℕ) (steps : List Step) wher
   Did hub before actor ks lines ss ns = ⊥
 
   served_by : (p : PassKnown) (s n : Place P) (o : Option PassKnown) → n.pass ≡ o → PassServed m limit steps (Some p) o s n
-      → (seen : List Entry) × (sent : ℕ) × (last : Option Sent) × (n.pass ≡ Some (with_sent sent last (turn.at_seen (as_known p) seen))) × AddsLines m limit p.number (commands_of s.actor steps) s.lines.items n.lines.items p.seen seen s.port n.port
+      → (seen : List Entry) × (sent : ℕ) × (last : Option Sent)
+      × (n.pass ≡ Some (with_sent sent last (turn.at_seen (as_known p) seen)))
+      × AddsLines m limit p.number (commands_of s.actor steps) s.lines.items n.lines.items
+      p.seen seen s.port n.port
   served_by p s n None e h = absurd h
   served_by p s n (Some q) e h = (q.seen, q.sent, q.last, e ∙ ap Some h.0, h.1)
 
@@ -123,7 +134,18 @@ module _ {P : Type 0} (m : port.Ghosts P) (limit : ℕ) (steps : List Step) wher
   one_did root actor k s n fresh h =
       let o = served_by (younger k root) (with_pass s actor (younger k root)) n n.pass refl h.served in (
         o.4.lines,
-        record { seen = o.0; sent = o.1; last = o.2; pass = o.3; fresh = fresh.entries; added = o.4.added; served = o.4.served; capacity = h.capacity; told = h.told; actor_is = h.actor },
+        record {
+          seen = o.0;
+          sent = o.1;
+          last = o.2;
+          pass = o.3;
+          fresh = fresh.entries;
+          added = o.4.added;
+          served = o.4.served;
+          capacity = h.capacity;
+          told = h.told;
+          actor_is = h.actor;
+        },
       )
 
   pub did : (actor : ℕ) (root : PassKnown) (old mid new : List (Place P)) (r : PassKnown) (h : Splits actor root old mid r) → EachServed m limit steps mid new → length new ≡ length mid

@@ -130,7 +130,9 @@ edits_told p e new answer.Memory h =
 -- ---- updates and audits
 
 -- their lines tell of no entry
-quiet_update : (net : Network) (n : ℕ) (node file : List ℕ) (pieces : ℕ) (l : Line) (calls : List Call) → TellsUpdate net n node file pieces l calls → (edited l ≡ []) × ((k : ℕ) → least k l ≡ k)
+quiet_update : (net : Network) (n : ℕ) (node file : List ℕ) (pieces : ℕ) (l : Line)
+    (calls : List Call) → TellsUpdate net n node file pieces l calls
+    → (edited l ≡ []) × ((k : ℕ) → least k l ≡ k)
 quiet_update net n node file pieces (line.File at cells points ran) calls t = (refl, (λ k. refl))
 quiet_update net n node file pieces (line.Refused r at) calls t = (refl, (λ k. refl))
 quiet_update net n node file pieces line.WriteFault calls t = (refl, (λ k. refl))
@@ -185,7 +187,8 @@ module _ {P : Type 0} (m : port.Ghosts P) (p : PassKnown) (h : List Entry) (on :
 -- ---- updates
 
 -- the same pass, whatever it published
-pub same_but : (old new : PassKnown) (sent : ℕ) (last : Option Sent) → new ≡ with_sent sent last (turn.at_seen (as_known old) new.seen)
+pub same_but : (old new : PassKnown) (sent : ℕ) (last : Option Sent)
+    → new ≡ with_sent sent last (turn.at_seen (as_known old) new.seen)
     → IsSamePass old new
 same_but old new sent last e =
     let known = turn.at_seen (as_known old) new.seen in
@@ -197,22 +200,29 @@ pub same_seen : (old new : PassKnown) → new ≡ at_seen old new.seen → IsSam
 same_seen old new e = same_but old new old.sent old.last e
 
 pub same_still : (p q r : PassKnown) → IsSamePass p q → IsSamePass q r → IsSamePass p r
-same_still p q r first then = then ∙ ap (λ (k : PassKnown). with_sent r.sent r.last (turn.at_seen (as_known k) r.seen)) first
+same_still p q r first then =
+    then ∙ ap (λ (k : PassKnown). with_sent r.sent r.last (turn.at_seen (as_known k) r.seen)) first
 
 -- a pass that was pinned, and published what was handed out
 module _ (old new : PassKnown) (pinned : List Entry) (shape : Shape) where
-  pub handed_same : (o : Option UpdateParts) → Publishes pinned shape o (at_seen old pinned) new → IsSamePass old new
+  pub handed_same : (o : Option UpdateParts) → Publishes pinned shape o (at_seen old pinned) new
+      → IsSamePass old new
   handed_same None h =
-      same_but old new old.sent old.last (h ∙ ap (λ l. at_seen old l) (sym (ap (λ (q : PassKnown). q.seen) h)))
-  handed_same (Some parts) h = same_but old new ((old.sent + 1) % 2 ^ 64) (Some (publication pinned parts.sink shape)) h.same
+      same_but old new old.sent old.last
+      (h ∙ ap (λ l. at_seen old l) (sym (ap (λ (q : PassKnown). q.seen) h)))
+  handed_same (Some parts) h =
+      same_but old new ((old.sent + 1) % 2 ^ 64) (Some (publication pinned parts.sink shape)) h.same
 
-  pub handed_further : (o : Option UpdateParts) → Publishes pinned shape o (at_seen old pinned) new → GoesOn by_of (numbers old) pinned new.seen
+  pub handed_further : (o : Option UpdateParts) → Publishes pinned shape o (at_seen old pinned) new
+      → GoesOn by_of (numbers old) pinned new.seen
   handed_further None h =
-      subst (λ (l : List Entry). GoesOn by_of (numbers old) pinned l) (sym (ap (λ (q : PassKnown). q.seen) h)) (all_of_it by_of (numbers old) pinned)
+      subst (λ (l : List Entry). GoesOn by_of (numbers old) pinned l)
+      (sym (ap (λ (q : PassKnown). q.seen) h)) (all_of_it by_of (numbers old) pinned)
   handed_further (Some parts) h = h.further
 
 -- an update for which memory was wanting before the pass was pinned
-pub update_nothing : {P : Type 0} (m : port.Ghosts P) (node file : List ℕ) (shape : Shape) (old new : PassKnown) (q : P) → Looks old new
+pub update_nothing : {P : Type 0} (m : port.Ghosts P) (node file : List ℕ) (shape : Shape)
+    (old new : PassKnown) (q : P) → Looks old new
     → IsUpdate m node file shape answers.Memory old new q q
 update_nothing m node file shape old new q looks =
     record {
@@ -220,26 +230,34 @@ update_nothing m node file shape old new q looks =
       parts = None;
       further = looks.further;
       at = tt;
-      updates = record { gained = ([], (λ tells. sym (append-nil (m.calls q))), refl); faults = rose_none (m.faults q) };
+      updates = record {
+        gained = ([], (λ tells. sym (append-nil (m.calls q))), refl);
+        faults = rose_none (m.faults q);
+      };
       hands = tt;
       publishes = looks.same;
     }
 
 -- the network of the entries in front of others
-network_front : (pinned rest h : List Entry) → h ≡ pinned ++ rest → network_of (take (length pinned) h) ≡ network_of pinned
+network_front : (pinned rest h : List Entry) → h ≡ pinned ++ rest
+    → network_of (take (length pinned) h) ≡ network_of pinned
 network_front pinned rest h is =
     ap (λ (t : List Entry). network_of (take (length pinned) t)) is
-    ∙ ap network_of (take-append-le (length pinned) pinned rest (omega arith)) ∙ whole_network pinned
+    ∙ ap network_of (take-append-le (length pinned) pinned rest (omega arith))
+    ∙ whole_network pinned
 
 -- an update of the network of what the pass was pinned with
-pub serves_update : {P : Type 0} (m : port.Ghosts P) (p new : PassKnown) (node file : List ℕ) (shape : Shape) (a : Answer) (before after : P)
+pub serves_update : {P : Type 0} (m : port.Ghosts P) (p new : PassKnown) (node file : List ℕ)
+    (shape : Shape) (a : Answer) (before after : P)
     → GoesFurther p new.seen → IsUpdate m node file shape a p new before after
-    → Serves m p.turn.mark p.number (update node file shape.pieces shape.workers) (line_of a) p.seen new.seen before after
+    → Serves m p.turn.mark p.number (update node file shape.pieces shape.workers) (line_of a) p.seen
+    new.seen before after
 serves_update m p new node file shape a before after on u =
     let n = length u.pinned in
     let l = line_of a in
     let calls = u.updates.gained.0 in
-    let still = quiet_update (network_of u.pinned) n node file shape.pieces l calls u.updates.gained.2 in
+    let still = quiet_update (network_of u.pinned) n node file shape.pieces l calls
+    u.updates.gained.2 in
     let t = looked p new.seen on in
     let up = looked p u.pinned u.further in
     let behind = handed_further p new u.pinned shape u.parts u.publishes in
@@ -250,7 +268,8 @@ serves_update m p new node file shape a before after on u =
         n,
         calls,
         u.updates.gained.1,
-        subst (λ g. TellsUpdate g n node file shape.pieces l calls) (sym (network_front u.pinned behind.0 new.seen behind.1)) u.updates.gained.2,
+        subst (λ g. TellsUpdate g n node file shape.pieces l calls)
+            (sym (network_front u.pinned behind.0 new.seen behind.1)) u.updates.gained.2,
         omega (arith, still.1 (length p.seen), up.2),
         omega (arith, ap length behind.1, length-append u.pinned behind.0),
       );

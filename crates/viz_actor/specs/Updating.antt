@@ -17,19 +17,23 @@ use Rattle.viz_account.specs.declared.parts.UpdateParts.{UpdateParts}
 abbrev pub IsSamePass : PassKnown → PassKnown → Type 0
 IsSamePass old new = new ≡ with_sent new.sent new.last (turn.at_seen (as_known old) new.seen)
 
--- what was handed out is published, in this shape, as made in the network of these entries; without it the pass is as it was
+-- what was handed out is published, in this shape, as made in the network of these entries; without
+-- it the pass is as it was
 abbrev pub Publishes : List Entry → Shape → Option UpdateParts → PassKnown → PassKnown → Type 0
 Publishes pinned shape None old new = new ≡ old
-Publishes pinned shape (Some parts) old new = Sends (publication pinned parts.sink shape) old new
+Publishes pinned shape (Some parts) old new =
+    Sends (publication pinned parts.sink shape) old new
 
--- an update of a node by a pass: it was pinned with a history that goes further than it had seen; what the answer tells, what the port
--- gained, and what was handed out, are those of an update of the network of that history; and what was handed out is published
-pub record IsUpdate {P : Type 0} (m : port.Ghosts P) (node file : List ℕ) (shape : Shape) (a : Answer) (old new : PassKnown)
-    (before after : P) : Type 0 where
+-- an update of a node by a pass: it was pinned with a history that goes further than it had seen;
+-- answer, calls, and what was handed out are those of an update of the network of that history; and
+-- what was handed out is published
+pub record IsUpdate {P : Type 0} (m : port.Ghosts P) (node file : List ℕ) (shape : Shape)
+    (a : Answer) (old new : PassKnown) (before after : P) : Type 0 where
   pub pinned : List Entry
   pub parts : Option UpdateParts
   pub further : GoesFurther old pinned
   pub at : IfSome (at_of a) (λ n. n ≡ length pinned)
-  pub updates : Updates m (network_of pinned) (length pinned) node file shape.pieces (line_of a) before after
+  pub updates : Updates m (network_of pinned) (length pinned) node file shape.pieces (line_of a)
+      before after
   pub hands : HandsOut (network_of pinned) node a parts
   pub publishes : Publishes pinned shape parts (at_seen old pinned) new

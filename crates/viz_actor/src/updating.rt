@@ -113,8 +113,8 @@ pub fn update<R: Threads + Wait + Sync, P: Port, G: Gate + Sync>(
 }
 
 /// Counts the sides of the surface of a node in the network of the history up to now, as `update`
-/// has it, evaluated from scratch behind the gate, which is entered once, with task 0. A node that is no contour on an image is refused as WrongInput(1), behind the faults of
-/// its evaluation.
+/// has it, evaluated from scratch behind the gate, which is entered once, with task 0. A node that
+/// is no contour on an image is refused as WrongInput(1), behind the faults of its evaluation.
 pub fn audit_node<R: Threads + Wait + Sync, G: Gate + Sync>(
     rt: &R,
     alloc: Global,

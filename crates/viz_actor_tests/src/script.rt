@@ -52,8 +52,8 @@ fn serve<R: Threads + Wait + Sync>(
 
 #[test]
 fn a_second_phase_begins_behind_the_first(rt: HostRuntime) -> Result<(), Fail> {
-    // second-phase-update; the second actor's read fails, and only its own line tells it. Nothing is
-    // kept, so that each update runs its task, whoever comes first
+    // second-phase-update; the second actor's read fails, and only its own line tells it. Nothing
+    // is kept, so that each update runs its task, whoever comes first
     let alloc = rt.alloc();
     let mut ports = Vec::new(alloc);
     ports.push(port(alloc, None)?)?;

@@ -117,25 +117,6 @@ fn a_full_history_still_answers(rt: HostRuntime) -> Result<(), Fail> {
     Ok(())
 }
 
-// The edits that make the corner's contour at 5, and a contour that stands on nothing.
-fn surface(alloc: Global) -> Result<Vec<Edit>, Fail> {
-    let src = word("src")?;
-    let iso = word("iso")?;
-    let wire = Edit::Connect {
-        from: src,
-        to: iso,
-        port: 1,
-    };
-    Ok(vec![in alloc;
-        addition(Kind::File, src),
-        loading(alloc, src)?,
-        addition(Kind::Contour, iso),
-        wire,
-        level(iso, 5),
-        addition(Kind::Contour, word("bare")?),
-    ]?)
-}
-
 fn level(node: Word, level: i64) -> Edit {
     Edit::Set {
         node,
@@ -147,17 +128,27 @@ fn level(node: Word, level: i64) -> Edit {
     }
 }
 
-// Makes the edits.
-fn edit_all<R: Wait>(rt: &R, hub: &Hub, pass: Pass, edits: Vec<Edit>) -> Pass
+// Makes the corner's contour at 5, and a contour that stands on nothing.
+fn surface<R: Wait>(rt: &R, alloc: Global, hub: &Hub, pass: Pass) -> Result<Pass, Fail>
     requires belongs { pass.turn ≡ hub.now }
-    ensures pass { result.turn ≡ hub.now }
+    ensures pass { IfOk result (λ p. p.turn ≡ hub.now) }
 {
-    let mut pass = pass;
-    for change in edits {
-        let (after, _) = edit(rt, hub, pass, change);
-        pass = after;
-    }
-    pass
+    let src = word("src")?;
+    let iso = word("iso")?;
+    let bare = word("bare")?;
+    let file = loading(alloc, src)?;
+    let wire = Edit::Connect {
+        from: src,
+        to: iso,
+        port: 1,
+    };
+    let (pass, _) = edit(rt, hub, pass, addition(Kind::File, src));
+    let (pass, _) = edit(rt, hub, pass, file);
+    let (pass, _) = edit(rt, hub, pass, addition(Kind::Contour, iso));
+    let (pass, _) = edit(rt, hub, pass, wire);
+    let (pass, _) = edit(rt, hub, pass, level(iso, 5));
+    let (pass, _) = edit(rt, hub, pass, addition(Kind::Contour, bare));
+    Ok(pass)
 }
 
 // Of an update: how many tasks ran, if the file was written; how often the pass has published; and
@@ -182,24 +173,36 @@ fn an_update_publishes_where_its_node_has_a_dataset(rt: HostRuntime) -> Result<(
     let alloc = rt.alloc();
     let iso = word("iso")?;
     let (hub, pass) = begin(alloc, 100)?;
-    let pass = edit_all(&rt, &hub, pass, surface(alloc)?);
+    let pass = surface(&rt, alloc, &hub, pass)?;
     let failing = FailAt { call: 3, kept: 0 };
     let failing = vec![in alloc; failing]?;
     let mut port = MemoryPort::new(alloc, Vec::new(alloc), FILE_LIMIT, failing);
     let (pass, one) = write(&rt, alloc, &hub, pass, &iso, &mut port);
-    assert_eq!(rt; told(&one, pass.sent(), pass.last()), (Some(2), 1, Some((6, 1))));
+    assert_eq!(rt;
+        told(&one, pass.sent(), pass.last()),
+        (Some(2), 1, Some((6, 1)))
+    );
     let (pass, again) = write(&rt, alloc, &hub, pass, &iso, &mut port);
-    assert_eq!(rt; told(&again, pass.sent(), pass.last()), (Some(0), 2, Some((6, 1))));
+    assert_eq!(rt;
+        told(&again, pass.sent(), pass.last()),
+        (Some(0), 2, Some((6, 1)))
+    );
     let (pass, none) = write(&rt, alloc, &hub, pass, &word("none")?, &mut port);
     assert_eq!(rt; none, Answer::Unknown { at: 6 });
     let (pass, bare) = write(&rt, alloc, &hub, pass, &word("bare")?, &mut port);
-    assert_eq!(rt; told(&bare, pass.sent(), pass.last()), (None, 2, Some((6, 1))));
+    assert_eq!(rt;
+        told(&bare, pass.sent(), pass.last()),
+        (None, 2, Some((6, 1)))
+    );
     let (pass, _) = edit(&rt, &hub, pass, level(iso, 10));
     let (pass, unwritten) = write(&rt, alloc, &hub, pass, &iso, &mut port);
     assert_eq!(rt; unwritten, Answer::WriteFault { at: 7 });
     assert_eq!(rt; (pass.sent(), port.file("o.vtk").is_some()), (3, true));
     let (pass, last) = write(&rt, alloc, &hub, pass, &iso, &mut port);
-    assert_eq!(rt; told(&last, pass.sent(), pass.last()), (Some(0), 4, Some((7, 1))));
+    assert_eq!(rt;
+        told(&last, pass.sent(), pass.last()),
+        (Some(0), 4, Some((7, 1)))
+    );
     Ok(())
 }
 

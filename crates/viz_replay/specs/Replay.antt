@@ -49,10 +49,13 @@ IsRefusal (read.TooLong taken) line r = (line ≡ 0) × (r ≡ refusal.TooLong)
 IsRefusal (read.Given bytes) line r = journal_read bytes ≡ Err (line, r)
 IsRefusal read.Failed line r = ⊥
 
--- the first port was used for an update of the sink, without a plan, on the network of the journal's first entries, and no other was
+-- the first port was used for an update of the sink, without a plan, on the network of the
+-- journal's first entries, and no other was
 abbrev pub IsUpdated : {P : Type 0} → port.Ghosts P → Replay → List JournalEntry → Line → List P → List P → Type 0
 IsUpdated m c entries line old new =
-    FirstOnly (Writes m HasNoPlan (network_at c.count entries) (entries_at c.count entries) c.sink c.output line) old new
+    FirstOnly
+    (Writes m HasNoPlan (network_at c.count entries) (entries_at c.count entries) c.sink c.output line)
+    old new
 
 -- how a run ended whose read was answered so, and what was done at the ports: they are called only for a journal
 abbrev pub IsEndOfReplay : {P : Type 0} → port.Ghosts P → Replay → Option ReadAnswer → Came → List P → List P → Type 0

@@ -41,7 +41,8 @@ IsStop net s m = ⊥
 
 -- the text of the file of the node of this name, with its numbers, or why there is none
 abbrev pub MakesNamed : Network → List ℕ → Result Made Missing → Type 0
-MakesNamed net node (Ok m) = (x : Node) × (named net node ≡ Some x) × IsWritten net x.id.0 m.text m.cells m.points
+MakesNamed net node (Ok m) =
+    (x : Node) × (named net node ≡ Some x) × IsWritten net x.id.0 m.text m.cells m.points
 MakesNamed net node (Err m) = IsMissing net node m
 
 -- ---- by a plan
@@ -71,13 +72,18 @@ pub record IsPlanned (net : Network) (pieces id : ℕ) (p : Planned) : Type 0 wh
 -- ---- the write of a file
 
 -- the port gained one call, which wrote the text, or failed, or memory ran out before it
-abbrev pub WritesText : {P : Type 0} → port.Ghosts P → List ℕ → Made → ℕ → ℕ → Answer → P → P → Type 0
+abbrev pub WritesText : {P : Type 0} → port.Ghosts P → List ℕ → Made → ℕ → ℕ → Answer → P → P
+    → Type 0
 WritesText m file made ran n (answer.Written at cells points tasks) before after =
-    (at ≡ n) × (cells ≡ made.cells) × (points ≡ made.points) × (tasks ≡ ran) × RoseBy 0 (m.faults before) (m.faults after)
-    × (IsTrue m.tells_calls → m.calls after ≡ m.calls before ++ Write file made.text write.Written ∷ [])
+    (at ≡ n) × (cells ≡ made.cells) × (points ≡ made.points) × (tasks ≡ ran)
+    × RoseBy 0 (m.faults before) (m.faults after)
+    × (IsTrue m.tells_calls
+    → m.calls after ≡ m.calls before ++ Write file made.text write.Written ∷ [])
 WritesText m file made ran n (answer.WriteFault at) before after =
     (at ≡ n) × RoseBy 1 (m.faults before) (m.faults after)
-    × (IsTrue m.tells_calls → m.calls after ≡ m.calls before ++ Write file made.text write.Failed ∷ [])
+    × (IsTrue m.tells_calls
+    → m.calls after ≡ m.calls before ++ Write file made.text write.Failed ∷ [])
 WritesText m file made ran n answer.Memory before after =
-    RoseBy 0 (m.faults before) (m.faults after) × (IsTrue m.tells_calls → m.calls after ≡ m.calls before ++ [])
+    RoseBy 0 (m.faults before) (m.faults after)
+    × (IsTrue m.tells_calls → m.calls after ≡ m.calls before ++ [])
 WritesText m file made ran n a before after = ⊥

@@ -6,6 +6,8 @@ use Rattle.viz_account.proofs.made.file_by.Goals as goal
 
 pub returns-in-Err : goal.returns-in-Err
 returns-in-Err c =
-    let is : style_seen c.style_with-style.result ≡ style_of (cone_of c.args.net.now c.args.node.0) = search rules in
-    text_stopped c.args.net.now c.args.node.0 c.args.dataset.now (style_seen c.style_with-style.result) c.in-Err.stop c.requires.given
+    let style = c.style_with-style.result in
+    let is : style_seen style ≡ style_of (cone_of c.args.net.now c.args.node.0) = search rules in
+    text_stopped c.args.net.now c.args.node.0 c.args.dataset.now
+    (style_seen style) c.in-Err.stop c.requires.given
     is c.in-Err.ensures.value

@@ -11,13 +11,15 @@ returns c =
     let dataset = c.args.produced.dataset in
     record {
       file = c.file_by-file.ensures;
-      ran = plan_ran net c.args._shape.now.pieces c.args.sink.0 c.args._entries.now c.args.produced c.file_by-file.result
+      ran = plan_ran net c.args._shape.now.pieces c.args.sink.0 c.args._entries.now c.args.produced
+          c.file_by-file.result
           c.requires.entries c.requires.plan;
       parts = (
         ap (λ (i : NodeId). i.0) sink,
         record {
           dataset = dataset;
-          given = subst (λ (i : NodeId). IsScratch net i.0 (Ok dataset)) (sym sink) c.requires.given;
+          given = subst (λ (i : NodeId). IsScratch net i.0 (Ok dataset)) (sym sink)
+              c.requires.given;
           made = c.parts_of-parts.ensures.made;
         },
       );

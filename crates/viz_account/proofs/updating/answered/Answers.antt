@@ -13,7 +13,8 @@ returns-in-Ok-clause-updates g c =
     let named = c.requires.named in
     let made = c.in-Ok.made in
     let ran = c.args.planned.ran in
-    wrote (HasRan net pieces) g.P.Port net c.args.at c.args._node.now c.args.file.now named.found made ran c.write_made.result
+    wrote (HasRan net pieces) g.P.Port net c.args.at c.args._node.now c.args.file.now named.found
+    made ran c.write_made.result
     c.args.port.now c.write_made.new.port named.there
     (subst (λ i. IsWritten net i made.text made.cells made.points) (sym named.same)
     (subst (Makes net c.args._sink.0) c.in-Ok.is c.requires.planned.file))
@@ -33,7 +34,8 @@ returns-in-Err-clause-updates g c =
     let gone = stopped_missing net node named.found stop c.missing_of.result named.there
     (subst (λ i. Makes net i (Err stop)) (sym named.same)
     (subst (Makes net c.args._sink.0) c.in-Err.is c.requires.planned.file)) c.missing_of.ensures in
-    subst (λ a. Writes g.P.Port Ran net c.args.at node file (line_of a) port port) (sym c.without.ensures)
+    subst (λ a. Writes g.P.Port Ran net c.args.at node file (line_of a) port port)
+    (sym c.without.ensures)
     (not_called Ran g.P.Port net c.args.at node file c.missing_of.result port gone)
 
 pub returns-in-Err-clause-parts : goal.returns-in-Err-clause-parts
@@ -43,5 +45,6 @@ returns-in-Err-clause-parts g c =
     let id = c.args._sink.0 in
     let parts = c.args.planned.parts in
     subst (λ a. HandsOut net node a parts) (sym c.without.ensures)
-    (stop_hands net node id c.args.at c.in-Err.stop c.missing_of.result parts c.requires.named c.missing_of.ensures
+    (stop_hands net node id c.args.at c.in-Err.stop c.missing_of.result parts c.requires.named
+    c.missing_of.ensures
     (subst (λ f. HasParts net id f parts) c.in-Err.is c.requires.planned.parts))

@@ -21,7 +21,11 @@ returns-clause-serves g c =
     let after = c.update-pass.new.port in
     let answer = c.update-pass.result.1 in
     let named : c.in-Some.name.now ≡ c.args.file.now = search rules in
-    subst (λ limit. Serves m limit p.number asked c.line.result p.seen new.seen port after) (ap (λ t. t.mark) c.requires.belongs)
-    (subst (λ l. Serves m p.turn.mark p.number asked l p.seen new.seen port after) (sym c.line.ensures)
-    (serves_update m p new node c.args.file.now shape answer port after c.update-pass.ensures.further
-    (subst (λ f. IsUpdate m node f shape answer p new port after) named c.update-pass.ensures.updates)))
+    subst (λ limit. Serves m limit p.number asked c.line.result p.seen new.seen port after)
+    (ap (λ t. t.mark) c.requires.belongs)
+    (subst (λ l. Serves m p.turn.mark p.number asked l p.seen new.seen port after)
+    (sym c.line.ensures)
+    (serves_update m p new node c.args.file.now shape answer port after
+    c.update-pass.ensures.further
+    (subst (λ f. IsUpdate m node f shape answer p new port after) named
+    c.update-pass.ensures.updates)))

@@ -8,7 +8,8 @@ use Rattle.viz_actor.proofs.updating.update.Goals as goal
 
 pub returns-in-Err-clause-updates : goal.returns-in-Err-clause-updates
 returns-in-Err-clause-updates g c =
-    update_nothing g.P.Port c.args.sink.now c.args.file.now c.args.shape.now c.args.pass c.in-Err.pass c.args.port.now c.in-Err.ensures.err
+    update_nothing g.P.Port c.args.sink.now c.args.file.now c.args.shape.now c.args.pass
+    c.in-Err.pass c.args.port.now c.in-Err.ensures.err
 
 pub returns-clause-further : goal.returns-clause-further
 returns-clause-further g c =
@@ -18,5 +19,7 @@ returns-clause-further g c =
     let parts = c.update_pinned-answer.result.1 in
     let seen = c.in-Ok.pin.pass.seen in
     let looks = c.in-Ok.ensures.ok in
-    further_still by_of (numbers pass) (numbers pass) pass.seen seen new.seen (λ x h. h) looks.further
-    (handed_further pass new seen shape parts (subst (λ q. Publishes seen shape parts q new) looks.same c.hand_in.ensures))
+    further_still by_of (numbers pass) (numbers pass) pass.seen seen new.seen (λ x h. h)
+    looks.further
+    (handed_further pass new seen shape parts
+    (subst (λ q. Publishes seen shape parts q new) looks.same c.hand_in.ensures))
