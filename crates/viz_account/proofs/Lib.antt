@@ -6,6 +6,7 @@ mod OnceLemmas
 mod NumberLemmas
 mod AloneLemmas
 mod AuditLemmas
+mod CountLemmas
 mod GivenLemmas
 mod ContourLemmas
 mod CutLemmas

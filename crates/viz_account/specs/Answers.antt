@@ -64,6 +64,18 @@ HasNoParts net node (answer.Network fault name at) =
 HasNoParts net node answer.Memory = Unit {0}
 HasNoParts net node a = ⊥
 
+-- an audit beside which nothing is handed out, so
+abbrev pub HasNoAuditParts : Network → List ℕ → AuditAnswer → Type 0
+HasNoAuditParts net node (audit.Unknown at) = Unit {0}
+HasNoAuditParts net node (audit.Network fault name at) = (id : ℕ) × IsNamed net node id × IsScratch net id (Err fault)
+HasNoAuditParts net node audit.Memory = Unit {0}
+HasNoAuditParts net node a = ⊥
+
+-- what is handed out beside the answer of an audit
+abbrev pub AuditHandsOut : Network → List ℕ → AuditAnswer → Option UpdateParts → Type 0
+AuditHandsOut net node a None = HasNoAuditParts net node a
+AuditHandsOut net node a (Some parts) = IsNamed net node parts.sink.0 × GivesParts net parts
+
 -- what is handed out beside an answer
 abbrev pub HandsOut : Network → List ℕ → Answer → Option UpdateParts → Type 0
 HandsOut net node a None = HasNoParts net node a

@@ -27,7 +27,6 @@ pub use laws::{
     accounts_hold_later, audit_lines_are_closed, entries_are_told_once, lines_count_edits,
 };
 pub use parts::UpdateParts;
-pub use surface::audit_of;
 pub use surface_laws::{audits_are_closed, audits_are_one};
 pub use updating::{update, update_from_scratch, word_text};
 pub use viz_report::{Line, Reason};
