@@ -2,11 +2,11 @@
 //!
 //! Contract: an update and an audit of a network are answered as their lines in the account say. An
 //! update goes by its plan, writes what evaluation from scratch gives, and hands out parts to be
-//! kept; the same update from scratch makes no plan. The audit of a node counts the sides of the
-//! surface that a contour makes of an image, evaluated from scratch: what it counts is closed up to
-//! the boundary of the image's grid. Definitions:
-//! `specs/Account.antt`, `specs/Lines.antt`, `specs/Audited.antt`, `specs/SurfaceLaws.antt`; the
-//! rules are those of docs/FORMATS.md, "Report".
+//! kept; so does an audit, but for the write; the same update from scratch makes no plan. The audit
+//! of a node counts the sides of the surface that a contour makes of an image: what it counts is
+//! closed up to the boundary of the image's grid. Definitions: `specs/Account.antt`,
+//! `specs/Lines.antt`, `specs/Audited.antt`, `specs/SurfaceLaws.antt`; the rules are those of
+//! docs/FORMATS.md, "Report".
 #![tactic(auto)]
 
 mod answer;

@@ -27,17 +27,19 @@ use Rattle.viz_script.specs.Orders.{Asked, seen, load, update, audit}
 use Rattle.viz_report.specs.declared.line.Line.{Line}
 use Rattle.viz_report.specs.declared.line.Line.TheVariants as line
 use Rattle.viz_report.specs.declared.line.Reason.TheVariants as reason
-use Rattle.viz_account.specs.Answers.{line_of}
+use Rattle.viz_account.specs.Answers.{audit_line_of, line_of}
 use Rattle.viz_account.specs.Lines.{TellsUpdate, TellsAudit, Tells}
 use Rattle.viz_account.specs.Account.{edited, least, places_from, places, AreTold, faults_told, RoseBy}
 use Rattle.viz_account.specs.Served.{Extends, Serves, ServesAll}
 use Rattle.viz_account.specs.declared.answer.Answer.{Answer}
 use Rattle.viz_account.specs.declared.answer.Answer.TheVariants as answers
+use Rattle.viz_account.specs.declared.answer.AuditAnswer.{AuditAnswer}
+use Rattle.viz_account.specs.declared.answer.AuditAnswer.TheVariants as audits
 use Rattle.viz_account.specs.declared.parts.UpdateParts.{UpdateParts}
 use Rattle.viz_account.proofs.AccountLemmas.{rose_none, served_none, served_one, served_append}
 use Rattle.viz_account.proofs.HistoryLemmas.{take-all, slice_get-end, places_append_from, places_grow}
 use Rattle.viz_actor.specs.Serving.{commands_of, edit_line, AddsLines, Edits}
-use Rattle.viz_actor.specs.Updating.{IsSamePass, IsUpdate, Publishes}
+use Rattle.viz_actor.specs.Updating.{IsAudit, IsSamePass, IsUpdate, Publishes}
 
 -- ---- what others add
 
@@ -151,26 +153,6 @@ quiet_audit net n node line.ReadFault t = absurd t
 quiet_audit net n node line.WriteFault t = absurd t
 
 module _ {P : Type 0} (m : port.Ghosts P) (p : PassKnown) (h : List Entry) (on : GoesFurther p h) where
-  -- an audit of the network of what the pass has seen then, without a call
-  pub serves_audit : (node : List ℕ) (pieces workers : ℕ) (l : Line) (q : P) → TellsAudit (network_of h) (length h) node l
-      → Serves m p.turn.mark p.number (audit node pieces workers) l p.seen h q q
-  serves_audit node pieces workers l q told =
-      let still = quiet_audit (network_of h) (length h) node l told in
-      let t = looked p h on in
-      record {
-        further = t.0;
-        own = t.1 ∙ ap (λ e. places (p.number ∷ []) p.seen ++ e) (sym still.0);
-        gained = (
-          length h,
-          [],
-          (λ tells. sym (append-nil (m.calls q))),
-          (subst (λ g. TellsAudit g (length h) node l) (sym (whole_network h)) told, refl),
-          omega (arith, still.1 (length p.seen), t.2),
-          omega arith,
-        );
-        faults = subst (λ k. RoseBy k (m.faults q) (m.faults q)) (sym still.2) (rose_none (m.faults q));
-      }
-
   -- a load whose file was too long
   pub serves_too_long : (node file : List ℕ) (at taken : ℕ) (before after : P) → at ≡ length h
       → (IsTrue m.tells_calls → m.calls after ≡ m.calls before ++ Read file (read.TooLong taken) ∷ []) → RoseBy 0 (m.faults before) (m.faults after)
@@ -274,6 +256,52 @@ serves_update m p new node file shape a before after on u =
         omega (arith, ap length behind.1, length-append u.pinned behind.0),
       );
       faults = u.updates.faults;
+    }
+
+-- an audit for which memory was wanting before the pass was pinned
+pub audit_nothing : (node : List ℕ) (shape : Shape) (old new : PassKnown) → Looks old new
+    → IsAudit node shape audits.Memory old new
+audit_nothing node shape old new looks =
+    record {
+      pinned = new.seen;
+      parts = None;
+      further = looks.further;
+      at = tt;
+      tells = tt;
+      hands = tt;
+      publishes = looks.same;
+    }
+
+-- an audit of the network of what the pass was pinned with, without a call
+pub serves_audit : {P : Type 0} (m : port.Ghosts P) (p new : PassKnown) (node : List ℕ)
+    (shape : Shape) (a : AuditAnswer) (q : P)
+    → GoesFurther p new.seen → IsAudit node shape a p new
+    → Serves m p.turn.mark p.number (audit node shape.pieces shape.workers) (audit_line_of a)
+    p.seen new.seen q q
+serves_audit m p new node shape a q on u =
+    let n = length u.pinned in
+    let l = audit_line_of a in
+    let still = quiet_audit (network_of u.pinned) n node l u.tells in
+    let t = looked p new.seen on in
+    let up = looked p u.pinned u.further in
+    let behind = handed_further p new u.pinned shape u.parts u.publishes in
+    record {
+      further = t.0;
+      own = t.1 ∙ ap (λ e. places (p.number ∷ []) p.seen ++ e) (sym still.0);
+      gained = (
+        n,
+        [],
+        (λ tells. sym (append-nil (m.calls q))),
+        (
+          subst (λ g. TellsAudit g n node l)
+              (sym (network_front u.pinned behind.0 new.seen behind.1)) u.tells,
+          refl,
+        ),
+        omega (arith, still.1 (length p.seen), up.2),
+        omega (arith, ap length behind.1, length-append u.pinned behind.0),
+      );
+      faults = subst (λ k. RoseBy k (m.faults q) (m.faults q)) (sym still.2)
+          (rose_none (m.faults q));
     }
 
 -- a command for which memory was wanting before anything was done

@@ -1,4 +1,5 @@
--- What an update by a pass did, between the entries that it had seen before and has seen then
+-- What an update or an audit by a pass did, between the entries that it had seen before and
+-- has seen then
 -- (docs/DEFINITIONS.md, "The account of a script").
 use Rattle.std.specs.Prelude.{◌≡◌, ℕ, List, length, Option, None, Some, IfSome}
 use Rattle.viz_base.specs.declared.node.Shape.{Shape}
@@ -8,9 +9,11 @@ use Rattle.viz_hub.specs.Passes.{PassKnown, as_known, at_seen, with_sent, GoesFu
 use Rattle.viz_hub.specs.Publishing.{publication, Sends}
 use Rattle.viz_entries.specs.declared.entry.Entry.{Entry}
 use Rattle.viz_entries.specs.History.{network_of}
-use Rattle.viz_account.specs.Answers.{line_of, at_of, HandsOut}
+use Rattle.viz_account.specs.Answers.{AuditHandsOut, HandsOut, at_of, audit_at_of, audit_line_of, line_of}
+use Rattle.viz_account.specs.Lines.{TellsAudit}
 use Rattle.viz_account.specs.Served.{Updates}
 use Rattle.viz_account.specs.declared.answer.Answer.{Answer}
+use Rattle.viz_account.specs.declared.answer.AuditAnswer.{AuditAnswer}
 use Rattle.viz_account.specs.declared.parts.UpdateParts.{UpdateParts}
 
 -- the same pass, which may have seen more and published
@@ -36,4 +39,15 @@ pub record IsUpdate {P : Type 0} (m : port.Ghosts P) (node file : List ℕ) (sha
   pub updates : Updates m (network_of pinned) (length pinned) node file shape.pieces (line_of a)
       before after
   pub hands : HandsOut (network_of pinned) node a parts
+  pub publishes : Publishes pinned shape parts (at_seen old pinned) new
+
+-- an audit of a node by a pass, so
+pub record IsAudit (node : List ℕ) (shape : Shape) (a : AuditAnswer) (old new : PassKnown)
+    : Type 0 where
+  pub pinned : List Entry
+  pub parts : Option UpdateParts
+  pub further : GoesFurther old pinned
+  pub at : IfSome (audit_at_of a) (λ n. n ≡ length pinned)
+  pub tells : TellsAudit (network_of pinned) (length pinned) node (audit_line_of a)
+  pub hands : AuditHandsOut (network_of pinned) node a parts
   pub publishes : Publishes pinned shape parts (at_seen old pinned) new

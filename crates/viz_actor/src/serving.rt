@@ -179,7 +179,7 @@ fn count<R: Threads + Wait + Sync, P: Port, G: Gate + Sync>(
     shape: &Shape,
 ) -> (Pass, Line)
     requires belongs { pass.turn ≡ hub.now }
-    ensures same { result.0 ≡ at_seen pass result.0.seen }
+    ensures same { IsSamePass pass result.0 }
     ensures serves { Serves P.Port hub.now.mark pass.number
         (Rattle.viz_script.specs.Orders.audit node.now shape.now.pieces shape.now.workers)
         result.1 pass.seen result.0.seen port.now port.now }

@@ -5,13 +5,19 @@ ghost use Rattle.viz_hub.specs.Passes.{at_seen, GoesFurther};
 ghost use Rattle.viz_entries.specs.History.{network_of};
 ghost use Rattle.viz_kept.specs.True.{AreMadeIn, AreTrueIn};
 ghost use Rattle.viz_plan_law.specs.Ports.{HaveOwnPorts};
-ghost use Rattle.viz_account.specs.Answers.{line_of, at_of, audit_line_of, audit_at_of, HandsOut};
+ghost use Rattle.viz_account.specs.Answers.{
+  AuditHandsOut,
+  HandsOut,
+  at_of,
+  audit_at_of,
+  audit_line_of,
+  line_of,
+};
 ghost use Rattle.viz_account.specs.Laws.{IsClosedLine};
 ghost use Rattle.viz_account.specs.Lines.{TellsAudit};
 ghost use Rattle.viz_account.specs.Served.{Updates};
-ghost use Rattle.viz_actor.specs.Updating.{IsSamePass, IsUpdate, Publishes};
+ghost use Rattle.viz_actor.specs.Updating.{IsAudit, IsSamePass, IsUpdate, Publishes};
 
-use crate::admitted::Admitted;
 use std::alloc::Global;
 use std::sync::Wait;
 use std::thread::Threads;
@@ -68,15 +74,32 @@ fn hand_in<R: Wait>(rt: &R, hub: &Hub, pin: Pin, shape: &Shape, parts: Option<Up
     }
 }
 
-// Counts the sides of the surface of a node of an admitted network.
-fn audit_pinned(alloc: Global, admitted: &Admitted<'_>, node: &Word) -> AuditAnswer
-    ensures tells { TellsAudit admitted.now.pinned.now.net admitted.now.pinned.now.at node.now
-        (audit_line_of result) }
-    ensures closed { IsClosedLine (audit_line_of result) }
-    ensures at { IfSome (audit_at_of result) (λ n. n ≡ admitted.now.pinned.now.at) }
+// Counts the sides of the surface of a node of a pinned network, with what is kept.
+fn audit_pinned<R: Threads + Sync, G: Gate + Sync>(
+    rt: &R,
+    alloc: Global,
+    pinned: &Pinned,
+    node: &Word,
+    shape: &Shape,
+    gate: &G,
+) -> (AuditAnswer, Option<UpdateParts>)
+    requires ports { HaveOwnPorts pinned.now.net }
+    requires entries { AreTrueIn pinned.now.net pinned.now.entries }
+    ensures tells { TellsAudit pinned.now.net pinned.now.at node.now (audit_line_of result.0) }
+    ensures closed { IsClosedLine (audit_line_of result.0) }
+    ensures at { IfSome (audit_at_of result.0) (λ n. n ≡ pinned.now.at) }
+    ensures parts { AuditHandsOut pinned.now.net node.now result.0 result.1 }
 {
-    let pinned = admitted.pinned();
-    viz_account::audit(alloc, &pinned.net, pinned.at, node)
+    viz_account::audit(
+        rt,
+        alloc,
+        &pinned.net,
+        pinned.entries.list(),
+        pinned.at,
+        shape,
+        node,
+        gate,
+    )
 }
 
 /// Writes the file of a node with one call of the port, as the network of the history up to now
@@ -113,30 +136,28 @@ pub fn update<R: Threads + Wait + Sync, P: Port, G: Gate + Sync>(
 }
 
 /// Counts the sides of the surface of a node in the network of the history up to now, as `update`
-/// has it, evaluated from scratch behind the gate, which is entered once, with task 0. A node that
-/// is no contour on an image is refused as WrongInput(1), behind the faults of its evaluation.
+/// has it, by its plan, and publishes as an update does. A node that is no contour on an image is
+/// refused as WrongInput(1), behind the faults of its evaluation.
 pub fn audit_node<R: Threads + Wait + Sync, G: Gate + Sync>(
     rt: &R,
     alloc: Global,
     hub: &Hub,
     pass: Pass,
     node: &Word,
-    _shape: &Shape,
+    shape: &Shape,
     gate: &G,
 ) -> (Pass, AuditAnswer)
     requires belongs { pass.turn ≡ hub.now }
-    ensures same { result.0 ≡ at_seen pass result.0.seen }
+    ensures same { IsSamePass pass result.0 }
     ensures further { GoesFurther pass result.0.seen }
-    ensures at { IfSome (audit_at_of result.1) (λ n. n ≡ length result.0.seen) }
-    ensures tells { TellsAudit (network_of result.0.seen) (length result.0.seen) node.now
-        (audit_line_of result.1) }
+    ensures audits { IsAudit node.now shape.now result.1 pass result.0 }
     ensures closed { IsClosedLine (audit_line_of result.1) }
 {
+    plans_fit();
     let pin = match hub.pin(rt, alloc, pass) {
         Ok(pin) => pin,
         Err(pass) => return (pass, AuditAnswer::Memory),
     };
-    let admitted = Admitted::enter(gate, pin.pinned());
-    let answer = audit_pinned(alloc, &admitted, node);
-    (hub.release(pin), answer)
+    let (answer, parts) = audit_pinned(rt, alloc, pin.pinned(), node, shape, gate);
+    (hand_in(rt, hub, pin, shape, parts), answer)
 }

@@ -228,10 +228,24 @@ fn others_edits_are_seen(rt: HostRuntime) -> Result<(), Fail> {
     };
     let (theirs, _) = edit(&rt, &hub, theirs, wire);
     let (_, _) = edit(&rt, &hub, theirs, level(iso, 5));
-    let (_, audited) = count(&rt, alloc, &hub, mine, &iso);
+    let (mine, audited) = count(&rt, alloc, &hub, mine, &iso);
     let AuditAnswer::Counted { at, audit } = audited else {
         return Err("no counts".into());
     };
     assert!(rt; (at, audit.sides, audit.two, audit.lone, audit.border) == (5, 12, 6, 6, 6));
+    let (mine, unknown) = count(&rt, alloc, &hub, mine, &word("none")?);
+    assert_eq!(rt; unknown, AuditAnswer::Unknown { at: 5 });
+    // the file and the contour were kept by the audit, and the file's own publishes once more
+    let (mine, flat) = count(&rt, alloc, &hub, mine, &src);
+    let AuditAnswer::Network { fault, name, at } = flat else {
+        return Err("no fault".into());
+    };
+    assert!(rt; (fault.cause, name, at) == (Cause::WrongInput(1), src, 5));
+    let mut port = MemoryPort::new(alloc, Vec::new(alloc), FILE_LIMIT, Vec::new(alloc));
+    let (pass, last) = write(&rt, alloc, &hub, mine, &iso, &mut port);
+    assert_eq!(rt;
+        told(&last, pass.sent(), pass.last()),
+        (Some(0), 3, Some((5, 1)))
+    );
     Ok(())
 }

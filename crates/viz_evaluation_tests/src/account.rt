@@ -1,10 +1,10 @@
-//! Updates and audits of networks from scratch, their answers and their lines, counted by hand.
+//! Updates of networks from scratch, their answers, and the lines of answers, counted by hand.
 
 use crate::story::Story;
 use std::alloc::Global;
 use std::process::Abort;
 use std::test::Fail;
-use viz_account::{Answer, AuditAnswer, Counts, audit, update_from_scratch, word_text};
+use viz_account::{Answer, AuditAnswer, update_from_scratch, word_text};
 use viz_base::{Bytes, FILE_LIMIT, FailAt, MemoryPort, Shared, Word};
 use viz_network::{ApplyStop, Cause, Edit, Fault, Kind, Net, Param, Value};
 use viz_report::{Line, Reason};
@@ -125,35 +125,6 @@ fn updates_from_scratch_are_answered(rt: HostRuntime) -> Result<(), Fail> {
             _ => false,
         };
         assert!(rt; is, "{node}");
-    }
-    Ok(())
-}
-
-#[test]
-fn audits_are_answered(rt: HostRuntime) -> Result<(), Fail> {
-    // corner-contour, audit-line
-    let alloc = rt.alloc();
-    let story = corner_story(alloc)?;
-    let name = word("src")?;
-    let fault = fault_of(&story.net, name, Cause::WrongInput(1))?;
-    let audited = Counts {
-        sides: 12,
-        two: 6,
-        lone: 6,
-        border: 6,
-    };
-    for (node, want) in [
-        (
-            "iso",
-            AuditAnswer::Counted {
-                at: 6,
-                audit: audited,
-            },
-        ),
-        ("none", AuditAnswer::Unknown { at: 6 }),
-        ("src", AuditAnswer::Network { fault, name, at: 6 }),
-    ] {
-        assert_eq!(rt; audit(alloc, &story.net, 6, &word(node)?), want, "{node}");
     }
     Ok(())
 }

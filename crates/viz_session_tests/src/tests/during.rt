@@ -218,7 +218,7 @@ fn others_edit_during_an_update(rt: HostRuntime) -> Result<(), Fail> {
 fn others_edit_during_an_audit(rt: HostRuntime) -> Result<(), Fail> {
     let alloc = rt.alloc();
     let line = "audit 1 6 at 5 sides 12 two 6 open 6 border 6\n";
-    edited_during(&rt, alloc, "1 audit iso 1 1\n", line, [1, 0, 0])
+    edited_during(&rt, alloc, "1 audit iso 1 1\n", line, [2, 1, 0])
 }
 
 const EIGHT: &str = "8 add file src
@@ -284,15 +284,13 @@ const TOO_LONG: &str = "1 add file src
 phase
 1 load src a.vtk
 2 load src a.vtk
-2 add file b
-2 audit b 1 1
+2 audit src 1 1
 ";
 
 const TOO_LONG_REPORT: &str = "edit 1 1 at 1
-refused 1 2 TooLong at 3
+refused 1 2 TooLong at 2
 edit 2 1 at 2
-edit 2 2 at 3
-refused 2 3 fault:b:NoFile at 3
+refused 2 2 fault:src:WrongInput(1) at 2
 ";
 
 #[test]

@@ -6,9 +6,15 @@ use Rattle.viz_actor.proofs.serving.count.Goals as goal
 
 pub returns-clause-serves : goal.returns-clause-serves
 returns-clause-serves g c =
+    let m = g.P.Port in
     let p = c.args.pass in
-    let h = c.audit_node-pass.result.0.seen in
-    let asked = audit c.args.node.now c.args.shape.now.pieces c.args.shape.now.workers in
-    subst (λ limit. Serves g.P.Port limit p.number asked c.line.result p.seen h c.args.port.now c.args.port.now) (ap (λ t. t.mark) c.requires.belongs)
-    (subst (λ l. Serves g.P.Port p.turn.mark p.number asked l p.seen h c.args.port.now c.args.port.now) (sym c.line.ensures)
-    (serves_audit g.P.Port p h c.audit_node-pass.ensures.further c.args.node.now c.args.shape.now.pieces c.args.shape.now.workers _ c.args.port.now c.audit_node-pass.ensures.tells))
+    let new = c.audit_node-pass.result.0 in
+    let shape = c.args.shape.now in
+    let asked = audit c.args.node.now shape.pieces shape.workers in
+    let port = c.args.port.now in
+    subst (λ limit. Serves m limit p.number asked c.line.result p.seen new.seen port port)
+    (ap (λ t. t.mark) c.requires.belongs)
+    (subst (λ l. Serves m p.turn.mark p.number asked l p.seen new.seen port port)
+    (sym c.line.ensures)
+    (serves_audit m p new c.args.node.now shape c.audit_node-pass.result.1 port
+    c.audit_node-pass.ensures.further c.audit_node-pass.ensures.audits))
