@@ -1,4 +1,5 @@
--- What an update and an audit are answered, and the lines of the report that tell it (docs/FORMATS.md, "Report").
+-- What an update and an audit are answered, and the lines of the report that tell it
+-- (docs/FORMATS.md, "Report").
 use Rattle.std.specs.Prelude.{◌≡◌, ℕ, List, Option, None, Some, Ok, Err}
 use Rattle.viz_dataset.specs.declared.dataset.Dataset.{Dataset}
 use Rattle.viz_kept.specs.True.{AreMadeIn}
@@ -67,7 +68,8 @@ HasNoParts net node a = ⊥
 -- an audit beside which nothing is handed out, so
 abbrev pub HasNoAuditParts : Network → List ℕ → AuditAnswer → Type 0
 HasNoAuditParts net node (audit.Unknown at) = Unit {0}
-HasNoAuditParts net node (audit.Network fault name at) = (id : ℕ) × IsNamed net node id × IsScratch net id (Err fault)
+HasNoAuditParts net node (audit.Network fault name at) = (id : ℕ) × IsNamed net node id
+    × IsScratch net id (Err fault)
 HasNoAuditParts net node audit.Memory = Unit {0}
 HasNoAuditParts net node a = ⊥
 
@@ -91,7 +93,8 @@ audit_without missing.Memory at = audit.Memory
 
 -- the line of an audit
 abbrev pub audit_line_of : AuditAnswer → Line
-audit_line_of (audit.Counted at counts) = line.Audit at counts.sides counts.two counts.lone counts.border
+audit_line_of
+    (audit.Counted at counts) = line.Audit at counts.sides counts.two counts.lone counts.border
 audit_line_of (audit.Unknown at) = line.Refused reason.Unknown at
 audit_line_of (audit.Network fault name at) = line.Refused (reason.Fault fault name) at
 audit_line_of audit.Memory = line.Memory

@@ -1,5 +1,7 @@
--- What an audit of a node counts: the sides of the surface that a contour makes of an image (Doi and Koide 1991; docs/FORMATS.md, "Report").
-use Rattle.std.specs.Prelude.{◌≡◌, ℕ, ◌+◌, ◌⊎◌, Bool, true, false, List, [], ◌∷◌, Option, None, Some, Result, Ok, Err}
+-- What an audit of a node counts: the sides of the surface that a contour makes of an image (Doi
+-- and Koide 1991; docs/FORMATS.md, "Report").
+use Rattle.std.specs.Prelude.{◌≡◌, ℕ, ◌+◌, ◌⊎◌, Bool, true, false, List, [], ◌∷◌, Option, None}
+use Rattle.std.specs.Prelude.{Some, Result, Ok, Err}
 use Rattle.viz_extent.specs.Extent.{Bounds}
 use Rattle.viz_sheet.specs.Sheet.{SheetData}
 use Rattle.viz_dataset.specs.Images.{ImageData, IsImage}
@@ -50,7 +52,8 @@ pub record AreSums (whole : Bounds) (sheets : List SheetData) (c : Counts) : Typ
 
 -- ---- the audit of a node
 
--- a node is a contour that stands on an image, and the numbers are those of the sheets that it gives
+-- a node is a contour that stands on an image, and the numbers are those of the sheets that it
+-- gives
 pub record IsAudited (net : Network) (id : ℕ) (c : Counts) : Type 0 where
   pub image : ImageData
   pub sheets : List SheetData
@@ -59,7 +62,8 @@ pub record IsAudited (net : Network) (id : ℕ) (c : Counts) : Type 0 where
   pub given : IsScratch net id (Ok (Mesh sheets))
   pub sums : AreSums image.extent sheets c
 
--- a node gives a dataset, but is no contour that stands on an image: its fault is that of a first port fed with what isn't taken
+-- a node gives a dataset, but is no contour that stands on an image: its fault is that of a first
+-- port fed with what isn't taken
 pub record HasNoSurface (net : Network) (id : ℕ) (fault : Fault) : Type 0 where
   pub dataset : Dataset
   pub given : IsScratch net id (Ok dataset)

@@ -1,5 +1,7 @@
--- What a line of the report says of its command, and the calls of that command (docs/DEFINITIONS.md, "The account of a script").
-use Rattle.std.specs.Prelude.{◌≡◌, ℕ, ◌+◌, true, ◌⊎◌, List, [], ◌∷◌, take, slice_get, None, Some, Ok, Err}
+-- What a line of the report says of its command, and the calls of that command
+-- (docs/DEFINITIONS.md, "The account of a script").
+use Rattle.std.specs.Prelude.{◌≡◌, ℕ, ◌+◌, true, ◌⊎◌, List, [], ◌∷◌, take, slice_get, None, Some}
+use Rattle.std.specs.Prelude.{Ok, Err}
 use Rattle.viz_base.specs.declared.call.Call.{Call}
 use Rattle.viz_base.specs.declared.call.Call.TheVariants.{Read, Write}
 use Rattle.viz_base.specs.declared.call.ReadAnswer.TheVariants as read
@@ -33,27 +35,31 @@ pub record IsEntry (h : List Entry) (passes : List ℕ) (n : ℕ) (e : Edit) : T
   pub own : has entry.pass passes ≡ true
   pub asked : entry.edit ≡ e
 
--- a line of number n, of an edit by one of these passes, in a history of at most so many entries: the edit is entry n, or the network
--- of the first n entries refuses it, or n is that limit
+-- a line of number n, of an edit by one of these passes, in a history of at most so many entries:
+-- the edit is entry n, or the network of the first n entries refuses it, or n is that limit
 abbrev pub TellsEdit : ℕ → List Entry → List ℕ → ℕ → Edit → Line → Type 0
 TellsEdit limit h passes n e (line.Edit at) = (at ≡ n) × IsEntry h passes n e
-TellsEdit limit h passes n e (line.Refused (reason.Edit r) at) = (at ≡ n) × (apply (n + 1) e (network_at h n) ≡ Err r)
+TellsEdit limit h passes n e (line.Refused (reason.Edit r) at) = (at ≡ n)
+    × (apply (n + 1) e (network_at h n) ≡ Err r)
 TellsEdit limit h passes n e (line.Refused reason.Full at) = (at ≡ n) × (n ≡ limit)
 TellsEdit limit h passes n e line.Memory = Unit {0}
 TellsEdit limit h passes n e l = ⊥
 
 -- no call, or a read of this file that gave bytes
 abbrev pub ReadsAtMost : List ℕ → List Call → Type 0
-ReadsAtMost file calls = (calls ≡ []) ⊎ ((bytes : List ℕ) × (calls ≡ Read file (read.Given bytes) ∷ []))
+ReadsAtMost file calls = (calls ≡ []) ⊎ ((bytes : List ℕ)
+    × (calls ≡ Read file (read.Given bytes) ∷ []))
 
--- a load: its file was too long; or its read failed; or the line tells of the edit with the bytes that the port gave
+-- a load: its file was too long; or its read failed; or the line tells of the edit with the bytes
+-- that the port gave
 abbrev pub TellsLoad : ℕ → List Entry → List ℕ → ℕ → List ℕ → List ℕ → Line → List Call → Type 0
 TellsLoad limit h passes n node file (line.Refused reason.TooLong at) calls =
     (at ≡ n) × ((taken : ℕ) × (calls ≡ Read file (read.TooLong taken) ∷ []))
 TellsLoad limit h passes n node file line.ReadFault calls = calls ≡ Read file read.Failed ∷ []
 TellsLoad limit h passes n node file line.Memory calls = ReadsAtMost file calls
 TellsLoad limit h passes n node file l calls =
-    (bytes : List ℕ) × TellsEdit limit h passes n (edits.Load node bytes) l × (calls ≡ Read file (read.Given bytes) ∷ [])
+    (bytes : List ℕ) × TellsEdit limit h passes n (edits.Load node bytes) l
+    × (calls ≡ Read file (read.Given bytes) ∷ [])
 
 -- an update of a network that n entries made, with what is said of a node and the number behind
 -- `ran`: the file of its node was written; or its node is unknown; or has no file; or the write of
@@ -69,7 +75,8 @@ TellsFile Ran net n node file (line.Refused (reason.Fault fault name) at) calls 
     (at ≡ n) × ((x : Node) × (named net node ≡ Some x) × IsFileOf net x.id.0 (Err fault))
     × (name_of net fault.node.0 ≡ Some name) × (calls ≡ [])
 TellsFile Ran net n node file line.WriteFault calls =
-    (x : Node) × (text : List ℕ) × (named net node ≡ Some x) × IsFileOf net x.id.0 (Ok text) × (calls ≡ Write file text write.Failed ∷ [])
+    (x : Node) × (text : List ℕ) × (named net node ≡ Some x) × IsFileOf net x.id.0 (Ok text)
+    × (calls ≡ Write file text write.Failed ∷ [])
 TellsFile Ran net n node file line.Memory calls = calls ≡ []
 TellsFile Ran net n node file l calls = ⊥
 
@@ -77,21 +84,25 @@ TellsFile Ran net n node file l calls = ⊥
 abbrev pub TellsUpdate : Network → ℕ → List ℕ → List ℕ → ℕ → Line → List Call → Type 0
 TellsUpdate net n node file pieces l calls = TellsFile (HasRan net pieces) net n node file l calls
 
--- an audit on the network of the first n entries: the counts of its node; or its node is unknown; or has a fault in their place
+-- an audit on the network of the first n entries: the counts of its node; or its node is unknown;
+-- or has a fault in their place
 abbrev pub TellsAudit : Network → ℕ → List ℕ → Line → Type 0
 TellsAudit net n node (line.Audit at sides two lone border) =
     (at ≡ n) × ((x : Node) × (named net node ≡ Some x)
     × IsAuditOf net x.id.0 (Ok (record { sides = sides; two = two; lone = lone; border = border })))
 TellsAudit net n node (line.Refused reason.Unknown at) = (at ≡ n) × (named net node ≡ None)
 TellsAudit net n node (line.Refused (reason.Fault fault name) at) =
-    (at ≡ n) × ((x : Node) × (named net node ≡ Some x) × IsAuditOf net x.id.0 (Err fault)) × (name_of net fault.node.0 ≡ Some name)
+    (at ≡ n) × ((x : Node) × (named net node ≡ Some x) × IsAuditOf net x.id.0 (Err fault))
+    × (name_of net fault.node.0 ≡ Some name)
 TellsAudit net n node line.Memory = Unit {0}
 TellsAudit net n node l = ⊥
 
--- a line of number n, of a command by one of these passes, and the calls of that command: an audit has none
+-- a line of number n, of a command by one of these passes, and the calls of that command: an audit
+-- has none
 abbrev pub Tells : ℕ → List Entry → List ℕ → ℕ → Asked → Line → List Call → Type 0
 Tells limit h passes n (edit e) l calls = TellsEdit limit h passes n e l × (calls ≡ [])
 Tells limit h passes n (load node file) l calls = TellsLoad limit h passes n node file l calls
 Tells limit h passes n (update node file pieces workers) l calls =
     TellsUpdate (network_at h n) n node file pieces l calls
-Tells limit h passes n (audit node pieces workers) l calls = TellsAudit (network_at h n) n node l × (calls ≡ [])
+Tells limit h passes n (audit node pieces workers) l calls = TellsAudit (network_at h n) n node l
+    × (calls ≡ [])

@@ -1,4 +1,5 @@
--- What one command, and a list of commands, did: to the history and to the actor's port (docs/DEFINITIONS.md, "The account of a script").
+-- What one command, and a list of commands, did: to the history and to the actor's port
+-- (docs/DEFINITIONS.md, "The account of a script").
 use Rattle.std.specs.Prelude.{◌≡◌, ℕ, ◌≤◌, IsTrue, List, [], ◌∷◌, ◌++◌, length, flat_map, map}
 use Rattle.viz_base.specs.declared.call.Call.{Call}
 use Rattle.viz_base.specs.declared.port.Port as port
@@ -33,21 +34,26 @@ abbrev pub Updates : {P : Type 0} → port.Ghosts P → Network → ℕ → List
 Updates m net n node file pieces l before after =
     Writes m (HasRan net pieces) net n node file l before after
 
--- one command by a pass: entries that it has seen before and after, its line, and what the port gained
-pub record Serves {P : Type 0} (m : port.Ghosts P) (limit pass : ℕ) (o : Asked) (l : Line) (old new : List Entry)
+-- one command by a pass: entries that it has seen before and after, its line, and what the port
+-- gained
+pub record Serves {P : Type 0} (m : port.Ghosts P) (limit pass : ℕ) (o : Asked) (l : Line)
+    (old new : List Entry)
     (before after : P) : Type 0 where
   pub further : Extends old new
   pub own : places (pass ∷ []) new ≡ places (pass ∷ []) old ++ edited l
-  pub gained : (n : ℕ) × (mine : List Call) × (IsTrue m.tells_calls → m.calls after ≡ m.calls before ++ mine)
+  pub gained : (n : ℕ) × (mine : List Call) ×
+      (IsTrue m.tells_calls → m.calls after ≡ m.calls before ++ mine)
       × Tells limit new (pass ∷ []) n o l mine × (least (length old) l ≤ n) × (n ≤ length new)
   pub faults : RoseBy (faults_told (l ∷ [])) (m.faults before) (m.faults after)
 
 -- a list of commands by a pass, in order
-pub record ServesAll {P : Type 0} (m : port.Ghosts P) (limit pass : ℕ) (os : List Asked) (ls : List Line)
+pub record ServesAll {P : Type 0} (m : port.Ghosts P) (limit pass : ℕ) (os : List Asked)
+    (ls : List Line)
     (old new : List Entry) (before after : P) : Type 0 where
   pub further : Extends old new
   pub own : places (pass ∷ []) new ≡ places (pass ∷ []) old ++ flat_map edited ls
-  pub gained : (mine : List Call) × (last : ℕ) × (IsTrue m.tells_calls → m.calls after ≡ m.calls before ++ mine)
+  pub gained : (mine : List Call) × (last : ℕ)
+      × (IsTrue m.tells_calls → m.calls after ≡ m.calls before ++ mine)
       × AreTold limit new (pass ∷ []) (length old) os ls mine last × (last ≤ length new)
   pub faults : RoseBy (faults_told ls) (m.faults before) (m.faults after)
   pub idle : os ≡ [] → after ≡ before

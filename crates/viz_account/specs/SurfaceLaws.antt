@@ -1,5 +1,6 @@
 -- What follows for audits (Doi and Koide 1991).
-use Rattle.std.specs.Prelude.{◌≡◌, ℕ, ◌+◌, Bool, true, false, List, All, Option, None, Some, Result, Ok}
+use Rattle.std.specs.Prelude.{◌≡◌, ℕ, ◌+◌, Bool, true, false, List, All, Option, None, Some}
+use Rattle.std.specs.Prelude.{Result, Ok}
 use Rattle.viz_sheet.specs.Sheet.{SheetData}
 use Rattle.viz_dataset.specs.Images.{ImageData, IsImage}
 use Rattle.viz_dataset.specs.declared.dataset.Dataset.TheVariants.{Image, Mesh}
@@ -49,4 +50,5 @@ CutSurfacesAreClosed =
 
 -- a node has one audit, or one fault of it
 abbrev pub AuditsAreOne : Type 0
-AuditsAreOne = (net : Network) (id : ℕ) (a b : Result Counts Fault) → IsAuditOf net id a → IsAuditOf net id b → a ≡ b
+AuditsAreOne = (net : Network) (id : ℕ) (a b : Result Counts Fault) → IsAuditOf net id a
+    → IsAuditOf net id b → a ≡ b

@@ -1,4 +1,5 @@
--- What an update writes: the file of a node, with the numbers that its line tells (docs/FORMATS.md, "Report").
+-- What an update writes: the file of a node, with the numbers that its line tells
+-- (docs/FORMATS.md, "Report").
 use Rattle.std.specs.Prelude.{◌≡◌, ℕ, List, length, Ok}
 use Rattle.viz_inform.specs.Informed.{AreTold}
 use Rattle.viz_inform.specs.declared.told.Told.{Told}
@@ -23,7 +24,8 @@ pub record HasRan (net : Network) (pieces sink ran : ℕ) : Type 0 where
   pub kept : AreTrueIn net entries
   pub are : AreTold net sink told
   pub number : ran
-      ≡ length (plan_of (known_with net told entries) sink (requests_of (extent_told told sink) pieces))
+      ≡ length (plan_of (known_with net told entries) sink
+      (requests_of (extent_told told sink) pieces))
 
 -- no task of a plan ran, since there is none
 abbrev pub HasNoPlan : ℕ → ℕ → Type 0

@@ -48,7 +48,8 @@ fn told(
 }
 
 /// Counts the sides of the surface of a node of this network, which so many entries of a history
-/// made, by its plan in so many pieces and by so many workers. The network may be that of a pin, and
+/// made, by its plan in so many pieces and by so many workers. The network may be that of a pin,
+/// and
 /// `entries` what is kept with it, in the cache's order. Each task of the plan enters the gate. The
 /// sides counted are those in two triangles and those on the boundary of the image's grid.
 ///

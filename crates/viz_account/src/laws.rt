@@ -1,7 +1,8 @@
 //! Laws on accounts. A law is a function that does nothing: its contract holds of the definitions
 //! alone.
 
-ghost use Rattle.viz_account.specs.Laws.{AuditLinesAreClosed, EntriesAreToldOnce, HoldLater, LinesCountEdits};
+ghost use Rattle.viz_account.specs.Laws.{AuditLinesAreClosed, EntriesAreToldOnce, HoldLater};
+ghost use Rattle.viz_account.specs.Laws.{LinesCountEdits};
 
 use crate::surface_laws::audits_are_closed;
 use viz_base::Port;
@@ -22,7 +23,8 @@ pub fn lines_count_edits<P: Port>()
     ensures counts { LinesCountEdits P.Port }
 {}
 
-/// What the lines of audits tell is closed up to the boundary, in each account: `sides` is `two` and
+/// What the lines of audits tell is closed up to the boundary, in each account: `sides` is `two`
+/// and
 /// `open` together, and `open` is `border`.
 pub fn audit_lines_are_closed<P: Port>()
     ensures closed { AuditLinesAreClosed P.Port }

@@ -1,7 +1,8 @@
 //! What audits keep. A law is a function that does nothing: its contract holds of the definitions
 //! alone.
 
-ghost use Rattle.viz_account.specs.SurfaceLaws.{AuditsAreClosed, AuditsAreOne, CutSurfacesAreClosed, SurfacesAreClosed};
+ghost use Rattle.viz_account.specs.SurfaceLaws.{AuditsAreClosed, AuditsAreOne};
+ghost use Rattle.viz_account.specs.SurfaceLaws.{CutSurfacesAreClosed, SurfacesAreClosed};
 
 use viz_node_meaning::scratch_is_one;
 use viz_surface_law::{contours_are_closed, form_sections_are_closed};

@@ -13,10 +13,12 @@ use Rattle.viz_actor.specs.Numbering.{IsJournalBy}
 use Rattle.viz_actor.specs.Deeds.{Asked, Kept, IsEndOfScript, is_written}
 
 -- how a run ended whose script has these bytes, and what it did at the desk behind the read
-abbrev pub IsRanBehind : {P : Type 0} → port.Ghosts P → List ℕ → List ℕ → Ran → P → P → List P → List P → Type 0
+abbrev pub IsRanBehind : {P : Type 0} → port.Ghosts P → List ℕ → List ℕ → Ran → P → P → List P
+    → List P → Type 0
 IsRanBehind m bytes journal came desk new_desk old new =
     (IsEndOfScript m (Asked (read.Given bytes)) came old new × IsCalled m [] desk new_desk)
-    ⊎ ((text : List ℕ) × (answer : WriteAnswer) × IsEndOfScript m (Kept bytes text answer) came old new
+    ⊎ ((text : List ℕ) × (answer : WriteAnswer)
+    × IsEndOfScript m (Kept bytes text answer) came old new
     × IsCalled m (Write journal text answer ∷ []) desk new_desk)
 
 -- the rows, and whether the write was done
@@ -25,8 +27,10 @@ IsServedWith rows answer (ran.Served all kept) = (all ≡ rows) × (kept ≡ is_
 IsServedWith rows answer other = ⊥
 
 -- the journal of a history was written, or its write failed; or memory ran out
-abbrev pub IsKept : {P : Type 0} → port.Ghosts P → List ℕ → List Row → List Entry → Ran → P → P → Type 0
+abbrev pub IsKept : {P : Type 0} → port.Ghosts P → List ℕ → List Row → List Entry → Ran → P → P
+    → Type 0
 IsKept m name rows history came old new =
     ((came ≡ ran.Memory) × IsCalled m [] old new)
-    ⊎ ((text : List ℕ) × (answer : WriteAnswer) × IsJournalBy rows history text × IsServedWith rows answer came
+    ⊎ ((text : List ℕ) × (answer : WriteAnswer) × IsJournalBy rows history text
+    × IsServedWith rows answer came
     × IsCalled m (Write name text answer ∷ []) old new)

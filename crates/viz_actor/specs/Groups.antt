@@ -1,5 +1,6 @@
 -- The commands of a script by actor and phase (docs/FORMATS.md, "Scripts").
-use Rattle.std.specs.Prelude.{ℕ, zero, suc, ◌+◌, Bool, ◌==◌, ◌&&◌, min, List, [], ◌∷◌, length, map, cond}
+use Rattle.std.specs.Prelude.{ℕ, zero, suc, ◌+◌, Bool, ◌==◌, ◌&&◌, min, List, [], ◌∷◌, length, map}
+use Rattle.std.specs.Prelude.{cond}
 use Rattle.viz_script.specs.declared.order.Step.{Step}
 use Rattle.viz_script.specs.Orders.{Asked}
 use Rattle.viz_script.specs.Script.{Stepped}
@@ -50,4 +51,5 @@ behind phase (s ∷ steps) = cond (s.phase == phase) (behind phase steps) (s ∷
 -- the steps of so many phases, from this one on
 abbrev pub chunks_from : ℕ → ℕ → List Step → List (List Step)
 chunks_from zero phase steps = []
-chunks_from (suc count) phase steps = in_front phase steps ∷ chunks_from count (phase + 1) (behind phase steps)
+chunks_from (suc count) phase steps = in_front phase steps ∷ chunks_from count (phase + 1)
+    (behind phase steps)

@@ -6,7 +6,8 @@ use Rattle.viz_entries.specs.History.{by_of}
 use Rattle.viz_journal.specs.declared.entry.JournalEntry.{JournalEntry}
 use Rattle.viz_journal.specs.Journal.{journal}
 
--- the number of the actor whose passes have this one among them; the first of these actors has this number
+-- the number of the actor whose passes have this one among them; the first of these actors has
+-- this number
 abbrev pub actor_with : ℕ → List (List ℕ) → ℕ → ℕ
 actor_with n [] pass = n
 actor_with n (passes ∷ others) pass = if has pass passes then n else actor_with (n + 1) others pass
@@ -16,7 +17,8 @@ abbrev pub passes_with : List (List ℕ) → ℕ → List ℕ
 passes_with [] pass = []
 passes_with (passes ∷ others) pass = if has pass passes then passes else passes_with others pass
 
--- the entries of a history behind these, each with its actor and its number among the entries of that actor, from 1
+-- the entries of a history behind these, each with its actor and its number among the entries of
+-- that actor, from 1
 abbrev pub numbered : List (List ℕ) → List Entry → List Entry → List JournalEntry
 numbered passes before [] = []
 numbered passes before (e ∷ es) = record {

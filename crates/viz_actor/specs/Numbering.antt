@@ -1,5 +1,7 @@
--- The actors and numbers of a journal's entries, by the rows of a report. Words of private contracts alone.
-use Rattle.std.specs.Prelude.{◌≡◌, ℕ, ◌+◌, ◌<◌, true, List, [], ◌∷◌, ◌++◌, length, map, flat_map, All, slice_get, slice_index, slice_set, Option, Some, None}
+-- The actors and numbers of a journal's entries, by the rows of a report. Words of private
+-- contracts alone.
+use Rattle.std.specs.Prelude.{◌≡◌, ℕ, ◌+◌, ◌<◌, true, List, [], ◌∷◌, ◌++◌, length, map, flat_map}
+use Rattle.std.specs.Prelude.{All, slice_get, slice_index, slice_set, Option, Some, None}
 use Rattle.std.specs.List.{zip}
 use Rattle.viz_turn.specs.Tales.{once, entries_of}
 use Rattle.viz_entries.specs.declared.entry.Entry.{Entry}
@@ -21,7 +23,8 @@ running before (a ∷ actors) = (times a before + 1) ∷ running (before ++ a �
 
 -- entries with their actors and numbers
 abbrev pub with_numbers : List Entry → List ℕ → List ℕ → List JournalEntry
-with_numbers h actors numbers = map (λ p. record { actor = p.0.1; count = p.1; edit = p.0.0.edit }) (zip (zip h actors) numbers)
+with_numbers h actors numbers = map (λ p. record { actor = p.0.1; count = p.1; edit = p.0.0.edit })
+    (zip (zip h actors) numbers)
 
 -- each actor that is found is that of its entry
 abbrev pub Agree : List (Option ℕ) → List ℕ → Type 0
@@ -38,7 +41,8 @@ pub record IsCounted (actor count : ℕ) (old new : List ℕ) : Type 0 where
 
 -- where the row tells an accepted edit, the edit's entry is of the row's actor
 abbrev pub TellsActor : List ℕ → Row → Type 0
-TellsActor actors r = All (λ at. (k : ℕ) → at ≡ k + 1 → k < length actors → slice_get actors k ≡ Some r.actor) (edited r.line)
+TellsActor actors r = All (λ at. (k : ℕ) → at ≡ k + 1 → k < length actors
+    → slice_get actors k ≡ Some r.actor) (edited r.line)
 
 -- each entry is by a pass of one actor, who is that of the row that tells it
 pub record AreOwn (passes : List (List ℕ)) (h : List Entry) (rows : List Row) : Type 0 where
@@ -48,4 +52,5 @@ pub record AreOwn (passes : List (List ℕ)) (h : List Entry) (rows : List Row) 
 
 -- the journal of a history, whosever the passes are by these rows
 abbrev pub IsJournalBy : List Row → List Entry → List ℕ → Type 0
-IsJournalBy rows h text = (passes : List (List ℕ)) → AreOwn passes h rows → text ≡ journal_of passes h
+IsJournalBy rows h text = (passes : List (List ℕ)) → AreOwn passes h rows
+    → text ≡ journal_of passes h

@@ -1,9 +1,12 @@
 -- What the actors of a phase did, each at its place. Words of private contracts alone.
-use Rattle.std.specs.Prelude.{◌≡◌, ℕ, zero, suc, ◌+◌, ◌<◌, ◌≤◌, true, false, List, [], ◌∷◌, ◌++◌, length, map, drop, Option, None, Some, IfSome, vec_capacity, slice_index_or}
+use Rattle.std.specs.Prelude.{◌≡◌, ℕ, zero, suc, ◌+◌, ◌<◌, ◌≤◌, true, false, List, [], ◌∷◌, ◌++◌}
+use Rattle.std.specs.Prelude.{length, map, drop, Option, None, Some, IfSome, vec_capacity}
+use Rattle.std.specs.Prelude.{slice_index_or}
 use Rattle.viz_base.specs.declared.port.Port as port
 use Rattle.viz_turn.specs.Tales.{has, once, clear, GoesOn}
 use Rattle.viz_turn.specs.Known.{Identity}
-use Rattle.viz_hub.specs.Passes.{PassKnown, numbers, elder, younger, one, IsWhole, GoesFurther, IsFresh}
+use Rattle.viz_hub.specs.Passes.{PassKnown, numbers, elder, younger, one, IsWhole, GoesFurther}
+use Rattle.viz_hub.specs.Passes.{IsFresh}
 use Rattle.viz_entries.specs.declared.entry.Entry.{Entry}
 use Rattle.viz_entries.specs.History.{by_of}
 use Rattle.viz_script.specs.declared.order.Step.{Step}
@@ -17,7 +20,8 @@ use Rattle.viz_actor.specs.declared.places.Place.{Place}
 
 -- ---- room
 
--- the lines of a place are rows already, and there is room for those of its commands among these steps
+-- the lines of a place are rows already, and there is room for those of its commands among these
+-- steps
 pub record HasRoom {P : Type 0} (steps : List Step) (actor : ℕ) (s : Place P) : Type 0 where
   pub settled : s.told ≡ length s.lines.items
   pub room : length s.lines.items + length (commands_of actor steps) ≤ vec_capacity s.lines
@@ -36,13 +40,16 @@ work steps actor (suc count) = length (commands_of actor steps) + work steps (ac
 
 -- the place of this actor with a pass
 abbrev pub with_pass : {P : Type 0} → Place P → ℕ → PassKnown → Place P
-with_pass s actor p = record { actor = actor; pass = Some p; port = s.port; lines = s.lines; told = s.told }
+with_pass s actor p =
+    record { actor = actor; pass = Some p; port = s.port; lines = s.lines; told = s.told }
 
 -- each place gets a pass of its own, with a number of its own
-abbrev pub Splits : {P : Type 0} → ℕ → PassKnown → List (Place P) → List (Place P) → PassKnown → Type 0
+abbrev pub Splits : {P : Type 0} → ℕ → PassKnown → List (Place P) → List (Place P) → PassKnown
+    → Type 0
 Splits actor root [] [] new = new ≡ root
 Splits actor root (s ∷ ss) (t ∷ ts) new =
-    (k : ℕ) × IsFresh k root × (t ≡ with_pass s actor (younger k root)) × Splits (actor + 1) (elder k root) ss ts new
+    (k : ℕ) × IsFresh k root × (t ≡ with_pass s actor (younger k root))
+    × Splits (actor + 1) (elder k root) ss ts new
 Splits actor root ss ts new = ⊥
 
 -- ---- each actor works
@@ -68,7 +75,8 @@ module _ {P : Type 0} (m : port.Ghosts P) (limit : ℕ) (steps : List Step) wher
     pub served : PassServed s.pass t.pass s t
 
   abbrev pub EachServed : List (Place P) → List (Place P) → Type 0
-  EachServed old new = (i : ℕ) (d : Place P) → i < length old → PlaceServed (slice_index_or old i d) (slice_index_or new i d)
+  EachServed old new = (i : ℕ) (d : Place P) → i < length old
+      → PlaceServed (slice_index_or old i d) (slice_index_or new i d)
 
 -- ---- the passes are joined
 
@@ -104,7 +112,14 @@ untold (s ∷ ss) = length (drop s.told s.lines.items) + untold ss
 
 -- the place all of whose lines are rows
 abbrev pub collected : {P : Type 0} → Place P → Place P
-collected s = record { actor = s.actor; pass = s.pass; port = s.port; lines = s.lines; told = length s.lines.items }
+collected s =
+    record {
+      actor = s.actor;
+      pass = s.pass;
+      port = s.port;
+      lines = s.lines;
+      told = length s.lines.items;
+    }
 
 -- no more lines are rows than there are
 abbrev pub IsPlaceTold : {P : Type 0} → Place P → Type 0
@@ -112,8 +127,10 @@ IsPlaceTold s = s.told ≤ length s.lines.items
 
 -- ---- the whole phase
 
--- what the actor of this number did, by a pass of number k, between what was joined before and what is joined now
-pub record ActorServed {P : Type 0} (m : port.Ghosts P) (limit : ℕ) (steps : List Step) (before joined : List Entry) (k actor : ℕ)
+-- what the actor of this number did, by a pass of number k, between what was joined before and
+-- what is joined now
+pub record ActorServed {P : Type 0} (m : port.Ghosts P) (limit : ℕ) (steps : List Step)
+    (before joined : List Entry) (k actor : ℕ)
     (lines : List Line) (s t : Place P) : Type 0 where
   pub seen : List Entry
   pub added : t.lines.items ≡ s.lines.items ++ lines
@@ -128,7 +145,8 @@ abbrev pub ActorsServed : {P : Type 0} → port.Ghosts P → ℕ → List Step
     → List (Place P) → List (Place P) → Type 0
 ActorsServed m limit steps before joined actor [] [] [] [] = Unit {0}
 ActorsServed m limit steps before joined actor (k ∷ ks) (ls ∷ lines) (s ∷ ss) (t ∷ ts) =
-    ActorServed m limit steps before joined k actor ls s t × ActorsServed m limit steps before joined (actor + 1) ks lines ss ts
+    ActorServed m limit steps before joined k actor ls s t
+    × ActorsServed m limit steps before joined (actor + 1) ks lines ss ts
 ActorsServed m limit steps before joined actor ks lines ss ts = ⊥
 
 -- the numbers of the next lines of places

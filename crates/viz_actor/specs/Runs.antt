@@ -18,14 +18,16 @@ module _ {P : Type 0} (m : port.Ghosts P) (limit : ℕ) where
   abbrev pub RunsChunk : List Step → PassKnown → List (Place P) → List Row
       → List (Place P) → List Row → PassKnown → Type 0
   RunsChunk [] root old rows new now joined = (joined ≡ root) × (new ≡ old) × (now ≡ rows)
-  RunsChunk (s ∷ steps) root old rows new now joined = IsPhase m limit (s ∷ steps) root old rows new now joined
+  RunsChunk (s ∷ steps) root old rows new now joined = IsPhase m limit
+      (s ∷ steps) root old rows new now joined
 
   -- the steps of all these phases were
   abbrev pub Runs : List (List Step) → PassKnown → List (Place P) → List Row
       → List (Place P) → List Row → PassKnown → Type 0
   Runs [] root old rows new now joined = (joined ≡ root) × (new ≡ old) × (now ≡ rows)
   Runs (chunk ∷ chunks) root old rows new now joined =
-      (mid : PassKnown) × (places : List (Place P)) × (told : List Row) × RunsChunk chunk root old rows places told mid
+      (mid : PassKnown) × (places : List (Place P)) × (told : List Row)
+      × RunsChunk chunk root old rows places told mid
       × Runs chunks mid places told new now joined
 
 -- the ports of places
@@ -39,9 +41,12 @@ pub record IsIdle {P : Type 0} (s : Place P) : Type 0 where
 
 -- ---- the whole script, over places
 
--- the account of steps, where each port is an actor's: a history, and a line for each command, which are these rows of the report
-pub record IsSeatedScript {P : Type 0} (m : port.Ghosts P) (steps : List Stepped) (rows : List Row) (history : List Entry)
+-- the account of steps, where each port is an actor's: a history, and a line for each command,
+-- which are these rows of the report
+pub record IsSeatedScript {P : Type 0} (m : port.Ghosts P) (steps : List Stepped) (rows : List Row)
+    (history : List Entry)
     (old new : List P) : Type 0 where
   pub told : List (List (List Line))
-  pub account : IsAccountOf m history_limit (by_actor (length old) phase_limit steps) history told old new
+  pub account : IsAccountOf m history_limit (by_actor
+      (length old) phase_limit steps) history told old new
   pub rows_are : rows ≡ report_rows phase_limit told

@@ -18,10 +18,12 @@ use Rattle.viz_account.specs.Served.{Extends, ServesAll}
 -- the commands of the actor of this number among steps, in order
 abbrev pub commands_of : ℕ → List Step → List Asked
 commands_of actor [] = []
-commands_of actor (s ∷ steps) = cond (s.actor == actor) (seen s.order ∷ commands_of actor steps) (commands_of actor steps)
+commands_of actor (s ∷ steps) = cond (s.actor == actor) (seen s.order ∷ commands_of actor steps)
+    (commands_of actor steps)
 
 -- lines were put behind others, one for each of these commands of a pass
-pub record AddsLines {P : Type 0} (m : port.Ghosts P) (limit pass : ℕ) (os : List Asked) (ls ms : List Line) (old new : List Entry)
+pub record AddsLines {P : Type 0} (m : port.Ghosts P) (limit pass : ℕ) (os : List Asked)
+    (ls ms : List Line) (old new : List Entry)
     (before after : P) : Type 0 where
   pub lines : List Line
   pub added : ms ≡ ls ++ lines
@@ -38,4 +40,5 @@ edit_line answer.Memory = line.Memory
 pub record Edits (limit pass : ℕ) (e : Edit) (l : Line) (old new : List Entry) : Type 0 where
   pub further : Extends old new
   pub own : places (pass ∷ []) new ≡ places (pass ∷ []) old ++ edited l
-  pub told : (n : ℕ) × TellsEdit limit new (pass ∷ []) n e l × (least (length old) l ≤ n) × (n ≤ length new)
+  pub told : (n : ℕ) × TellsEdit limit new (pass ∷ []) n e l × (least (length old) l ≤ n)
+      × (n ≤ length new)

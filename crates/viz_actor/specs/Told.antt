@@ -47,11 +47,12 @@ has_fault rows = list_any (λ r. is_fault r.line) rows
 abbrev pub has_refused : List Row → Bool
 has_refused rows = list_any (λ r. is_refused r.line) rows
 
--- the status of rows, the whole of which was put, by whether the journal was written: want of memory comes first,
--- then faults, then refusals
+-- the status of rows, the whole of which was put, by whether the journal was written: want of
+-- memory comes first, then faults, then refusals
 abbrev pub served_status : List Row → Bool → Status
 served_status rows kept = cond (has_memory rows) status.Memory
-    (cond (has_fault rows || not kept) status.Fault (cond (has_refused rows) status.Refused status.Done))
+    (cond (has_fault rows || not kept) status.Fault
+    (cond (has_refused rows) status.Refused status.Done))
 
 -- the status where the whole text is put
 abbrev pub status_of : Ran → Status

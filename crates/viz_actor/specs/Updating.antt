@@ -9,7 +9,8 @@ use Rattle.viz_hub.specs.Passes.{PassKnown, as_known, at_seen, with_sent, GoesFu
 use Rattle.viz_hub.specs.Publishing.{publication, Sends}
 use Rattle.viz_entries.specs.declared.entry.Entry.{Entry}
 use Rattle.viz_entries.specs.History.{network_of}
-use Rattle.viz_account.specs.Answers.{AuditHandsOut, HandsOut, at_of, audit_at_of, audit_line_of, line_of}
+use Rattle.viz_account.specs.Answers.{AuditHandsOut, HandsOut, at_of, audit_at_of, audit_line_of}
+use Rattle.viz_account.specs.Answers.{line_of}
 use Rattle.viz_account.specs.Lines.{TellsAudit}
 use Rattle.viz_account.specs.Served.{Updates}
 use Rattle.viz_account.specs.declared.answer.Answer.{Answer}

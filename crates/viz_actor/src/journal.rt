@@ -2,7 +2,8 @@
 
 ghost use Rattle.std.specs.Prelude.{◌≡◌, [], List, ℕ, IfOk, All, Some, length, map};
 ghost use Rattle.viz_actor.specs.Journals.{numbered};
-ghost use Rattle.viz_actor.specs.Numbering.{Agree, AreOwn, IsCounted, TellsActor, running, with_numbers};
+ghost use Rattle.viz_actor.specs.Numbering.{Agree, AreOwn, IsCounted, TellsActor, running};
+ghost use Rattle.viz_actor.specs.Numbering.{with_numbers};
 
 use std::alloc::{AllocError, Global};
 use viz_base::ACTORS;
@@ -104,7 +105,8 @@ pub fn journal_entries(
     history: Vec<Entry>,
     rows: &[Row],
 ) -> Result<Vec<JournalEntry>, AllocError>
-    ensures { IfOk result (λ entries. (passes : List (List ℕ)) → AreOwn passes history.items rows.now
+    ensures { IfOk result (λ entries. (passes : List (List ℕ))
+        → AreOwn passes history.items rows.now
         → entries.items ≡ numbered passes [] history.items) }
 {
     let found = actors_found(alloc, history.len(), rows)?;

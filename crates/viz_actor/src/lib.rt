@@ -3,9 +3,10 @@
 //!
 //! Contract: an update and an audit speak of the network of one prefix of the history, no shorter
 //! than what the pass had seen, and publish what was made for them; the lines of commands tell what
-//! became of them; and the commands of a script have one account over the ports of its actors, whose
-//! rows are those of its report. A run has one account of its script, and is told by it: what desk
-//! and ports were asked, the journal that was written, the text put, and the status. Definitions:
+//! became of them; and the commands of a script have one account over the ports of its actors,
+//! whose rows are those of its report. A run has one account of its script, and is told by it:
+//! what desk and ports were asked, the journal that was written, the text put, and the status.
+//! Definitions:
 //! `specs/Updating.antt`, `specs/Served.antt`, `specs/Serving.antt`, `specs/Groups.antt`,
 //! `specs/Deeds.antt`, and those of viz_account and viz_hub that they name; the rules are those of
 //! docs/FORMATS.md, "Scripts" and "Report".

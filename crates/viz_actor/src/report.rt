@@ -1,7 +1,8 @@
 //! The text that a run of a script puts, and its status (docs/FORMATS.md, "Report").
 
 ghost use Rattle.std.specs.Prelude.{◌≡◌, IfOk};
-ghost use Rattle.viz_actor.specs.Told.{is_memory, is_fault, is_refused, has_memory, has_fault, has_refused, served_status, telling_of};
+ghost use Rattle.viz_actor.specs.Told.{is_memory, is_fault, is_refused, has_memory, has_fault};
+ghost use Rattle.viz_actor.specs.Told.{has_refused, served_status, telling_of};
 
 use crate::ran::Ran;
 use std::alloc::{AllocError, Global};

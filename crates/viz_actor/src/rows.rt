@@ -1,6 +1,7 @@
 //! Rows of the report, by the new lines of places.
 
-ghost use Rattle.std.specs.Prelude.{◌≡◌, ◌+◌, ◌<◌, ◌≤◌, ◌^◌, ◌++◌, All, length, map, drop, vec_capacity};
+ghost use Rattle.std.specs.Prelude.{◌≡◌, ◌+◌, ◌<◌, ◌≤◌, ◌^◌, ◌++◌, All, length, map, drop};
+ghost use Rattle.std.specs.Prelude.{vec_capacity};
 ghost use Rattle.viz_report.specs.Report.{rows_from};
 ghost use Rattle.viz_actor.specs.Places.{new_rows, all_new_rows, untold, collected, IsPlaceTold};
 

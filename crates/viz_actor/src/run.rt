@@ -4,7 +4,9 @@ ghost use Rattle.std.specs.Prelude.{◌≡◌, ◌≢◌, ◌⊎◌};
 ghost use Rattle.viz_base.specs.Faults.{Rose, one_more};
 ghost use Rattle.viz_actor.specs.declared.ran.Ran.{Ran as Came};
 ghost use Rattle.viz_actor.specs.Deeds.{IsScriptRun};
-ghost use Rattle.viz_actor.specs.Promises.{IsScriptRefused, TellsRefusals, IsReported, IsServedWithFault, IsUnread, IsCutOff, IdleStay, SomeRose};
+ghost use Rattle.viz_actor.specs.Promises.{IsScriptRefused, TellsRefusals, IsReported};
+ghost use Rattle.viz_actor.specs.Promises.{IsServedWithFault, IsUnread, IsCutOff, IdleStay};
+ghost use Rattle.viz_actor.specs.Promises.{SomeRose};
 ghost use Rattle.viz_actor.specs.Told.{telling_of};
 ghost use Rattle.viz_told.specs.Told.{IsTold};
 
@@ -18,8 +20,8 @@ use viz_told::{Status, tell};
 /// Runs the script of this name: reads it from the desk, serves its commands by the ports, writes
 /// the journal of all accepted edits to the desk, and puts the report.
 ///
-/// `ports` are the actors' ports, the first one's first, and `gate` is what tasks pass. The statuses
-/// and texts are those of docs/FORMATS.md, "Report".
+/// `ports` are the actors' ports, the first one's first, and `gate` is what tasks pass. The
+/// statuses and texts are those of docs/FORMATS.md, "Report".
 pub fn run_script<R: Threads + Wait + Sync, P: Port + Send + Drop, O: Out, G: Gate + Sync>(
     rt: &R,
     alloc: Global,

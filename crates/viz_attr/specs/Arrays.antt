@@ -1,4 +1,5 @@
--- The arrays of an attribute part by rules, one a keyword (VTK User's Guide, "Simple legacy formats"; docs/FORMATS.md, "Attribute parts").
+-- The arrays of an attribute part by rules, one a keyword (VTK User's Guide, "Simple legacy
+-- formats"; docs/FORMATS.md, "Attribute parts").
 use Rattle.std.specs.Prelude.{ℕ, Bool, true, false, not, ◌||◌, List, [], ◌∷◌, ◌++◌, codes}
 use Rattle.viz_column.specs.declared.kind.Kind8.TheVariants.{U8}
 use Rattle.viz_lex.specs.declared.fault.FileKind.TheVariants.{Keyword}
@@ -31,15 +32,18 @@ association g which = do
 
 -- the head of an array that has a tuple for each point or cell
 abbrev pub head_in : Given → Association → List ℕ → Head
-head_in g which name = record { association = which; sort = Other; name = name; tuples = count_of g which }
+head_in g which name =
+    record { association = which; sort = Other; name = name; tuples = count_of g which }
 
 -- the head of an array of SCALARS
 abbrev pub scalars_head : Given → Association → List ℕ → Head
-scalars_head g which name = record { association = which; sort = Scalars; name = name; tuples = count_of g which }
+scalars_head g which name =
+    record { association = which; sort = Scalars; name = name; tuples = count_of g which }
 
 -- the head of an array of a FIELD, which has a number of tuples of its own
 abbrev pub field_head : Association → List ℕ → ℕ → Head
-field_head which name tuples = record { association = which; sort = Field; name = name; tuples = tuples }
+field_head which name tuples =
+    record { association = which; sort = Field; name = name; tuples = tuples }
 
 -- SCALARS name type [c], then LOOKUP_TABLE name
 abbrev pub scalars : Given → List Part → Association → Rule Part
@@ -75,7 +79,8 @@ colors g before which = do
 
 -- the head of a lookup table, which has as many tuples as colours
 abbrev pub table_head : Association → List ℕ → ℕ → Head
-table_head which name size = record { association = which; sort = Other; name = name; tuples = size }
+table_head which name size =
+    record { association = which; sort = Other; name = name; tuples = size }
 
 -- LOOKUP_TABLE name size, of four bytes each
 abbrev pub table : Given → List Part → Association → Rule Part
@@ -101,7 +106,8 @@ field_values g before which name = do
 abbrev pub field_array : Given → List Part → Association → List Part → Rule Part
 field_array g before which inner = do
   name ← word
-  demand (is_first inner || not (same_word name.1 (codes "METADATA"))) (fault_at Keyword name.0) (field_values g (before ++ inner) which name.1)
+  demand (is_first inner || not (same_word name.1 (codes "METADATA"))) (fault_at Keyword name.0)
+      (field_values g (before ++ inner) which name.1)
 
 -- FIELD name k, then k arrays
 abbrev pub field : Given → List Part → Association → Rule (List Part)

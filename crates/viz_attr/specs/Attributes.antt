@@ -1,5 +1,6 @@
 -- What the public calls promise of attribute parts (docs/FORMATS.md, "Attribute parts").
-use Rattle.std.specs.Prelude.{◌≡◌, ◌↔◌, ◌*◌, not, length, IfSome, ℕ, Bool, true, false, List, ◌∷◌, ◌++◌, Option, Some, None, Result, Ok, Err}
+use Rattle.std.specs.Prelude.{◌≡◌, ◌↔◌, ◌*◌, not, length, IfSome, ℕ, Bool, true, false, List, ◌∷◌}
+use Rattle.std.specs.Prelude.{◌++◌, Option, Some, None, Result, Ok, Err}
 use Rattle.viz_column.specs.Numbers.{Numbers}
 use Rattle.viz_lex.specs.Reading.{Reading}
 use Rattle.viz_lex.specs.Steps.{has}
@@ -21,7 +22,8 @@ Meets rule (Err Memory) old new = Unit {0}
 
 -- numbers are kept of an array exactly where it is the first that fits the pick
 abbrev pub KeepsTheFirst : Given → List (List Part) → Type 0
-KeepsTheFirst g all = (front back : List Part) (head : Head) (column : Option Numbers) → joined all ≡ front ++ Holds head column ∷ back → has column ≡ is_picked g front head
+KeepsTheFirst g all = (front back : List Part) (head : Head) (column : Option Numbers)
+    → joined all ≡ front ++ Holds head column ∷ back → has column ≡ is_picked g front head
 
 -- the picked numbers are one for each point, and there are some exactly where an array is asked for
 pub record IsPicked (g : Given) (column : Option Numbers) : Type 0 where
@@ -31,10 +33,15 @@ pub record IsPicked (g : Given) (column : Option Numbers) : Type 0 where
 -- in ASCII an array that isn't picked is so many words, whatever they are
 abbrev pub AreWordsAlone : Stored → ℕ → ℕ → Type 0
 AreWordsAlone stored tuples components =
-    (old new : Reading) (column : Option Numbers) → (values false false stored tuples components).is old new column ↔ ((words (tuples * components)).is old new tt × (column ≡ None))
+    (old new : Reading) (column : Option Numbers)
+    → (values false false stored tuples components).is old new column
+    ↔ ((words (tuples * components)).is old new tt × (column ≡ None))
 
 -- in BINARY it is so many bytes behind the end of the line
 abbrev pub AreBytesAlone : Stored → ℕ → ℕ → Type 0
 AreBytesAlone stored tuples components =
-    (old new : Reading) (column : Option Numbers) → (values true false stored tuples components).is old new column
-    ↔ (((bytes : List ℕ) × (line_end >>= λ ended. block (tuples * components * bytes_of stored)).is old new bytes) × (column ≡ None))
+    (old new : Reading) (column : Option Numbers)
+    → (values true false stored tuples components).is old new column
+    ↔ (((bytes : List ℕ)
+    × (line_end >>= λ ended. block (tuples * components * bytes_of stored)).is old new bytes)
+    × (column ≡ None))

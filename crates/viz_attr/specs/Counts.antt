@@ -1,5 +1,6 @@
 -- Counts in an attribute part, and where each is at fault (docs/FORMATS.md, "Attribute parts").
-use Rattle.std.specs.Prelude.{ℕ, ℤ, pos, negsuc, ◌^◌, Bool, false, ◌&&◌, ◌==◌, nat_le, nat_lt, unsigned_abs}
+use Rattle.std.specs.Prelude.{ℕ, ℤ, pos, negsuc, ◌^◌, Bool, false, ◌&&◌, ◌==◌, nat_le, nat_lt}
+use Rattle.std.specs.Prelude.{unsigned_abs}
 use Rattle.viz_lex.specs.declared.fault.FileKind.TheVariants.{Count, TooMany}
 use Rattle.viz_lex.specs.Reading.{fault_at}
 use Rattle.viz_lex.specs.Steps.{is_beside}

@@ -1,5 +1,7 @@
--- The attribute parts of a file by rules (VTK User's Guide, "Simple legacy formats"; docs/FORMATS.md, "Attribute parts").
-use Rattle.std.specs.Prelude.{◌≡◌, ℕ, Bool, true, false, ◌||◌, List, [], ◌∷◌, length, codes, Option, Some, None}
+-- The attribute parts of a file by rules (VTK User's Guide, "Simple legacy formats";
+-- docs/FORMATS.md, "Attribute parts").
+use Rattle.std.specs.Prelude.{◌≡◌, ℕ, Bool, true, false, ◌||◌, List, [], ◌∷◌, length, codes}
+use Rattle.std.specs.Prelude.{Option, Some, None}
 use Rattle.std.specs.List.{flat_map}
 use Rattle.viz_base.specs.declared.node.Pick.{Pick}
 use Rattle.viz_base.specs.declared.node.Pick.TheVariants.{First, Zero, Named}
@@ -13,7 +15,9 @@ use Rattle.viz_lex.specs.Items.{word}
 use Rattle.viz_attr.specs.declared.parts.Association.{Association}
 use Rattle.viz_attr.specs.declared.parts.Association.TheVariants.{Points, Cells}
 use Rattle.viz_attr.specs.Picks.{Given, Part, has_fit, picked_of, association_of}
-pub use Rattle.viz_attr.specs.Arrays.{array, association, head_in, scalars_head, field_head, scalars, vectors, texture, colors, table_head, table, is_first, field_values, field_array, field}
+pub use Rattle.viz_attr.specs.Arrays.{array, association, head_in, scalars_head, field_head}
+pub use Rattle.viz_attr.specs.Arrays.{scalars, vectors, texture, colors, table_head, table}
+pub use Rattle.viz_attr.specs.Arrays.{is_first, field_values, field_array, field}
 
 -- a part alone
 abbrev pub alone : Rule Part → Rule (List Part)
@@ -25,7 +29,8 @@ alone rule = do
 abbrev pub arrays : Given → List Part → Association → ℕ × List ℕ → Rule (List Part)
 arrays g before which key =
     choose (same_word key.1 (codes "SCALARS")) (alone (scalars g before which))
-    (choose (same_word key.1 (codes "VECTORS") || same_word key.1 (codes "NORMALS")) (alone (vectors g before which 3))
+    (choose (same_word key.1 (codes "VECTORS") || same_word key.1 (codes "NORMALS"))
+    (alone (vectors g before which 3))
     (choose (same_word key.1 (codes "TENSORS")) (alone (vectors g before which 9))
     (choose (same_word key.1 (codes "TEXTURE_COORDINATES")) (alone (texture g before which))
     (choose (same_word key.1 (codes "COLOR_SCALARS")) (alone (colors g before which))
@@ -69,7 +74,8 @@ is_zero (Named name) = false
 abbrev pub no_array : Rule (Option Numbers)
 no_array = record { is = λ old new x. ⊥; isnt = λ old f. f ≡ fault_at NoArray (length old.bytes) }
 
--- the attributes of a file: the numbers of the first array that fits the pick, and none where nothing is asked for
+-- the attributes of a file: the numbers of the first array that fits the pick, and none where
+-- nothing is asked for
 abbrev pub attributes : Given → Rule (Option Numbers)
 attributes g = do
   all ← parts g

@@ -1,4 +1,5 @@
--- A FIELD that stands among the lines of a file's geometry: its arrays are passed over (docs/FORMATS.md, "Reading").
+-- A FIELD that stands among the lines of a file's geometry: its arrays are passed over
+-- (docs/FORMATS.md, "Reading").
 use Rattle.std.specs.Prelude.{ℕ, Bool, true, false, not, ◌||◌, List, [], ◌∷◌, codes}
 use Rattle.viz_lex.specs.declared.fault.FileKind.TheVariants.{Keyword}
 use Rattle.viz_lex.specs.Reading.{fault_at}
@@ -23,7 +24,8 @@ passed_values binary = do
 abbrev pub passed_array : Bool → Bool → Rule (Unit {0})
 passed_array binary first = do
   name ← word
-  demand (first || not (same_word name.1 (codes "METADATA"))) (fault_at Keyword name.0) (passed_values binary)
+  demand (first || not (same_word name.1 (codes "METADATA"))) (fault_at Keyword name.0)
+      (passed_values binary)
 
 -- nothing stands before
 abbrev pub is_start : List (Unit {0}) → Bool

@@ -1,5 +1,7 @@
--- The readers of a FIELD that is passed over, which proofs compare with the rules (docs/FORMATS.md, "Reading").
-use Rattle.std.specs.Prelude.{ℕ, zero, suc, ◌*◌, Bool, true, false, not, ◌||◌, codes, Result, Ok, Err, if◌then◌else◌}
+-- The readers of a FIELD that is passed over, which proofs compare with the rules
+-- (docs/FORMATS.md, "Reading").
+use Rattle.std.specs.Prelude.{ℕ, zero, suc, ◌*◌, Bool, true, false, not, ◌||◌, codes, Result, Ok}
+use Rattle.std.specs.Prelude.{Err, if◌then◌else◌}
 use Rattle.viz_lex.specs.declared.fault.FileKind.TheVariants.{Keyword}
 use Rattle.viz_lex.specs.declared.fault.FileFault.{FileFault}
 use Rattle.viz_lex.specs.Reading.{Reading, ◌>>=◌}
@@ -15,9 +17,11 @@ unfoldable pub line_passed_at : ℕ → Reading → Result (Unit {0} × Reading)
 line_passed_at n r = line_bytes_at n r >>= λ bytes. Ok (tt, bytes.1)
 
 -- values that are passed over
-unfoldable pub values_passed_at : Bool → Stored → ℕ → ℕ → Reading → Result (Unit {0} × Reading) FileFault
+unfoldable pub values_passed_at : Bool → Stored → ℕ → ℕ → Reading
+    → Result (Unit {0} × Reading) FileFault
 values_passed_at binary stored tuples components r =
-    if binary then line_passed_at (tuples * components * bytes_of stored) r else words_at (tuples * components) r
+    if binary then line_passed_at (tuples * components * bytes_of stored) r
+    else words_at (tuples * components) r
 
 -- c t type and the values
 unfoldable pub passed_values_at : Bool → Reading → Result (Unit {0} × Reading) FileFault
@@ -38,7 +42,8 @@ passed_array_at binary first r = do
 -- so many arrays, the first of them or not
 unfoldable pub passed_arrays_at : Bool → Bool → ℕ → Reading → Result (Unit {0} × Reading) FileFault
 passed_arrays_at binary first zero r = Ok (tt, r)
-passed_arrays_at binary first (suc n) r = passed_array_at binary first r >>= λ x. passed_arrays_at binary false n x.1
+passed_arrays_at binary first
+    (suc n) r = passed_array_at binary first r >>= λ x. passed_arrays_at binary false n x.1
 
 -- behind the word FIELD
 unfoldable pub passed_field_at : Bool → Reading → Result (Unit {0} × Reading) FileFault

@@ -1,5 +1,6 @@
 -- The picked array: the first that fits the pick (docs/FORMATS.md, "Attribute parts").
-use Rattle.std.specs.Prelude.{ℕ, Bool, true, false, not, ◌&&◌, ◌||◌, ◌==◌, List, [], ◌∷◌, ◌++◌, Option, Some, None, option_map, if◌then◌else◌}
+use Rattle.std.specs.Prelude.{ℕ, Bool, true, false, not, ◌&&◌, ◌||◌, ◌==◌, List, [], ◌∷◌, ◌++◌}
+use Rattle.std.specs.Prelude.{Option, Some, None, option_map, if◌then◌else◌}
 use Rattle.viz_base.specs.declared.node.Pick.{Pick}
 use Rattle.viz_base.specs.declared.node.Pick.TheVariants.{First, Zero, Named}
 use Rattle.viz_column.specs.Numbers.{Numbers}
@@ -15,14 +16,16 @@ pub record Given : Type 0 where
   pub cells : ℕ
   pub pick : Pick
 
--- what stands in front of an array's values: whose attribute it is, of which sort, its name, and how many tuples it has
+-- what stands in front of an array's values: whose attribute it is, of which sort, its name, and
+-- how many tuples it has
 pub record Head : Type 0 where
   pub association : Association
   pub sort : Sort
   pub name : List ℕ
   pub tuples : ℕ
 
--- a part of the attributes: those of points or of cells begin there, or an array stands there, whose numbers are kept where it is the picked one
+-- a part of the attributes: those of points or of cells begin there, or an array stands there,
+-- whose numbers are kept where it is the picked one
 pub data Part : Type 0 where
   Begins : Association → Part
   Holds : Head → Option Numbers → Part
@@ -51,11 +54,13 @@ is_field Scalars = false
 is_field Field = true
 is_field Other = false
 
--- the pick names an array of this sort, name and number of tuples: the first of SCALARS, none, or one of this name that has a tuple for each point
+-- the pick names an array of this sort, name and number of tuples: the first of SCALARS, none, or
+-- one of this name that has a tuple for each point
 abbrev pub names : Pick → ℕ → Head → Bool
 names First points head = is_scalars head.sort
 names Zero points head = false
-names (Named name) points head = same_name name head.name && (is_scalars head.sort || (is_field head.sort && head.tuples == points))
+names (Named name) points head = same_name name head.name
+    && (is_scalars head.sort || (is_field head.sort && head.tuples == points))
 
 -- an array fits the pick: it is one of points, and the pick names it
 abbrev pub fits_pick : Given → Head → Bool

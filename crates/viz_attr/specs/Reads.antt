@@ -17,7 +17,8 @@ Stops (File fault) read = read ≡ Err fault
 Stops Memory read = Unit {0}
 
 -- a value, seen by view, and the new place; or the fault; or memory ran out
-abbrev pub ReadsUnlessMemory : {X Y : Type 0} → (X → Y) → Result X AttrStop → Reading → Result (Y × Reading) FileFault → Type 0
+abbrev pub ReadsUnlessMemory : {X Y : Type 0} → (X → Y) → Result X AttrStop → Reading
+    → Result (Y × Reading) FileFault → Type 0
 ReadsUnlessMemory view (Ok x) new read = read ≡ Ok (view x, new)
 ReadsUnlessMemory view (Err stop) new read = Stops stop read
 
@@ -27,16 +28,21 @@ known_of p = record { association = p.association; found = p.found; picked = p.p
 
 -- the head of an array, as the code holds it
 abbrev pub head_of : Named → Head
-head_of h = record { association = h.association; sort = h.sort; name = h.name.now; tuples = h.tuples }
+head_of h =
+    record { association = h.association; sort = h.sort; name = h.name.now; tuples = h.tuples }
 
 -- what is given, as the code holds it
 abbrev pub given_of : Files → Given
 given_of g = record { binary = g.binary; points = g.points; cells = g.cells; pick = g.pick.now }
 
 -- what is known behind what was read
-abbrev pub Knows : Result (Unit {0}) AttrStop → Progress → Reading → Result (Known × Reading) FileFault → Type 0
-Knows result new_progress new read = ReadsUnlessMemory (λ (done : Unit {0}). known_of new_progress) result new read
+abbrev pub Knows : Result (Unit {0}) AttrStop → Progress → Reading
+    → Result (Known × Reading) FileFault → Type 0
+Knows result new_progress new read = ReadsUnlessMemory
+    (λ (done : Unit {0}). known_of new_progress) result new read
 
 -- a part was read, and is known
-abbrev pub Adds : Files → Result (Unit {0}) AttrStop → Progress → Progress → Reading → Result (Part × Reading) FileFault → Type 0
-Adds g result old_progress new_progress new read = Knows result new_progress new (behind_part (given_of g) (known_of old_progress) read)
+abbrev pub Adds : Files → Result (Unit {0}) AttrStop → Progress → Progress → Reading
+    → Result (Part × Reading) FileFault → Type 0
+Adds g result old_progress new_progress new read = Knows result new_progress new
+    (behind_part (given_of g) (known_of old_progress) read)

@@ -1,5 +1,7 @@
--- The types of an array's values in a file (VTK User's Guide, "Simple legacy formats"; docs/FORMATS.md, "Types").
-use Rattle.std.specs.Prelude.{ℕ, Bool, true, false, not, ◌&&◌, ◌||◌, List, codes, Option, Some, None, unwrap_or, if◌then◌else◌}
+-- The types of an array's values in a file (VTK User's Guide, "Simple legacy formats";
+-- docs/FORMATS.md, "Types").
+use Rattle.std.specs.Prelude.{ℕ, Bool, true, false, not, ◌&&◌, ◌||◌, List, codes, Option, Some}
+use Rattle.std.specs.Prelude.{None, unwrap_or, if◌then◌else◌}
 use Rattle.viz_column.specs.declared.kind.Kind8.{Kind8}
 use Rattle.viz_column.specs.declared.kind.Kind8.TheVariants.{I8, U8, I16, U16, I32, U32, I64, U64}
 use Rattle.viz_column.specs.Kinds.{size_of}
@@ -20,8 +22,10 @@ stored_of word =
     else (if same_word word (codes "unsigned_short") then Some (Whole U16)
     else (if same_word word (codes "int") then Some (Whole I32)
     else (if same_word word (codes "unsigned_int") then Some (Whole U32)
-    else (if same_word word (codes "long") || same_word word (codes "vtktypeint64") then Some (Whole I64)
-    else (if same_word word (codes "unsigned_long") || same_word word (codes "vtktypeuint64") then Some (Whole U64)
+    else (if same_word word (codes "long") || same_word word (codes "vtktypeint64")
+    then Some (Whole I64)
+    else (if same_word word (codes "unsigned_long") || same_word word (codes "vtktypeuint64")
+    then Some (Whole U64)
     else (if same_word word (codes "float") then Some Float
     else (if same_word word (codes "double") then Some Double
     else None)))))))))
@@ -29,7 +33,9 @@ stored_of word =
 -- the type words of the format that aren't read here
 abbrev pub is_left_out_type : List ℕ → Bool
 is_left_out_type word =
-    same_word word (codes "bit") || same_word word (codes "vtkIdType") || same_word word (codes "string") || same_word word (codes "utf8_string") || same_word word (codes "variant")
+    same_word word (codes "bit") || same_word word (codes "vtkIdType")
+    || same_word word (codes "string") || same_word word (codes "utf8_string")
+    || same_word word (codes "variant")
 
 -- float or double
 abbrev pub is_real : Stored → Bool
@@ -53,4 +59,5 @@ type_word read = do
   w ← word
   demand (not (is_left_out_type w.1)) (fault_at Unsupported w.0) (
       demand (has (stored_of w.1)) (fault_at Keyword w.0) (
-      demand (not (read && is_real (named_by w.1))) (fault_at FloatArray w.0) (gives (named_by w.1))))
+      demand (not (read && is_real (named_by w.1))) (fault_at FloatArray w.0)
+      (gives (named_by w.1))))

@@ -1,5 +1,7 @@
--- The values of an array: numbers where it is picked, and else words or bytes that are passed over (docs/FORMATS.md, "Attribute parts").
-use Rattle.std.specs.Prelude.{ℕ, ℤ, pos, zero, get_or, suc, ◌-◌, ◌*◌, Bool, true, false, List, [], ◌∷◌, drop, Option, Some, None}
+-- The values of an array: numbers where it is picked, and else words or bytes that are passed over
+-- (docs/FORMATS.md, "Attribute parts").
+use Rattle.std.specs.Prelude.{ℕ, ℤ, pos, zero, get_or, suc, ◌-◌, ◌*◌, Bool, true, false, List, []}
+use Rattle.std.specs.Prelude.{◌∷◌, drop, Option, Some, None}
 use Rattle.viz_column.specs.declared.kind.Kind8.{Kind8}
 use Rattle.viz_column.specs.declared.kind.Kind8.TheVariants.{U8}
 use Rattle.viz_column.specs.Kinds.{fits}
@@ -45,11 +47,17 @@ text_values false stored tuples components = do
 -- the first number of each of so many tuples
 abbrev pub firsts : ℕ → ℕ → List ℤ → List ℤ
 firsts components zero numbers = []
-firsts components (suc tuples) numbers = get_or numbers 0 (pos 0) ∷ firsts components tuples (drop components numbers)
+firsts components (suc tuples) numbers = get_or numbers 0 (pos 0) ∷ firsts components tuples
+    (drop components numbers)
 
 -- what is kept of a block
 abbrev pub block_numbers : Bool → Stored → ℕ → ℕ → List ℕ → Option Numbers
-block_numbers true stored tuples components bytes = Some (record { kind = kind_of stored; items = firsts components tuples (numbers_in (kind_of stored) bytes) })
+block_numbers true stored tuples components bytes = Some
+    (record {
+      kind = kind_of stored;
+      items = firsts components tuples
+          (numbers_in (kind_of stored) bytes);
+    })
 block_numbers false stored tuples components bytes = None
 
 -- so many tuples in BINARY, behind the end of the line
@@ -62,4 +70,5 @@ block_values picked stored tuples components = do
 -- so many tuples, each of so many components
 abbrev pub values : Bool → Bool → Stored → ℕ → ℕ → Rule (Option Numbers)
 values binary picked stored tuples components =
-    choose binary (block_values picked stored tuples components) (text_values picked stored tuples components)
+    choose binary (block_values picked stored tuples components)
+    (text_values picked stored tuples components)

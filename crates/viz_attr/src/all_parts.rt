@@ -3,7 +3,8 @@
 ghost use Rattle.std.specs.Prelude.{◌≡◌, ◌+◌, ◌||◌, ℕ, List, length, None, IfOk};
 ghost use Rattle.viz_attr.specs.Attributes.{Meets, IsPicked};
 ghost use Rattle.viz_attr.specs.Grammar.{is_zero, attributes};
-ghost use Rattle.viz_attr.specs.Steps.{arrays_at, arrays_in_at, behind_at, part_at, parts_at, picked_at, attributes_at, start};
+ghost use Rattle.viz_attr.specs.Steps.{arrays_at, arrays_in_at, behind_at, part_at, parts_at};
+ghost use Rattle.viz_attr.specs.Steps.{picked_at, attributes_at, start};
 ghost use Rattle.viz_attr.specs.Reads.{known_of, given_of, Adds, Knows, ReadsUnlessMemory};
 
 use crate::arrays::{association, colors, scalars, table, texture, vectors};

@@ -6,7 +6,8 @@ ghost use Rattle.viz_attr.specs.declared.types.Stored.TheVariants.{Whole};
 ghost use Rattle.viz_attr.specs.Types.{bytes_of};
 ghost use Rattle.viz_attr.specs.Values.{kind_of};
 ghost use Rattle.viz_attr.specs.Grammar.{head_in, scalars_head, field_head};
-ghost use Rattle.viz_attr.specs.Steps.{is_wanted, array_at, association_at, scalars_at, vectors_at, texture_at, colors_at, table_at};
+ghost use Rattle.viz_attr.specs.Steps.{is_wanted, array_at, association_at, scalars_at};
+ghost use Rattle.viz_attr.specs.Steps.{vectors_at, texture_at, colors_at, table_at};
 ghost use Rattle.viz_attr.specs.Reads.{known_of, head_of, given_of, Adds};
 
 use crate::counts::{components, count_from, dimension, same_count};

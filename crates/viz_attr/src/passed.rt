@@ -3,7 +3,8 @@
 ghost use Rattle.std.specs.Prelude.{◌≡◌, ◌*◌, ◌<◌, ◌≤◌, ◌^◌, true};
 ghost use Rattle.viz_lex.specs.Reading.{Reads};
 ghost use Rattle.viz_attr.specs.Types.{bytes_of};
-ghost use Rattle.viz_attr.specs.PassedSteps.{line_passed_at, values_passed_at, passed_values_at, passed_array_at, passed_arrays_at, passed_field_at};
+ghost use Rattle.viz_attr.specs.PassedSteps.{line_passed_at, values_passed_at, passed_values_at};
+ghost use Rattle.viz_attr.specs.PassedSteps.{passed_array_at, passed_arrays_at, passed_field_at};
 
 use crate::counts::count_from;
 use crate::types::{Stored, type_word};

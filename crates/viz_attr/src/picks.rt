@@ -1,7 +1,8 @@
 //! Which array is the picked one.
 
 ghost use Rattle.std.specs.Prelude.{◌≡◌};
-ghost use Rattle.viz_attr.specs.Picks.{is_of_points, is_scalars, is_field, same_name, names, fits_pick, count_of};
+ghost use Rattle.viz_attr.specs.Picks.{is_of_points, is_scalars, is_field, same_name, names};
+ghost use Rattle.viz_attr.specs.Picks.{fits_pick, count_of};
 ghost use Rattle.viz_attr.specs.Steps.{is_wanted, with_part};
 ghost use Rattle.viz_attr.specs.Reads.{known_of, head_of, given_of};
 

@@ -1,13 +1,15 @@
 //! The values of an array: numbers where it is picked, and else words or bytes.
 
-ghost use Rattle.std.specs.Prelude.{◌≡◌, ◌+◌, ◌*◌, ◌-◌, ◌≤◌, ◌<◌, map, length, true, false, IfOk, min, ◌^◌};
+ghost use Rattle.std.specs.Prelude.{◌≡◌, ◌+◌, ◌*◌, ◌-◌, ◌≤◌, ◌<◌, map, length, true, false, IfOk};
+ghost use Rattle.std.specs.Prelude.{min, ◌^◌};
 ghost use Rattle.viz_column.specs.Kinds.{size_of, fits};
 ghost use Rattle.viz_lex.specs.Reading.{Reads, fault_at};
 ghost use Rattle.viz_lex.specs.Numbers.{whole_at};
 ghost use Rattle.viz_lex.specs.Steps.{start_at};
 ghost use Rattle.viz_lex.specs.Readers.{bytes_at};
 ghost use Rattle.viz_attr.specs.Values.{kind_of, firsts, block_numbers};
-ghost use Rattle.viz_attr.specs.Steps.{value_at, others_at, tuple_at, tuples_at, column_at, text_values_at, line_bytes_at, block_values_at, values_at};
+ghost use Rattle.viz_attr.specs.Steps.{value_at, others_at, tuple_at, tuples_at, column_at};
+ghost use Rattle.viz_attr.specs.Steps.{text_values_at, line_bytes_at, block_values_at, values_at};
 ghost use Rattle.viz_attr.specs.Types.{bytes_of};
 ghost use Rattle.viz_lex.specs.Passing.{words_at};
 ghost use Rattle.viz_lex.specs.Words.{line_end_at};

@@ -1,5 +1,7 @@
--- What contracts see of a port to files in memory, and what its next call answers (docs/DEFINITIONS.md, "The outside").
-use Rattle.std.specs.Prelude.{ℕ, ◌+◌, ◌==◌, List, [], ◌∷◌, length, take, Option, Some, None, is_some, if◌then◌else◌, Result, Ok, Err}
+-- What contracts see of a port to files in memory, and what its next call answers
+-- (docs/DEFINITIONS.md, "The outside").
+use Rattle.std.specs.Prelude.{ℕ, ◌+◌, ◌==◌, List, [], ◌∷◌, length, take, Option, Some, None}
+use Rattle.std.specs.Prelude.{is_some, if◌then◌else◌, Result, Ok, Err}
 use Rattle.viz_base.specs.declared.refusal.ReadRefusal.{ReadRefusal}
 use Rattle.viz_base.specs.declared.refusal.ReadRefusal.TheVariants as reading
 use Rattle.viz_base.specs.declared.refusal.WriteRefusal.{WriteRefusal}
@@ -10,7 +12,8 @@ use Rattle.viz_base.specs.declared.call.Call.{Call}
 use Rattle.viz_base.specs.Names.{is_name}
 use Rattle.viz_base.specs.Entries.{file_at, read_of}
 
--- files, the greatest length that is read, the calls that are to fail, those made so far, and how many failed
+-- files, the greatest length that is read, the calls that are to fail, those made so far, and how
+-- many failed
 pub record Store : Type 0 where
   pub files : List FileEntry
   pub limit : ℕ
@@ -29,11 +32,13 @@ next_kept port = kept_at port.failing (length port.calls + 1)
 
 -- what the next call answers, if it reads this name and there is memory
 abbrev pub next_read : Store → List ℕ → Result (List ℕ) ReadRefusal
-next_read port name = if is_some (next_kept port) then Err reading.Failed else read_of (file_at port.files name) port.limit
+next_read port name = if is_some (next_kept port) then Err reading.Failed
+    else read_of (file_at port.files name) port.limit
 
 -- what the next call answers, if it writes to this name and there is memory
 abbrev pub next_write : Store → List ℕ → Result (Unit {0}) WriteRefusal
-next_write port name = if is_some (next_kept port) then Err writing.Failed else (if is_name name then Ok tt else Err writing.Failed)
+next_write port name = if is_some (next_kept port) then Err writing.Failed
+    else (if is_name name then Ok tt else Err writing.Failed)
 
 -- the bytes that a write leaves in the file: all, or as many as a listed call keeps
 abbrev pub left_of : Option ℕ → List ℕ → List ℕ

@@ -13,7 +13,13 @@ pub padded-take : (a : Inside) → IsPadded a.len a.bytes → padded (take a.len
 padded-take a h =
     let long : a.len ≤ length a.bytes = omega arith in
     let same : length (take a.len a.bytes) ≡ a.len = length-take-le a.len a.bytes long in
-    let whole : take a.len a.bytes ++ replicate (64 - a.len) 0 ≡ a.bytes = ap (λ (zeros : List ℕ). take a.len a.bytes ++ zeros) (sym h.padding) ∙ take-append-drop a.len a.bytes in
+    let whole : take a.len a.bytes ++ replicate (64 - a.len) 0
+    ≡ a.bytes = ap (λ (zeros : List ℕ). take a.len a.bytes ++ zeros)
+    (sym h.padding) ∙ take-append-drop a.len a.bytes in
     let made : ℕ × List ℕ → Inside = λ (p : ℕ × List ℕ). record { len = p.0; bytes = p.1 } in
-    let pairs : (length (take a.len a.bytes), take a.len a.bytes ++ replicate (64 - length (take a.len a.bytes)) 0) ≡ (a.len, a.bytes) = rw same (cc) in
+    let pairs : (
+      length (take a.len a.bytes),
+      take a.len a.bytes
+          ++ replicate (64 - length (take a.len a.bytes)) 0,
+    ) ≡ (a.len, a.bytes) = rw same (cc) in
     ap made pairs

@@ -1,6 +1,8 @@
 //! The port to a real folder: a trusted edge, which tells neither files nor calls.
 
-ghost use Rattle.std.specs.Prelude.{◌≡◌, ℕ, ◌+◌, ◌<◌, ◌≤◌, ◌++◌, [], false, None, length, take, drop, vec_len, string_bytes, codes, IfOk, OnOk, IfSome, IsErrOf};
+ghost use Rattle.std.specs.Prelude.{◌≡◌, ℕ, ◌+◌, ◌<◌, ◌≤◌, ◌++◌, [], false, None, length, take};
+ghost use Rattle.std.specs.Prelude.{drop, vec_len, string_bytes, codes, IfOk, OnOk, IfSome};
+ghost use Rattle.std.specs.Prelude.{IsErrOf};
 ghost use Rattle.std.specs.Io.{ReadsAtMost};
 ghost use Rattle.std.specs.Io.KnownBytes.{Consumes, Appends, IsAtEnd};
 ghost use Rattle.viz_base.specs.Refusals.{IsWithin, NeverTooLong};

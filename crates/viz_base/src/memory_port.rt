@@ -1,6 +1,7 @@
 //! A port to files in memory, with calls that fail by a list.
 
-ghost use Rattle.std.specs.Prelude.{◌≡◌, ℕ, ◌+◌, ◌^◌, ◌<◌, ◌≤◌, ◌↔◌, ◌⊎◌, ◌++◌, [], true, Some, List, length, IsNone, IfOk, IsErrOf};
+ghost use Rattle.std.specs.Prelude.{◌≡◌, ℕ, ◌+◌, ◌^◌, ◌<◌, ◌≤◌, ◌↔◌, ◌⊎◌, ◌++◌, [], true, Some};
+ghost use Rattle.std.specs.Prelude.{List, length, IsNone, IfOk, IsErrOf};
 ghost use Rattle.std.specs.Option.{option_copied};
 ghost use Rattle.viz_base.specs.Names.{IsName};
 ghost use Rattle.viz_base.specs.Entries.{file_at, Puts};

@@ -1,6 +1,7 @@
 //! Named files that can be read and replaced.
 
-ghost use Rattle.std.specs.Prelude.{◌≡◌, ℕ, ◌+◌, ◌^◌, ◌<◌, ◌≤◌, ◌⊎◌, ◌++◌, Bool, List, Option, None, Some, IfOk, OnOk, IsTrue, IsErrOf, length};
+ghost use Rattle.std.specs.Prelude.{◌≡◌, ℕ, ◌+◌, ◌^◌, ◌<◌, ◌≤◌, ◌⊎◌, ◌++◌, Bool, List, Option};
+ghost use Rattle.std.specs.Prelude.{None, Some, IfOk, OnOk, IsTrue, IsErrOf, length};
 ghost use Rattle.viz_base.specs.Faults.{Rose};
 ghost use Rattle.viz_base.specs.Files.{Files, SameFiles, SameOthers, IsLonger, KeepsPrefix};
 ghost use Rattle.viz_base.specs.Calls.{read_calls, write_calls};

@@ -1,4 +1,5 @@
-//! Toy outcomes of each status, told to outputs that take the text, that fail, and that have no room.
+//! Toy outcomes of each status, told to outputs that take the text, that fail, and that have no
+//! room.
 
 use std::alloc::{AllocError, Global};
 use std::process::Abort;

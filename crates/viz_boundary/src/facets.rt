@@ -1,6 +1,7 @@
 //! The marked facets of cells, in turn.
 
-ghost use Rattle.std.specs.Prelude.{◌≡◌, ◌+◌, ◌<◌, ◌≤◌, ◌++◌, [], ◌∷◌, All, IfOk, OnOk, drop, false, length, slice_index_or, take, if◌then◌else◌};
+ghost use Rattle.std.specs.Prelude.{◌≡◌, ◌+◌, ◌<◌, ◌≤◌, ◌++◌, [], ◌∷◌, All, IfOk, OnOk, drop};
+ghost use Rattle.std.specs.Prelude.{false, length, slice_index_or, take, if◌then◌else◌};
 ghost use Rattle.std.specs.List.{flat_map};
 ghost use Rattle.viz_sheet.specs.Arrays.{ranks_in};
 ghost use Rattle.viz_sheet.specs.Kept.{kept, kept_rank};

@@ -1,14 +1,16 @@
 //! Which facets have a set of ranks that no other facet has, by a sort of keys and one pass over
 //! neighbours.
 
-ghost use Rattle.std.specs.Prelude.{◌≡◌, ◌↔◌, ◌&&◌, ◌+◌, ◌-◌, ◌<◌, ◌≤◌, ◌/◌, ◌%◌, ◌^◌, false, true, All, IfOk, IsTrue, length, slice_index_or};
+ghost use Rattle.std.specs.Prelude.{◌≡◌, ◌↔◌, ◌&&◌, ◌+◌, ◌-◌, ◌<◌, ◌≤◌, ◌/◌, ◌%◌, ◌^◌, false};
+ghost use Rattle.std.specs.Prelude.{true, All, IfOk, IsTrue, length, slice_index_or};
 ghost use Rattle.std.specs.List.{flat_map};
 ghost use Rattle.std.specs.List.Sorted.{IsSorted};
 ghost use Rattle.std.specs.Ordering.{nat_cmp};
 ghost use Rattle.viz_sheet.specs.Arrays.{ranks_in};
 ghost use Rattle.viz_mesh_meaning.specs.Facets.{facets_of};
 ghost use Rattle.viz_boundary.specs.Steps.Keys.{keyed_from};
-ghost use Rattle.viz_boundary.specs.Steps.Alone.{AreMarked, Begins, Ends, HaveIndices, TellAlone, index_of, is_alone, set_of};
+ghost use Rattle.viz_boundary.specs.Steps.Alone.{AreMarked, Begins, Ends, HaveIndices, TellAlone};
+ghost use Rattle.viz_boundary.specs.Steps.Alone.{index_of, is_alone, set_of};
 
 use crate::keys::facet_keys;
 use std::alloc::{AllocError, Global};
@@ -80,7 +82,8 @@ fn begins(sorted: &[u128], at: usize) -> bool
     requires { at < length sorted.now }
     ensures yes { result ≡ true → Begins sorted.now at }
     ensures no { result ≡ false → (0 < at)
-        × (set_of (slice_index_or sorted.now (at - 1) 0) ≡ set_of (slice_index_or sorted.now at 0)) }
+        × (set_of (slice_index_or sorted.now (at - 1) 0)
+        ≡ set_of (slice_index_or sorted.now at 0)) }
 {
     at == 0 || !is_same_set(sorted[at - 1], sorted[at])
 }
@@ -90,7 +93,8 @@ fn ends(sorted: &[u128], at: usize) -> bool
     requires { at < length sorted.now }
     ensures yes { result ≡ true → Ends sorted.now at }
     ensures no { result ≡ false → (at + 1 < length sorted.now)
-        × (set_of (slice_index_or sorted.now (at + 1) 0) ≡ set_of (slice_index_or sorted.now at 0)) }
+        × (set_of (slice_index_or sorted.now (at + 1) 0)
+        ≡ set_of (slice_index_or sorted.now at 0)) }
 {
     at + 1 == sorted.len() || !is_same_set(sorted[at + 1], sorted[at])
 }

@@ -1,6 +1,7 @@
 //! Keys in groups, by the smallest rank of each.
 
-ghost use Rattle.std.specs.Prelude.{◌≡◌, ◌+◌, ◌≤◌, ◌<◌, ◌^◌, ◌++◌, [], ◌∷◌, not, true, ◌==◌, IfOk, OnOk, length, slice_index_or};
+ghost use Rattle.std.specs.Prelude.{◌≡◌, ◌+◌, ◌≤◌, ◌<◌, ◌^◌, ◌++◌, [], ◌∷◌, not, true, ◌==◌, IfOk};
+ghost use Rattle.std.specs.Prelude.{OnOk, length, slice_index_or};
 ghost use Rattle.std.specs.List.Sorted.{IsPermutation};
 ghost use Rattle.viz_boundary.specs.Steps.Slots.{held};
 
@@ -10,8 +11,8 @@ use viz_sheet::Ranks;
 /// What stands in a slot that is free. A key may be the same number: it goes to the rest.
 pub(crate) const FREE: u128 = u128::MAX;
 
-/// How many ranks have one group. Small groups are sorted sooner, and keys of cells that stand in no
-/// order are laid sooner in large ones.
+/// How many ranks have one group. Small groups are sorted sooner, and keys of cells that stand in
+/// no order are laid sooner in large ones.
 const RANKS: u32 = 8;
 
 /// Keys in slots, each in that which its group has next, and those that found it taken.
@@ -69,8 +70,8 @@ impl Slots {
     }
 }
 
-/// Counts a cell's facets by the group of their smallest rank: that which leaves the cell's smallest
-/// rank out has the second one, each other has the smallest one.
+/// Counts a cell's facets by the group of their smallest rank: that which leaves the cell's
+/// smallest rank out has the second one, each other has the smallest one.
 fn count_facets(counts: &mut [u32], cell: &[u32]) {
     let mut first = u32::MAX;
     let mut second = u32::MAX;

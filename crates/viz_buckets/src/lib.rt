@@ -1,8 +1,8 @@
 //! A list whose items have numbers, so that those of one number are found without the others.
 //!
-//! Contract: `Buckets` is a list that grows at its end, and `bucket` gives all items of a number, in
-//! the list's order, among few others. Definitions: `specs/Buckets.antt`; `specs/Steps.antt` has
-//! the words of private contracts.
+//! Contract: `Buckets` is a list that grows at its end, and `bucket` gives all items of a number,
+//! in the list's order, perhaps with others. Definitions: `specs/Buckets.antt`; `specs/Steps.antt`
+//! has the words of private contracts.
 #![tactic(auto)]
 
 ghost use Rattle.std.specs.Prelude.{◌≡◌, ◌++◌, ◌∷◌, [], ◌%◌, ◌<◌, ℕ, IfOk, OnOk, length};

@@ -1,4 +1,5 @@
--- A cache of bounded size that drops the entry used least recently: the list of its entries after each call (docs/DEFINITIONS.md, "Kept parts").
+-- A cache of bounded size that drops the entry used least recently: the list of its entries after
+-- each call (docs/DEFINITIONS.md, "Kept parts").
 use Rattle.std.specs.Prelude.{ℕ, ◌-◌, Bool, List, [], ◌∷◌, Option, if◌then◌else◌, take, find}
 use Rattle.std.specs.List.{list_any}
 use Rattle.std.specs.Option.{option_map_or}
@@ -26,8 +27,11 @@ without key (e ∷ es) = if same_key key e.key then es else e ∷ without key es
 
 -- the entry of a key goes first; where none has it, all stay as they are
 abbrev pub brought_first : Key → List Stored → List Stored
-brought_first key entries = option_map_or (λ e. e ∷ without key entries) (entry_of key entries) entries
+brought_first key entries = option_map_or (λ e. e ∷ without key entries)
+    (entry_of key entries) entries
 
--- an item goes first, in place of the entry of its key; a new key drops the last entry where there are as many as there may be
+-- an item goes first, in place of the entry of its key; a new key drops the last entry where there
+-- are as many as there may be
 abbrev pub with_item : ℕ → Stored → List Stored → List Stored
-with_item capacity item entries = item ∷ (if has_key item.key entries then without item.key entries else take (capacity - 1) entries)
+with_item capacity item entries = item ∷ (if has_key item.key entries then without item.key entries
+    else take (capacity - 1) entries)

@@ -1,4 +1,5 @@
--- Names of the cells in a cell: those of the edges of it that are cut (docs/FORMATS.md, "Names of a section").
+-- Names of the cells in a cell: those of the edges of it that are cut (docs/FORMATS.md, "Names of
+-- a section").
 use Rattle.std.specs.Prelude.{◌≡◌, ◌≢◌, ℕ, Bool, List, All, Contains}
 use Rattle.std.specs.List.{flat_map}
 use Rattle.viz_sheet.specs.Sheet.{IsNamedCell}
@@ -6,7 +7,8 @@ use Rattle.viz_meaning.specs.Names.{edge_name}
 use Rattle.viz_meaning.specs.Section.{cells_in}
 
 -- a name is that of an edge between two names of a cell, exactly one of which is inside
-pub record NamesCutEdge (inside : List ℕ → Bool) (cell : List (List ℕ)) (name : List ℕ) : Type 0 where
+pub record NamesCutEdge (inside : List ℕ → Bool) (cell : List (List ℕ))
+    (name : List ℕ) : Type 0 where
   pub m : List ℕ
   pub n : List ℕ
   pub has_m : Contains cell m
@@ -24,4 +26,5 @@ NamesAreOfTheirCell =
 abbrev pub CutEdgesAreNamed : Type 0
 CutEdgesAreNamed =
     (inside : List ℕ → Bool) (cell : List (List ℕ)) (name : List ℕ) → IsNamedCell cell
-    → NamesCutEdge inside cell name → Contains (flat_map (λ piece. piece) (cells_in inside cell)) name
+    → NamesCutEdge inside cell name → Contains
+    (flat_map (λ piece. piece) (cells_in inside cell)) name

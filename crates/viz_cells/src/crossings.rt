@@ -1,11 +1,13 @@
 //! The points of a section: the crossing of each key.
-ghost use Rattle.std.specs.Prelude.{◌≡◌, ◌≢◌, ◌↔◌, ◌<◌, All, IfOk, IfSome, IsOk, OnOk, false, int_le, length, map, pos, true};
+ghost use Rattle.std.specs.Prelude.{◌≡◌, ◌≢◌, ◌↔◌, ◌<◌, All, IfOk, IfSome, IsOk, OnOk, false};
+ghost use Rattle.std.specs.Prelude.{int_le, length, map, pos, true};
 ghost use Rattle.viz_fraction.specs.Crossings.{IsNarrowCrossing, crossing_of};
 ghost use Rattle.viz_fraction.specs.Forms.{IsNarrowValue};
 ghost use Rattle.viz_fraction.specs.Points.{IsNarrow};
 ghost use Rattle.viz_sheet.specs.Arrays.{points_in};
 ghost use Rattle.viz_meaning.specs.Section.{zero_point};
-ghost use Rattle.viz_cells.specs.Steps.Crossings.{IsCutKey, IsEnd, IsNarrowEither, IsNarrowKey, either_crossing, key_crossing, point_at};
+ghost use Rattle.viz_cells.specs.Steps.Crossings.{IsCutKey, IsEnd, IsNarrowEither, IsNarrowKey};
+ghost use Rattle.viz_cells.specs.Steps.Crossings.{either_crossing, key_crossing, point_at};
 
 use crate::insides::is_at_least_0;
 use crate::key::{high, low};

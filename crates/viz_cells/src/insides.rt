@@ -1,5 +1,6 @@
 //! Which points of a sheet are inside.
-ghost use Rattle.std.specs.Prelude.{◌≡◌, ◌↔◌, ◌<◌, All, IfOk, IsOk, OnOk, length, map, pos, int_le, slice_index_or};
+ghost use Rattle.std.specs.Prelude.{◌≡◌, ◌↔◌, ◌<◌, All, IfOk, IsOk, OnOk, length, map, pos};
+ghost use Rattle.std.specs.Prelude.{int_le, slice_index_or};
 ghost use Rattle.viz_fraction.specs.Forms.{IsNarrowValue, value_of};
 ghost use Rattle.viz_sheet.specs.Arrays.{points_in};
 ghost use Rattle.viz_meaning.specs.Section.{is_inside_at, zero_point};

@@ -1,9 +1,11 @@
 //! The cells of a section, cell by cell, by the keys of their ends.
-ghost use Rattle.std.specs.Prelude.{◌≡◌, ◌-◌, ◌<◌, ◌≤◌, ◌^◌, ◌++◌, [], ◌∷◌, All, IfOk, OnOk, length, slice_index};
+ghost use Rattle.std.specs.Prelude.{◌≡◌, ◌-◌, ◌<◌, ◌≤◌, ◌^◌, ◌++◌, [], ◌∷◌, All, IfOk, OnOk};
+ghost use Rattle.std.specs.Prelude.{length, slice_index};
 ghost use Rattle.viz_sheet.specs.Arrays.{ranks_in};
 ghost use Rattle.viz_sheet.specs.Ranked.{IsCell};
 ghost use Rattle.viz_cells.specs.Steps.Keys.{key_of};
-ghost use Rattle.viz_cells.specs.Steps.Pieces.{corner_mask, held, held_from, keys_in, number_key, pieces_of};
+ghost use Rattle.viz_cells.specs.Steps.Pieces.{corner_mask, held, held_from, keys_in, number_key};
+ghost use Rattle.viz_cells.specs.Steps.Pieces.{pieces_of};
 
 use crate::key::key;
 use crate::piece::Piece;

@@ -1,5 +1,6 @@
 -- Numbers as bytes, big endian, in two's complement (VTK User's Guide, "Simple legacy formats").
-use Rattle.std.specs.Prelude.{◌≡◌, ◌<◌, ℕ, ℤ, pos, zero, suc, ◌/◌, ◌%◌, List, [], ◌∷◌, length, drop, slice_index}
+use Rattle.std.specs.Prelude.{◌≡◌, ◌<◌, ℕ, ℤ, pos, zero, suc, ◌/◌, ◌%◌, List, [], ◌∷◌, length}
+use Rattle.std.specs.Prelude.{drop, slice_index}
 use Rattle.std.specs.Int.{w8, w16, w32, w64, cast_signed, cast_unsigned}
 use Rattle.std.specs.List.{flat_map}
 use Rattle.byteorder.specs.Endian.{big_bytes, big_number}

@@ -1,6 +1,7 @@
 //! A column.
 
-ghost use Rattle.std.specs.Prelude.{◌≡◌, ◌↔◌, ◌<◌, ◌++◌, ◌∷◌, [], length, true, map, slice_index_or, pos, IsSome, IfSome, IfOk, OnOk, OnErr};
+ghost use Rattle.std.specs.Prelude.{◌≡◌, ◌↔◌, ◌<◌, ◌++◌, ◌∷◌, [], length, true, map};
+ghost use Rattle.std.specs.Prelude.{slice_index_or, pos, IsSome, IfSome, IfOk, OnOk, OnErr};
 ghost use Rattle.viz_column.specs.Kinds.{fits};
 ghost use Rattle.viz_column.specs.Numbers.{AreInRange};
 ghost use Rattle.viz_column.specs.Bytes.{block_of, IsBlock, numbers_of};

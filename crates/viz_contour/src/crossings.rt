@@ -1,6 +1,7 @@
 //! The crossing on the edge of a name.
 
-ghost use Rattle.std.specs.Prelude.{◌≡◌, ◌≢◌, ◌^◌, ◌<◌, ◌≤◌, pos, ◌-ℤ◌, ◌*ℤ◌, ◌↔◌, IfSome, IfOk, IsOk, true, false, int_le, unsigned_abs};
+ghost use Rattle.std.specs.Prelude.{◌≡◌, ◌≢◌, ◌^◌, ◌<◌, ◌≤◌, pos, ◌-ℤ◌, ◌*ℤ◌, ◌↔◌, IfSome, IfOk};
+ghost use Rattle.std.specs.Prelude.{IsOk, true, false, int_le, unsigned_abs};
 ghost use Rattle.viz_extent.specs.Extent.{count_of};
 ghost use Rattle.viz_fraction.specs.Points.{IsNarrow};
 ghost use Rattle.viz_fraction.specs.Forms.{contour_form, value_of};

@@ -1,6 +1,7 @@
 //! The points of leaves: quickly where an image's origin and spacing are whole numbers of units.
 
-ghost use Rattle.std.specs.Prelude.{◌≡◌, ◌^◌, ◌<◌, ◌≤◌, pos, ◌+ℤ◌, ◌*ℤ◌, slice_index_or, unsigned_abs, IfSome};
+ghost use Rattle.std.specs.Prelude.{◌≡◌, ◌^◌, ◌<◌, ◌≤◌, pos, ◌+ℤ◌, ◌*ℤ◌, slice_index_or};
+ghost use Rattle.std.specs.Prelude.{unsigned_abs, IfSome};
 ghost use Rattle.viz_extent.specs.Extent.{count_of, Has};
 ghost use Rattle.viz_extent.specs.Numbering.{index_at};
 ghost use Rattle.viz_fraction.specs.Points.{numbers, reduced};

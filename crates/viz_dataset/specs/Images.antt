@@ -1,5 +1,6 @@
 -- Images: a number at each point of an extent (VTK User's Guide, "Simple legacy formats").
-use Rattle.std.specs.Prelude.{◌≡◌, ℕ, ◌^◌, ◌≤◌, ℤ, pos, ◌+ℤ◌, ◌*ℤ◌, ◌≤ℤ◌, ◌<ℤ◌, List, length, slice_index_or, unsigned_abs}
+use Rattle.std.specs.Prelude.{◌≡◌, ℕ, ◌^◌, ◌≤◌, ℤ, pos, ◌+ℤ◌, ◌*ℤ◌, ◌≤ℤ◌, ◌<ℤ◌, List, length}
+use Rattle.std.specs.Prelude.{slice_index_or, unsigned_abs}
 use Rattle.viz_extent.specs.Extent.{Bounds, count_of, IsExtent, Has}
 use Rattle.viz_extent.specs.Numbering.{index_at}
 use Rattle.viz_fraction.specs.Points.{Point, numbers, reduced}
@@ -80,7 +81,8 @@ corner image =
 -- the point at the indices i, j, k with a scalar, in lowest terms
 abbrev pub placed : Vector → Vector → ℕ → ℕ → ℕ → ℤ → Point
 placed origin spacing i j k scalar =
-    reduced (numbers (position origin.x spacing.x i) (position origin.y spacing.y j) (position origin.z spacing.z k) (scalar *ℤ billion) billion)
+    reduced (numbers (position origin.x spacing.x i) (position origin.y spacing.y j)
+    (position origin.z spacing.z k) (scalar *ℤ billion) billion)
 
 -- the point i, j, k of an image, with its number as the scalar
 abbrev pub point_at : ImageData → ℕ → ℕ → ℕ → Point

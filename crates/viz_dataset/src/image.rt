@@ -3,7 +3,8 @@
 ghost use Rattle.std.specs.Prelude.{◌≡◌, length, IfOk};
 ghost use Rattle.viz_extent.specs.Extent.{count_of, Has};
 ghost use Rattle.viz_extent.specs.Parts.{IsPart};
-ghost use Rattle.viz_dataset.specs.Images.{vector_of, IsOrigin, IsSpacing, IsImage, IsRestricted, corner, point_at};
+ghost use Rattle.viz_dataset.specs.Images.{vector_of, IsOrigin, IsSpacing, IsImage, IsRestricted};
+ghost use Rattle.viz_dataset.specs.Images.{corner, point_at};
 
 use crate::points::{coordinate, point_of, scalar_at};
 use crate::restricted::restricted;

@@ -1,8 +1,10 @@
 //! Where the points of an image lie.
 
-ghost use Rattle.std.specs.Prelude.{◌≡◌, ◌^◌, ◌≤◌, ◌<◌, pos, ◌*ℤ◌, length, slice_index_or, unsigned_abs, IfSome};
+ghost use Rattle.std.specs.Prelude.{◌≡◌, ◌^◌, ◌≤◌, ◌<◌, pos, ◌*ℤ◌, length, slice_index_or};
+ghost use Rattle.std.specs.Prelude.{unsigned_abs, IfSome};
 ghost use Rattle.viz_fraction.specs.Points.{numbers, reduced};
-ghost use Rattle.viz_dataset.specs.Images.{vector_of, IsPosition, IsOrigin, IsStep, IsSpacing, billion, position, placed};
+ghost use Rattle.viz_dataset.specs.Images.{vector_of, IsPosition, IsOrigin, IsStep, IsSpacing};
+ghost use Rattle.viz_dataset.specs.Images.{billion, position, placed};
 
 use viz_column::Column;
 use viz_fraction::{Point5, point};

@@ -24,8 +24,8 @@ use viz_node_rules::OwnStop;
 use viz_parts::{Key, Stored};
 
 /// The dataset of the node of an update, the parts that tasks made of nodes that aren't released,
-/// in the order of the tasks, the key of the last of them where the dataset is that part itself, and
-/// the number of tasks.
+/// in the order of the tasks, the key of the last of them where the dataset is that part itself,
+/// and the number of tasks.
 #[derive(Drop)]
 pub struct Carried {
     pub dataset: Dataset,

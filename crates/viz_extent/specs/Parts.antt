@@ -1,4 +1,5 @@
--- Parts of an extent, an axis at a time, and the points that they have (VTK User's Guide, the executive and "Extract subset of data").
+-- Parts of an extent, an axis at a time, and the points that they have (VTK User's Guide, the
+-- executive and "Extract subset of data").
 use Rattle.std.specs.Prelude.{ℕ, ◌+◌, ◌-◌, ◌*◌, ◌/◌, ◌≤◌, ◌↔◌, List, slice_index, min, max}
 use Rattle.viz_extent.specs.Extent.{Bounds, IsOnAxis, Has}
 
@@ -99,7 +100,8 @@ pub record IsRate (rate : Rate) : Type 0 where
 abbrev pub first_kept : ℕ → ℕ → ℕ
 first_kept lower rate = (lower + (rate - 1)) / rate
 
--- the kept points with their own indices: from the lower bound divided and rounded up to the upper one divided and rounded down
+-- the kept points with their own indices: from the lower bound divided and rounded up to the upper
+-- one divided and rounded down
 abbrev pub sampled : Rate → Bounds → Bounds
 sampled rate b =
     record {

@@ -1,5 +1,7 @@
--- Slabs and layers of an extent, across z, in shares that follow each other (VTK User's Guide, "Streaming").
-use Rattle.std.specs.Prelude.{◌≡◌, ℕ, ◌+◌, ◌-◌, ◌*◌, ◌/◌, ◌<◌, Option, Some, None, List, [], flat_map, nat_lt, min, if◌then◌else◌}
+-- Slabs and layers of an extent, across z, in shares that follow each other (VTK User's Guide,
+-- "Streaming").
+use Rattle.std.specs.Prelude.{◌≡◌, ℕ, ◌+◌, ◌-◌, ◌*◌, ◌/◌, ◌<◌, Option, Some, None, List, []}
+use Rattle.std.specs.Prelude.{flat_map, nat_lt, min, if◌then◌else◌}
 use Rattle.std.specs.List.{range_with_len}
 use Rattle.viz_extent.specs.Extent.{Bounds, size_z}
 
@@ -34,7 +36,8 @@ next_layer p n b = share_begin n (layer_count b) (p + 1)
 abbrev pub touched : ℕ → ℕ → ℕ → Bounds → Bounds
 touched first next ghosts b = planes (first - ghosts) (min (layer_count b) (next + ghosts)) b
 
--- the planes of the layers of piece p of n and of so many more at both sides, if the piece has layers
+-- the planes of the layers of piece p of n and of so many more at both sides, if the piece has
+-- layers
 abbrev pub layers_of : ℕ → ℕ → ℕ → Bounds → Option Bounds
 layers_of p n ghosts b =
     let first = first_layer p n b in

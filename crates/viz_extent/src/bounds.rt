@@ -1,6 +1,7 @@
 //! The type `Extent`, and its calls.
 ghost use Rattle.std.specs.Prelude.{◌≡◌, ℕ, ◌<◌, ◌≤◌, ◌^◌, ◌↔◌, [], ◌∷◌, IsTrue, IsSome, IfSome};
-ghost use Rattle.viz_extent.specs.Extent.{Bounds, bounds_of, numbers_of, size_of, count_of, IsAxis, IsExtent, Has};
+ghost use Rattle.viz_extent.specs.Extent.{Bounds, bounds_of, numbers_of, size_of, count_of};
+ghost use Rattle.viz_extent.specs.Extent.{IsAxis, IsExtent, Has};
 ghost use Rattle.viz_extent.specs.Numbering.{index_at};
 
 use std::marker::Model;

@@ -1,5 +1,7 @@
 //! Laws of the numbers of an extent's points. A function that calls one may rest on it.
-ghost use Rattle.viz_extent.specs.Numbering.{BeginsAtLowestCorner, StepsAlongX, StepsAlongY, StepsAlongZ, RowsFollow, PlanesFollow, EndsAtHighestCorner};
+ghost use Rattle.viz_extent.specs.Numbering.{BeginsAtLowestCorner, StepsAlongX, StepsAlongY};
+ghost use Rattle.viz_extent.specs.Numbering.{StepsAlongZ, RowsFollow, PlanesFollow};
+ghost use Rattle.viz_extent.specs.Numbering.{EndsAtHighestCorner};
 
 /// The numbers begin with 0 at the lowest corner, and go with x fastest, then y, then z.
 pub fn x_is_fastest()

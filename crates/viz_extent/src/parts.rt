@@ -2,7 +2,10 @@
 
 ghost use Rattle.std.specs.Prelude.{◌≡◌, ◌/◌, ◌≤◌, ◌↔◌, IsTrue, IsSome, IfSome};
 ghost use Rattle.viz_extent.specs.Extent.{bounds_of, IsAxis, IsExtent};
-ghost use Rattle.viz_extent.specs.Parts.{IsAxisPart, IsPart, HasAll, common, CommonPoint, HasCommon, grown, HasGrown, rate_of, IsAxisRate, IsRate, first_kept, sampled, HasSampled, KeptIndex, KeepsAxes, spread};
+ghost use Rattle.viz_extent.specs.Parts.{IsAxisPart, IsPart, HasAll, common, CommonPoint};
+ghost use Rattle.viz_extent.specs.Parts.{HasCommon, grown, HasGrown, rate_of, IsAxisRate, IsRate};
+ghost use Rattle.viz_extent.specs.Parts.{first_kept, sampled, HasSampled, KeptIndex, KeepsAxes};
+ghost use Rattle.viz_extent.specs.Parts.{spread};
 
 use crate::bounds::Extent;
 

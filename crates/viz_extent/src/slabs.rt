@@ -3,7 +3,8 @@
 ghost use Rattle.std.specs.Prelude.{◌≡◌, ◌+◌, ◌<◌, ◌≤◌, IfSome};
 ghost use Rattle.viz_extent.specs.Extent.{IsExtent};
 ghost use Rattle.viz_extent.specs.Parts.{IsPart};
-ghost use Rattle.viz_extent.specs.Slabs.{share_begin, slab_of, layers_of, SlabsAreAll, LayersAreAll};
+ghost use Rattle.viz_extent.specs.Slabs.{share_begin, slab_of, layers_of, SlabsAreAll};
+ghost use Rattle.viz_extent.specs.Slabs.{LayersAreAll};
 
 use crate::bounds::Extent;
 

@@ -1,12 +1,14 @@
 //! The pieces of a grid, by ranks.
 
-ghost use Rattle.std.specs.Prelude.{◌≡◌, ◌++◌, ℕ, List, All, IfOk, OnOk, IfSome, IsTrue, length, map, true};
+ghost use Rattle.std.specs.Prelude.{◌≡◌, ◌++◌, ℕ, List, All, IfOk, OnOk, IfSome, IsTrue, length};
+ghost use Rattle.std.specs.Prelude.{map, true};
 ghost use Rattle.viz_mesh_read.specs.Grid.{first_count, behind_first};
 ghost use Rattle.viz_mesh_read.specs.Pieces.{first_indices, in_cells};
 ghost use Rattle.viz_mesh_read.specs.Sections.{section_of};
 ghost use Rattle.viz_sheet.specs.Arrays.{ranks_in};
 ghost use Rattle.viz_sheet.specs.Ranked.{IsCell};
-ghost use Rattle.viz_file_mesh.specs.GridPieces.{is_among, repeats_none, grid_piece, grid_pieces_in};
+ghost use Rattle.viz_file_mesh.specs.GridPieces.{is_among, repeats_none, grid_piece};
+ghost use Rattle.viz_file_mesh.specs.GridPieces.{grid_pieces_in};
 
 use crate::cells::{CellIndices, mixed_cell};
 use std::alloc::{AllocError, Global};

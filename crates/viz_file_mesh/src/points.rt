@@ -1,6 +1,7 @@
 //! The points of a file, each with its scalar.
 
-ghost use Rattle.std.specs.Prelude.{◌≡◌, ◌<◌, ◌≤◌, ◌^◌, ◌*◌, ◌+◌, ◌*ℤ◌, pos, length, map, slice_index_or, unsigned_abs, IfOk, IfSome};
+ghost use Rattle.std.specs.Prelude.{◌≡◌, ◌<◌, ◌≤◌, ◌^◌, ◌*◌, ◌+◌, ◌*ℤ◌, pos, length, map};
+ghost use Rattle.std.specs.Prelude.{slice_index_or, unsigned_abs, IfOk, IfSome};
 ghost use Rattle.viz_fraction.specs.Points.{numbers, reduced};
 ghost use Rattle.viz_sheet.specs.Arrays.{points_in};
 ghost use Rattle.viz_file_mesh.specs.FileMesh.{ArePoints, scalar_at, file_points};

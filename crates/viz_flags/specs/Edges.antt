@@ -1,11 +1,14 @@
--- The edges of a grid by number: eight numbers for each lower leaf, of which seven are directions (Kuhn 1960).
+-- The edges of a grid by number: eight numbers for each lower leaf, of which seven are directions
+-- (Kuhn 1960).
 use Rattle.std.specs.Prelude.{ℕ, ◌+◌, ◌/◌, ◌%◌, List, [], ◌∷◌, map, slice_index_or}
 use Rattle.viz_grid_section.specs.Edges.{Edge}
 
--- how far the upper leaf of an edge is from the lower one, by its direction, where a row and a plane of points are so long; the eighth is none
+-- how far the upper leaf of an edge is from the lower one, by its direction, where a row and a
+-- plane of points are so long; the eighth is none
 abbrev pub step_of : ℕ → ℕ → ℕ → ℕ
 step_of row plane d =
-    slice_index_or (1 ∷ row ∷ (row + 1) ∷ plane ∷ (plane + 1) ∷ (plane + row) ∷ (plane + row + 1) ∷ (plane + row + 2) ∷ []) d 0
+    slice_index_or (1 ∷ row ∷ (row + 1) ∷ plane ∷ (plane + 1) ∷ (plane + row) ∷ (plane + row + 1) ∷
+    (plane + row + 2) ∷ []) d 0
 
 -- the edge with a number
 unfoldable pub edge : ℕ → ℕ → ℕ → Edge

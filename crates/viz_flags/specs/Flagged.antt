@@ -15,15 +15,20 @@ all_edges row plane n = map (edge row plane) (range_with_len 0 n)
 unfoldable pub flagged : ℕ → ℕ → List Bool → List Edge
 flagged row plane bits = kept bits (all_edges row plane (length bits))
 
--- where just the ends of a section's cells are flagged, the flagged edges are the edges of the cells
+-- where just the ends of a section's cells are flagged, the flagged edges are the edges of the
+-- cells
 abbrev pub FlaggedAreEdges : Type 0
 FlaggedAreEdges =
-    (b : Bounds) (inside bits : List Bool) (out : List (List ℕ)) → cells_by (size_x b) (plane_size b) out ≡ grid_cells b inside
-    → AreMarks (8 * count_of b) out bits → flagged (size_x b) (plane_size b) bits ≡ edges_of (grid_cells b inside)
+    (b : Bounds) (inside bits : List Bool) (out : List (List ℕ))
+    → cells_by (size_x b) (plane_size b) out ≡ grid_cells b inside
+    → AreMarks (8 * count_of b) out bits → flagged (size_x b) (plane_size b) bits
+    ≡ edges_of (grid_cells b inside)
 
 -- and the rank of an edge is the number of flags before its own
 abbrev pub FlagsAreRanks : Type 0
 FlagsAreRanks =
-    (b : Bounds) (inside bits : List Bool) (out : List (List ℕ)) → cells_by (size_x b) (plane_size b) out ≡ grid_cells b inside
+    (b : Bounds) (inside bits : List Bool) (out : List (List ℕ))
+    → cells_by (size_x b) (plane_size b) out ≡ grid_cells b inside
     → AreMarks (8 * count_of b) out bits
-    → map (λ cell. map (kept_rank bits) cell) out ≡ map (λ cell. map (rank_of (edges_of (grid_cells b inside))) cell) (grid_cells b inside)
+    → map (λ cell. map (kept_rank bits) cell) out
+    ≡ map (λ cell. map (rank_of (edges_of (grid_cells b inside))) cell) (grid_cells b inside)

@@ -1,4 +1,5 @@
--- Flags, eight to a byte, and how many are set before each byte: bit vectors with ranks (Jacobson 1989).
+-- Flags, eight to a byte, and how many are set before each byte: bit vectors with ranks (Jacobson
+-- 1989).
 use Rattle.std.specs.Prelude.{ℕ, ◌*◌, ◌==◌, Bool, List, [], ◌∷◌, length, map}
 use Rattle.std.specs.List.{flat_map, range_with_len}
 use Rattle.std.specs.Int.{bit_at}

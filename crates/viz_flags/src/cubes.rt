@@ -1,6 +1,7 @@
 //! The triangles in one cube, by the numbers of their edges.
 
-ghost use Rattle.std.specs.Prelude.{◌≡◌, ◌+◌, ◌*◌, ◌^◌, ◌<◌, ◌≤◌, ◌++◌, [], All, OnOk, false, length, map};
+ghost use Rattle.std.specs.Prelude.{◌≡◌, ◌+◌, ◌*◌, ◌^◌, ◌<◌, ◌≤◌, ◌++◌, [], All, OnOk, false};
+ghost use Rattle.std.specs.Prelude.{length, map};
 ghost use Rattle.viz_grid_section.specs.GridSection.{bit_of, mask_of};
 ghost use Rattle.viz_grid_section.specs.Steps.Rows.{eight_from, cells_between};
 ghost use Rattle.viz_flags.specs.Edges.{cells_by};

@@ -1,6 +1,7 @@
 //! Flags of edges, eight to a byte.
 
-ghost use Rattle.std.specs.Prelude.{◌≡◌, ◌*◌, ◌<◌, [], ◌∷◌, All, true, IfOk, length, map, slice_set};
+ghost use Rattle.std.specs.Prelude.{◌≡◌, ◌*◌, ◌<◌, [], ◌∷◌, All, true, IfOk, length, map};
+ghost use Rattle.std.specs.Prelude.{slice_set};
 ghost use Rattle.std.specs.List.{flat_map};
 ghost use Rattle.viz_flags.specs.Flags.{flags as bits_of};
 ghost use Rattle.viz_sheet.specs.Kept.{AreMarks};
@@ -28,7 +29,8 @@ pub(crate) fn flags_of<T: Ends>(
 /// Sets the flags of all edges.
 fn set_all<T: Ends>(flags: &mut [u8], triangles: &[T])
     requires { All (λ t. All (λ n. n < 8 * length flags.old) (T.list t)) triangles.now }
-    ensures bits { IsMarkedBy (bits_of flags.old) (flat_map T.list triangles.now) (bits_of flags.new) }
+    ensures bits { IsMarkedBy (bits_of flags.old) (flat_map T.list triangles.now)
+        (bits_of flags.new) }
     ensures size { length flags.new ≡ length flags.old }
 {
     for triangle in triangles {

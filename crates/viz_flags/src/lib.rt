@@ -1,9 +1,10 @@
 //! The triangles of a grid's section by flags of the edges that it cuts.
 //!
 //! Contract: `ranked_section` gives the triangles in all tetrahedra of an extent by which of its
-//! points are inside, by the ranks of their edges, and the name of each edge. Nothing is sorted or
-//! searched: an edge has a flag at its lower leaf, and its rank is the number of flags before.
-//! Definitions: `specs/Edges.antt`, `specs/Flags.antt`, `specs/Flagged.antt`.
+//! points are inside, by the ranks of their edges, and the name of each edge. Definitions:
+//! `specs/Edges.antt`, `specs/Flags.antt`, `specs/Flagged.antt`.
+//!
+//! An edge has a flag at its lower leaf, and its rank is the number of flags before.
 #![tactic(auto)]
 
 mod cases;

@@ -1,5 +1,6 @@
 -- Which corners a triangle of a section faces, by determinants of weights (Doi and Koide 1991).
-use Rattle.std.specs.Prelude.{◌≡◌, ℕ, ◌*◌, ◌<◌, true, false, ◌==◌, if◌then◌else◌, List, [], ◌∷◌, ◌++◌, map, sum_by, All}
+use Rattle.std.specs.Prelude.{◌≡◌, ℕ, ◌*◌, ◌<◌, true, false, ◌==◌, if◌then◌else◌, List, [], ◌∷◌}
+use Rattle.std.specs.Prelude.{◌++◌, map, sum_by, All}
 use Rattle.viz_fraction.specs.CaseRows.{End}
 use Rattle.viz_fraction.specs.Cases.{IsCase, is_inside, cells_at}
 
@@ -87,7 +88,8 @@ abbrev pub Faces : List End → ℕ → Type 0
 Faces cell corner =
     (w : End → Weights) → ArePositive w → HasPositiveDeterminant (weights_with w cell corner)
 
--- wherever the ends lie on their edges, a triangle of a positive tetrahedron faces away from a corner
+-- wherever the ends lie on their edges, a triangle of a positive tetrahedron faces away from a
+-- corner
 abbrev pub FacesAway : List End → ℕ → Type 0
 FacesAway cell corner =
     (w : End → Weights) → ArePositive w → HasNegativeDeterminant (weights_with w cell corner)

@@ -1,5 +1,6 @@
 -- What the cells of a section are: on the cut edges, whole, and joined (Doi and Koide 1991).
-use Rattle.std.specs.Prelude.{◌≡◌, ◌≢◌, ◌⊎◌, ◌↔◌, ℕ, ◌-◌, ◌^◌, ◌<◌, ◌≤◌, Bool, List, [], ◌∷◌, ◌++◌, length, All, AllPairs, Contains}
+use Rattle.std.specs.Prelude.{◌≡◌, ◌≢◌, ◌⊎◌, ◌↔◌, ℕ, ◌-◌, ◌^◌, ◌<◌, ◌≤◌, Bool, List, [], ◌∷◌, ◌++◌}
+use Rattle.std.specs.Prelude.{length, All, AllPairs, Contains}
 use Rattle.viz_fraction.specs.CaseRows.{End}
 use Rattle.viz_fraction.specs.Cases.{IsCase, is_inside, inside_of, cells_at, ends_of, numbers_of}
 

@@ -1,5 +1,6 @@
 -- From a mask to its row in the table of cells (Doi and Koide 1991), and how a `Case` holds it.
-use Rattle.std.specs.Prelude.{ℕ, ◌-◌, ◌/◌, ◌%◌, ◌^◌, ◌<◌, ◌≤◌, Bool, ◌&&◌, ◌==◌, nat_eq, List, [], ◌∷◌, ◌++◌, length, take, map, filter, replicate}
+use Rattle.std.specs.Prelude.{ℕ, ◌-◌, ◌/◌, ◌%◌, ◌^◌, ◌<◌, ◌≤◌, Bool, ◌&&◌, ◌==◌, nat_eq, List, []}
+use Rattle.std.specs.Prelude.{◌∷◌, ◌++◌, length, take, map, filter, replicate}
 use Rattle.std.specs.List.{flat_map, starts_with}
 use Rattle.viz_fraction.specs.declared.case_table.Case.{Case}
 use Rattle.viz_fraction.specs.CaseRows.{End, Row, rows}

@@ -1,5 +1,6 @@
 -- Where a linear form has its zero between an inside and an outside end (Doi and Koide 1991).
-use Rattle.std.specs.Prelude.{◌≡◌, ℕ, ◌/◌, ◌<◌, ℤ, pos, ◌<ℤ◌, ◌≤ℤ◌, unsigned_abs, int_le, if◌then◌else◌}
+use Rattle.std.specs.Prelude.{◌≡◌, ℕ, ◌/◌, ◌<◌, ℤ, pos, ◌<ℤ◌, ◌≤ℤ◌, unsigned_abs, int_le}
+use Rattle.std.specs.Prelude.{if◌then◌else◌}
 use Rattle.viz_fraction.specs.declared.forms.Form.{Form}
 use Rattle.viz_fraction.specs.Divisors.{gcd}
 use Rattle.viz_fraction.specs.Points.{Point, IsNarrowPoint, IsPoint, scaled, added, reduced}
@@ -41,7 +42,8 @@ CrossingIsZero =
     (f : Form) (a b : Point) → pos 0 <ℤ a.w → pos 0 <ℤ b.w → IsInside f a → value_of f b <ℤ pos 0
     → value_of f (crossing_of (value_of f a) a (value_of f b) b) ≡ pos 0
 
--- p lies on the segment from a to b, and isn't b: it is a weighted mean of both, whose weight at a is positive
+-- p lies on the segment from a to b, and isn't b: it is a weighted mean of both, whose weight at a
+-- is positive
 pub record IsBetween (a b p : Point) : Type 0 where
   pub weight_a : ℕ
   pub weight_b : ℕ

@@ -1,11 +1,14 @@
--- The position of a point, and the scalar there, each on its own (homogeneous coordinates, Moebius 1827).
-use Rattle.std.specs.Prelude.{◌≡◌, ℕ, ℤ, List, [], ◌∷◌, pos, ◌*ℤ◌, ◌<ℤ◌, ◌≤ℤ◌, ◌↔◌, unsigned_abs, int_div}
+-- The position of a point, and the scalar there, each on its own (homogeneous coordinates, Moebius
+-- 1827).
+use Rattle.std.specs.Prelude.{◌≡◌, ℕ, ℤ, List, [], ◌∷◌, pos, ◌*ℤ◌, ◌<ℤ◌, ◌≤ℤ◌, ◌↔◌, unsigned_abs}
+use Rattle.std.specs.Prelude.{int_div}
 use Rattle.viz_fraction.specs.Divisors.{gcd}
 use Rattle.viz_fraction.specs.Points.{Point}
 
 -- the greatest common divisor of x, y, z and w
 unfoldable pub place_divisor : Point → ℕ
-place_divisor p = gcd (gcd (gcd (unsigned_abs p.w) (unsigned_abs p.x)) (unsigned_abs p.y)) (unsigned_abs p.z)
+place_divisor p = gcd (gcd (gcd (unsigned_abs p.w) (unsigned_abs p.x)) (unsigned_abs p.y))
+    (unsigned_abs p.z)
 
 -- x, y, z and w, each divided by d
 abbrev pub four_divided : ℕ → Point → List ℤ

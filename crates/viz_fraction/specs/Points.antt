@@ -1,4 +1,5 @@
--- Exact points with a scalar, as whole numbers over one weight (homogeneous coordinates, Moebius 1827).
+-- Exact points with a scalar, as whole numbers over one weight (homogeneous coordinates, Moebius
+-- 1827).
 use Rattle.std.specs.Prelude.{◌≡◌, ℕ, ◌^◌, ◌≤◌, ℤ, pos, ◌+ℤ◌, ◌*ℤ◌, ◌<ℤ◌, unsigned_abs, int_div}
 use Prim.Native.Nat.{◌∣◌}
 use Rattle.viz_fraction.specs.Divisors.{gcd}
@@ -37,7 +38,8 @@ pub record IsNarrowPoint (p : Point) : Type 0 where
 -- the greatest common divisor of the five numbers
 unfoldable pub divisor_of : Point → ℕ
 divisor_of p =
-    gcd (gcd (gcd (gcd (unsigned_abs p.w) (unsigned_abs p.x)) (unsigned_abs p.y)) (unsigned_abs p.z)) (unsigned_abs p.s)
+    gcd (gcd (gcd (gcd (unsigned_abs p.w) (unsigned_abs p.x)) (unsigned_abs p.y))
+    (unsigned_abs p.z)) (unsigned_abs p.s)
 
 -- each of the five numbers k times
 abbrev pub scaled : ℕ → Point → Point
@@ -112,7 +114,8 @@ ReducedIsSamePlace = (p : Point) → IsSamePlace (reduced p) p
 
 -- in lowest terms the greatest common divisor is 1, and the weight stays positive
 abbrev pub ReducedIsLowest : Type 0
-ReducedIsLowest = (p : Point) → pos 0 <ℤ p.w → (divisor_of (reduced p) ≡ 1) × (pos 0 <ℤ (reduced p).w)
+ReducedIsLowest = (p : Point) → pos 0 <ℤ p.w → (divisor_of (reduced p) ≡ 1)
+    × (pos 0 <ℤ (reduced p).w)
 
 -- equal places with equal scalars have equal points
 abbrev pub SamePlaceIsSamePoint : Type 0

@@ -1,5 +1,7 @@
 //! Laws of the table of cells. A function that calls one may rest on it.
-ghost use Rattle.viz_fraction.specs.CaseLaws.{UsesCutEdges, HasWholeCells, FitsPlaces, HasNoCellOfOneSide, ComplementHasSameEnds, HasTwoWhereTwoInside, SharesDiagonals};
+ghost use Rattle.viz_fraction.specs.CaseLaws.{UsesCutEdges, HasWholeCells, FitsPlaces};
+ghost use Rattle.viz_fraction.specs.CaseLaws.{HasNoCellOfOneSide, ComplementHasSameEnds};
+ghost use Rattle.viz_fraction.specs.CaseLaws.{HasTwoWhereTwoInside, SharesDiagonals};
 ghost use Rattle.viz_fraction.specs.CaseFacing.{FacesOutside, FacesAwayFromInside};
 
 /// The cells of a section stand on just the edges that have one corner inside.

@@ -1,9 +1,12 @@
 //! Where a form is 0 between an inside and an outside end.
-ghost use Rattle.std.specs.Prelude.{◌≡◌, ◌/◌, ◌^◌, ◌<◌, ◌≤◌, pos, ◌*ℤ◌, ◌≤ℤ◌, ◌<ℤ◌, ◌↔◌, IfOk, IsOk};
+ghost use Rattle.std.specs.Prelude.{◌≡◌, ◌/◌, ◌^◌, ◌<◌, ◌≤◌, pos, ◌*ℤ◌, ◌≤ℤ◌, ◌<ℤ◌, ◌↔◌, IfOk};
+ghost use Rattle.std.specs.Prelude.{IsOk};
 ghost use Rattle.viz_fraction.specs.Points.{IsNarrow, IsPoint, reduced};
 ghost use Rattle.viz_fraction.specs.Numbers.{point_of};
-ghost use Rattle.viz_fraction.specs.Crossings.{inside_weight, outside_weight, crossing_of, IsNarrowCrossing};
-ghost use Rattle.viz_fraction.specs.Mixes.{mix_of, mixed_of, IsLowestWeights, IsNarrowMix, IsNarrowSum};
+ghost use Rattle.viz_fraction.specs.Crossings.{inside_weight, outside_weight, crossing_of};
+ghost use Rattle.viz_fraction.specs.Crossings.{IsNarrowCrossing};
+ghost use Rattle.viz_fraction.specs.Mixes.{mix_of, mixed_of, IsLowestWeights, IsNarrowMix};
+ghost use Rattle.viz_fraction.specs.Mixes.{IsNarrowSum};
 
 use crate::divisors::common_divisor;
 use crate::numbers::{Numbers, magnitude};
@@ -114,7 +117,8 @@ fn long_mixed(weights: &Weights, a: &Numbers, b: &Numbers) -> Result<Numbers, To
 /// The same of one of the five numbers.
 fn mix(weights: &Weights, a: &i128, b: &i128) -> Result<i128, TooWide>
     ensures value { IfOk result (λ n. n ≡ mix_of weights.now a.now b.now) }
-    ensures succeeds { IsOk result ↔ IsNarrowSum (weights.now.outside *ℤ b.now) (weights.now.inside *ℤ a.now) }
+    ensures succeeds { IsOk result ↔ IsNarrowSum (weights.now.outside *ℤ b.now)
+        (weights.now.inside *ℤ a.now) }
 {
     let outside = product(&weights.outside, b)?;
     let inside = product(&weights.inside, a)?;

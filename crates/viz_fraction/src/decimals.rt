@@ -1,5 +1,6 @@
 //! Fractions as fixed-point numbers.
-ghost use Rattle.std.specs.Prelude.{◌≡◌, ◌+◌, ◌*◌, ◌/◌, ◌^◌, ◌<◌, ◌≤◌, pos, ◌*ℤ◌, ◌+ℤ◌, ◌-ℤ◌, ◌<ℤ◌, ◌≤ℤ◌, ◌↔◌, IfOk, IfSome, IsOk, FitsSigned, unsigned_abs};
+ghost use Rattle.std.specs.Prelude.{◌≡◌, ◌+◌, ◌*◌, ◌/◌, ◌^◌, ◌<◌, ◌≤◌, pos, ◌*ℤ◌, ◌+ℤ◌, ◌-ℤ◌};
+ghost use Rattle.std.specs.Prelude.{◌<ℤ◌, ◌≤ℤ◌, ◌↔◌, IfOk, IfSome, IsOk, FitsSigned, unsigned_abs};
 ghost use Rattle.std.specs.Int.{w64, int_div_euclid};
 ghost use Rattle.viz_fraction.specs.Points.{IsNarrow};
 ghost use Rattle.viz_fraction.specs.Decimals.{fixed_of, IsFloor};

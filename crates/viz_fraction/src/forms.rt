@@ -1,5 +1,6 @@
 //! Linear forms of points.
-ghost use Rattle.std.specs.Prelude.{◌≡◌, ◌^◌, ◌≤◌, pos, ◌+ℤ◌, ◌-ℤ◌, ◌≤ℤ◌, ◌↔◌, IfOk, IsOk, IsTrue, unsigned_abs};
+ghost use Rattle.std.specs.Prelude.{◌≡◌, ◌^◌, ◌≤◌, pos, ◌+ℤ◌, ◌-ℤ◌, ◌≤ℤ◌, ◌↔◌, IfOk, IsOk, IsTrue};
+ghost use Rattle.std.specs.Prelude.{unsigned_abs};
 ghost use Rattle.viz_fraction.specs.Points.{IsNarrowPoint};
 ghost use Rattle.viz_fraction.specs.Numbers.{point_of};
 ghost use Rattle.viz_fraction.specs.Sums.{coefficients_of, terms_of, total_of, IsNarrowSumAt};

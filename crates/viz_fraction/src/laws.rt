@@ -1,7 +1,9 @@
 //! Laws of divisors, points, crossings and floors. A function that calls one may rest on it.
 ghost use Rattle.viz_fraction.specs.Divisors.{GcdIsGreatest};
-ghost use Rattle.viz_fraction.specs.Points.{DivisorIsGreatest, ReducedIsSamePlace, ReducedIsLowest, SamePlaceIsSamePoint, PointIsReduced};
-ghost use Rattle.viz_fraction.specs.Crossings.{CrossingIsZero, CrossingIsBetween, CrossingAtInsideEnd, EdgeHasOneCrossing};
+ghost use Rattle.viz_fraction.specs.Points.{DivisorIsGreatest, ReducedIsSamePlace};
+ghost use Rattle.viz_fraction.specs.Points.{ReducedIsLowest, SamePlaceIsSamePoint, PointIsReduced};
+ghost use Rattle.viz_fraction.specs.Crossings.{CrossingIsZero, CrossingIsBetween};
+ghost use Rattle.viz_fraction.specs.Crossings.{CrossingAtInsideEnd, EdgeHasOneCrossing};
 ghost use Rattle.viz_fraction.specs.Decimals.{FixedIsFloor};
 ghost use Rattle.viz_fraction.specs.Places.{EqualPositionsHaveOnePlace};
 

@@ -1,5 +1,6 @@
 //! The position of a point without its scalar, and the scalar without the position.
-ghost use Rattle.std.specs.Prelude.{◌≡◌, ◌^◌, ◌≤◌, pos, ◌*ℤ◌, ◌<ℤ◌, ◌≤ℤ◌, ◌↔◌, IsTrue, FitsSigned, unsigned_abs};
+ghost use Rattle.std.specs.Prelude.{◌≡◌, ◌^◌, ◌≤◌, pos, ◌*ℤ◌, ◌<ℤ◌, ◌≤ℤ◌, ◌↔◌, IsTrue, FitsSigned};
+ghost use Rattle.std.specs.Prelude.{unsigned_abs};
 ghost use Rattle.std.specs.Int.{w64};
 ghost use Rattle.viz_fraction.specs.Points.{IsNarrow, IsPoint, numbers, reduced};
 ghost use Rattle.viz_fraction.specs.Numbers.{point_of};

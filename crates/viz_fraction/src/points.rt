@@ -1,7 +1,8 @@
 //! Exact points: five whole numbers in lowest terms.
 ghost use Rattle.std.specs.Prelude.{◌≡◌, ℤ, pos, ◌<ℤ◌, ◌↔◌, IfOk, IsOk};
 ghost use Prim.Native.Nat.{◌∣◌};
-ghost use Rattle.viz_fraction.specs.Points.{Point, IsNarrow, IsNarrowPoint, IsPoint, numbers, divisor_of, reduced};
+ghost use Rattle.viz_fraction.specs.Points.{Point, IsNarrow, IsNarrowPoint, IsPoint, numbers};
+ghost use Rattle.viz_fraction.specs.Points.{divisor_of, reduced};
 ghost use Rattle.viz_fraction.specs.Numbers.{point_of};
 
 use crate::divisors::with_magnitude;

@@ -1,5 +1,6 @@
 //! Products and sums that are tested before they are made.
-ghost use Rattle.std.specs.Prelude.{◌≡◌, ℕ, ◌^◌, ◌≤◌, ◌*◌, pos, ◌+ℤ◌, ◌*ℤ◌, ◌↔◌, IfOk, IsOk, IsTrue, unsigned_abs};
+ghost use Rattle.std.specs.Prelude.{◌≡◌, ℕ, ◌^◌, ◌≤◌, ◌*◌, pos, ◌+ℤ◌, ◌*ℤ◌, ◌↔◌, IfOk, IsOk};
+ghost use Rattle.std.specs.Prelude.{IsTrue, unsigned_abs};
 ghost use Rattle.viz_fraction.specs.Points.{IsNarrow};
 
 use crate::numbers::{WIDEST, is_narrow, magnitude};

@@ -1,5 +1,6 @@
 //! Crossings whose weighted sums fit 64 bits, as those on a grid of whole numbers.
-ghost use Rattle.std.specs.Prelude.{◌≡◌, ◌+◌, ◌^◌, ◌<◌, pos, ◌*ℤ◌, ◌≤ℤ◌, ◌<ℤ◌, ◌↔◌, IfSome, IsSome, IsTrue, FitsSigned, unsigned_abs};
+ghost use Rattle.std.specs.Prelude.{◌≡◌, ◌+◌, ◌^◌, ◌<◌, pos, ◌*ℤ◌, ◌≤ℤ◌, ◌<ℤ◌, ◌↔◌, IfSome};
+ghost use Rattle.std.specs.Prelude.{IsSome, IsTrue, FitsSigned, unsigned_abs};
 ghost use Rattle.std.specs.Int.{w32, w64};
 ghost use Rattle.viz_fraction.specs.Points.{IsPoint, reduced};
 ghost use Rattle.viz_fraction.specs.Numbers.{point_of};

@@ -1,5 +1,7 @@
--- Edges between the points of a grid: unordered pairs of leaves, lesser first, ascending (docs/FORMATS.md, "Names of a section").
-use Rattle.std.specs.Prelude.{ℕ, ◌&&◌, ◌||◌, ◌==◌, Bool, min, max, nat_lt, List, [], ◌∷◌, IsTrue, count_by, if◌then◌else◌}
+-- Edges between the points of a grid: unordered pairs of leaves, lesser first, ascending
+-- (docs/FORMATS.md, "Names of a section").
+use Rattle.std.specs.Prelude.{ℕ, ◌&&◌, ◌||◌, ◌==◌, Bool, min, max, nat_lt, List, [], ◌∷◌, IsTrue}
+use Rattle.std.specs.Prelude.{count_by, if◌then◌else◌}
 use Rattle.std.specs.List.{flat_map}
 
 -- an edge by its leaves, the lesser one first
@@ -22,7 +24,8 @@ is_before m n = nat_lt m.low n.low || (m.low == n.low && nat_lt m.high n.high)
 -- an edge among others that ascend, once
 abbrev pub with_edge : Edge → List Edge → List Edge
 with_edge n [] = n ∷ []
-with_edge n (m ∷ ms) = if is_before n m then n ∷ m ∷ ms else if is_before m n then m ∷ with_edge n ms else m ∷ ms
+with_edge n (m ∷ ms) = if is_before n m then n ∷ m ∷ ms else if is_before m n
+    then m ∷ with_edge n ms else m ∷ ms
 
 -- the edges, each once, ascending
 abbrev pub each_once : List Edge → List Edge

@@ -1,5 +1,6 @@
 -- The section of all tetrahedra of a grid, by which of its points are inside (Doi and Koide 1991).
-use Rattle.std.specs.Prelude.{ℕ, ◌+◌, ◌*◌, Bool, false, List, [], ◌∷◌, map, slice_index, slice_index_or, if◌then◌else◌}
+use Rattle.std.specs.Prelude.{ℕ, ◌+◌, ◌*◌, Bool, false, List, [], ◌∷◌, map, slice_index}
+use Rattle.std.specs.Prelude.{slice_index_or, if◌then◌else◌}
 use Rattle.std.specs.List.{flat_map}
 use Rattle.viz_extent.specs.Extent.{Bounds}
 use Rattle.viz_kuhn.specs.Cubes.{tetrahedra_of}
@@ -18,7 +19,8 @@ mask_of inside (leaf ∷ leaves) = bit_of inside leaf + 2 * mask_of inside leave
 
 -- a cell by the edges of its ends
 abbrev pub named : List ℕ → List End → List Edge
-named leaves cell = map (λ (e : End). edge_of (slice_index leaves e.low) (slice_index leaves e.high)) cell
+named leaves cell = map (λ (e : End). edge_of (slice_index leaves e.low)
+    (slice_index leaves e.high)) cell
 
 -- the cells in one tetrahedron
 abbrev pub cells_in : List Bool → List ℕ → List (List Edge)

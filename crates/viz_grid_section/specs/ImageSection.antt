@@ -1,5 +1,7 @@
--- The contour of an image by the edges that it cuts, and that it is the section of the image's tetrahedra (Doi and Koide 1991).
-use Rattle.std.specs.Prelude.{◌≡◌, ◌≢◌, ◌↔◌, ℕ, ◌<◌, Bool, false, ℤ, List, map, slice_index_or, All, FitsSigned, int_le}
+-- The contour of an image by the edges that it cuts, and that it is the section of the image's
+-- tetrahedra (Doi and Koide 1991).
+use Rattle.std.specs.Prelude.{◌≡◌, ◌≢◌, ◌↔◌, ℕ, ◌<◌, Bool, false, ℤ, List, map, slice_index_or}
+use Rattle.std.specs.Prelude.{All, FitsSigned, int_le}
 use Rattle.std.specs.Int.{w64}
 use Rattle.viz_extent.specs.Extent.{count_of}
 use Rattle.viz_fraction.specs.Points.{Point}
@@ -63,10 +65,12 @@ ContourIsSection =
 abbrev pub NarrowByEdges : Type 0
 NarrowByEdges =
     (level : ℤ) (image : ImageData) → FitsSigned w64 level → IsImage image
-    → IsNarrowSection (contour_form level) (tetrahedra_sheet image) ↔ AreNarrow level image (contour_edges level image)
+    → IsNarrowSection (contour_form level) (tetrahedra_sheet image)
+    ↔ AreNarrow level image (contour_edges level image)
 
 -- the edges of a contour have one end inside
 abbrev pub EdgesAreCut : Type 0
 EdgesAreCut =
     (level : ℤ) (image : ImageData)
-    → All (IsCutEdge (count_of image.extent) (insides level image.values.items)) (contour_edges level image)
+    → All (IsCutEdge (count_of image.extent) (insides level image.values.items))
+    (contour_edges level image)

@@ -1,4 +1,5 @@
--- The machine of a history: what each call replies, and what the history is then (docs/DEFINITIONS.md, "Histories").
+-- The machine of a history: what each call replies, and what the history is then
+-- (docs/DEFINITIONS.md, "Histories").
 use Rattle.std.specs.Prelude.{◌≡◌, ℕ, ◌+◌, ◌<◌, ◌≤◌, List, [], ◌∷◌, ◌++◌, length, Ok, Err}
 use Rattle.viz_parts.specs.declared.stored.Key.{Key}
 use Rattle.viz_parts.specs.declared.stored.Stored.{Stored}
@@ -46,11 +47,14 @@ pub record Gains (e : Entry) (old new : State) : Type 0 where
 
 -- what an edit of a pass, with this number among the pass's, is answered, and the state then
 abbrev pub Replies : ℕ → ℕ → Edit → State → EditAnswer → State → Type 0
-Replies pass count edit old (Done at) new = Gains (entry pass count edit) old new × (at ≡ length old.history + 1) × (length old.history < old.limit)
+Replies pass count edit old (Done at) new = Gains (entry pass count edit) old new
+    × (at ≡ length old.history + 1) × (length old.history < old.limit)
     × (apply (length old.history + 1) edit (network_of old.history) ≡ Ok (network_of new.history))
-Replies pass count edit old (Refused r at) new = Stays old new × (at ≡ length old.history) × (length old.history < old.limit)
+Replies pass count edit old (Refused r at) new = Stays old new × (at ≡ length old.history)
+    × (length old.history < old.limit)
     × (apply (length old.history + 1) edit (network_of old.history) ≡ Err r)
-Replies pass count edit old (Full at) new = Stays old new × (at ≡ old.limit) × (length old.history ≡ old.limit)
+Replies pass count edit old (Full at) new = Stays old new × (at ≡ old.limit)
+    × (length old.history ≡ old.limit)
 Replies pass count edit old Memory new = Stays old new × (length old.history < old.limit)
 
 -- the number of entries, the network of the history, and all kept parts

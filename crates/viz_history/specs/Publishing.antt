@@ -1,5 +1,6 @@
 -- How made parts are taken in, and which parts are kept then (docs/DEFINITIONS.md, "Kept parts").
-use Rattle.std.specs.Prelude.{◌≡◌, ℕ, Bool, false, not, nat_eq, if◌then◌else◌, List, [], ◌∷◌, length, filter, count_by}
+use Rattle.std.specs.Prelude.{◌≡◌, ℕ, Bool, false, not, nat_eq, if◌then◌else◌, List, [], ◌∷◌}
+use Rattle.std.specs.Prelude.{length, filter, count_by}
 use Rattle.std.specs.Option.{option_map_or}
 use Rattle.viz_parts.specs.declared.stored.Key.{Key}
 use Rattle.viz_parts.specs.declared.stored.Stored.{Stored}
@@ -33,7 +34,8 @@ with_room (room ∷ rooms) [] = []
 with_room (room ∷ rooms) (item ∷ items) =
     if room then item ∷ with_room rooms items else with_room rooms items
 
--- the made parts are taken in: a stale one is dropped, and each other goes first if there was memory
+-- the made parts are taken in: a stale one is dropped, and each other goes first if there was
+-- memory
 pub record TakesIn (net : Network) (capacity : ℕ) (made old : List Stored) (count : Kept)
     (new : List Stored) : Type 0 where
   pub rooms : List Bool

@@ -120,9 +120,11 @@ impl Core {
     /// bytes of files and the parts aren't copied. `Err` is want of memory.
     pub fn pin(&self, alloc: Global) -> Result<Pinned, AllocError>
         ensures ok { IfOk result (λ pinned. IsPinOf self.now pinned) }
-        ensures true_of { IfOk result (λ pinned. AreTrueOf (edits_of self.now.history) pinned.entries) }
+        ensures true_of { IfOk result (λ pinned. AreTrueOf
+            (edits_of self.now.history) pinned.entries) }
         ensures true_in { IfOk result (λ pinned. AreTrueIn pinned.net pinned.entries) }
-        ensures distinct { IfOk result (λ pinned. IsDistinct same_key (map (λ e. e.key) pinned.entries)) }
+        ensures distinct { IfOk result (λ pinned. IsDistinct same_key
+            (map (λ e. e.key) pinned.entries)) }
         ensures within { IfOk result (λ pinned. length pinned.entries ≤ self.now.capacity) }
     {
         true_of_longer();

@@ -41,7 +41,8 @@ fn take_one(cache: &mut Cache, stamps: &Stamps<'_>, item: &Stored, count: Kept) 
         → TakesIn stamps.now cache.old.capacity (before ++ item.now ∷ []) entries result
         cache.new.entries }
     ensures capacity { cache.new.capacity ≡ cache.old.capacity }
-    ensures count { result.kept + result.stale + result.unkept ≡ count.kept + count.stale + count.unkept + 1 }
+    ensures count { result.kept + result.stale + result.unkept
+        ≡ count.kept + count.stale + count.unkept + 1 }
 {
     if finds_stale(stamps, item) {
         return Kept {

@@ -1,4 +1,5 @@
--- What an edit by a pass is answered, and what the pass has seen then (docs/DEFINITIONS.md, "Histories").
+-- What an edit by a pass is answered, and what the pass has seen then (docs/DEFINITIONS.md,
+-- "Histories").
 use Rattle.std.specs.Prelude.{◌≡◌, ◌+◌, ◌<◌, List, ◌∷◌, [], ◌++◌, length, Ok, Err}
 use Rattle.viz_network.specs.declared.edit.Edit.{Edit}
 use Rattle.viz_network.specs.Edits.{apply}
@@ -12,7 +13,8 @@ use Rattle.viz_hub.specs.Passes.{PassKnown, GoesFurther}
 abbrev pub next_entry : PassKnown → Edit → Entry
 next_entry p edit = entry p.number (next p.number p.seen) edit
 
--- others' entries, and behind them, where the edit is accepted, the next entry of the pass; `at` entries in all
+-- others' entries, and behind them, where the edit is accepted, the next entry of the pass; `at`
+-- entries in all
 abbrev pub Answers : PassKnown → Edit → EditAnswer → List Entry → Type 0
 Answers p edit (Done at) seen =
     (others : List Entry) × GoesFurther p others × (seen ≡ others ++ next_entry p edit ∷ [])

@@ -1,5 +1,5 @@
-//! Laws on what passes of a hub have seen. A law is a function that does nothing: its contract holds
-//! of the definitions alone.
+//! Laws on what passes of a hub have seen. A law is a function that does nothing: its contract
+//! holds of the definitions alone.
 
 ghost use Rattle.std.specs.Prelude.{◌≡◌, ℕ, List, [], ◌∷◌, ◌++◌, true};
 ghost use Rattle.viz_turn.specs.Tales.{has, once, HasNoOther};
@@ -10,8 +10,8 @@ ghost use Rattle.viz_entries.specs.History.{by_of, own_of};
 ghost use Rattle.viz_hub.specs.Answers.{Answers, gained};
 ghost use Rattle.viz_hub.specs.Passes.{PassKnown, numbers, GoesFurther};
 
-/// After an edit the entries of the pass's number are those that it had seen and, where the edit was
-/// accepted, this one; those of an ended number stay as they were.
+/// After an edit the entries of the pass's number are those that it had seen and, where the edit
+/// was accepted, this one; those of an ended number stay as they were.
 pub fn own_gains_this_entry()
     ensures own { (p : PassKnown) (edit : Edit) (answer : EditAnswer) (seen : List Entry)
         → Answers p edit answer seen

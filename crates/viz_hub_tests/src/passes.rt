@@ -194,8 +194,8 @@ fn radius_of(edit: &Edit) -> Option<i64> {
     }
 }
 
-// How many entries each of two passes has, where the counts of each go up by one from these, and the
-// radii are those of its writer.
+// How many entries each of two passes has, where the counts of each go up by one from these, and
+// the radii are those of its writer.
 fn tally(entries: &[Entry], first: u32, second: u32) -> Option<(u32, u32)> {
     let mut one = first;
     let mut two = second;
@@ -431,8 +431,8 @@ fn eight_passes_are_split_from_splits_and_joined_in_another_order(
     let pass = join(&hub, one(&rt, &hub, its, s), last);
     assert_eq!(rt; pass.number(), 7);
     let journal = close(&rt, hub, pass);
-    // By hand: 0 adds; 2 and 3, then 5 and 6 edit before they are split; then 3, 0, 4, 2 and 6, 1, 7, 5
-    // before they are joined.
+    // By hand: 0 adds; 2 and 3, then 5 and 6 edit before they are split; then 3, 0, 4, 2 and 6, 1,
+    // 7, 5 before they are joined.
     assert_eq!(rt; digits(journal.entries.list()), 235_630_426_175);
     Ok(())
 }

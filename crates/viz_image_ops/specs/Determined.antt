@@ -14,7 +14,8 @@ ImagesAreWholes = (image : ImageData) → IsImage image → IsOn (whole_of image
 -- two images of one whole on one part are the same
 abbrev pub PartIsDetermined : Type 0
 PartIsDetermined =
-    (whole : WholeImage) (part : Bounds) (a b : ImageData) → IsOn whole part a → IsOn whole part b → a ≡ b
+    (whole : WholeImage) (part : Bounds) (a b : ImageData) → IsOn whole part a → IsOn whole part b
+    → a ≡ b
 
 -- a threshold on the whole extent of its input has each number of the input, kept or 0
 abbrev pub WholeThreshold : Type 0
@@ -25,4 +26,5 @@ WholeThreshold =
 -- what a part of a sample asks for lies in the whole
 abbrev pub SamplesAskWithin : Type 0
 SamplesAskWithin =
-    (rate : Rate) (whole out : Bounds) → IsRate rate → IsPart (sampled rate whole) out → IsPart whole (spread rate out)
+    (rate : Rate) (whole out : Bounds) → IsRate rate → IsPart (sampled rate whole) out
+    → IsPart whole (spread rate out)

@@ -1,4 +1,5 @@
--- The values of a function of indices, in the order of the points of an extent: words of private contracts alone.
+-- The values of a function of indices, in the order of the points of an extent: words of private
+-- contracts alone.
 use Rattle.std.specs.Prelude.{ℕ, zero, suc, ◌+◌, ℤ, List, [], ◌∷◌, ◌++◌}
 use Rattle.viz_extent.specs.Extent.{Bounds, size_x, size_y, size_z}
 
@@ -14,4 +15,5 @@ run_of f first n = joined (λ i. f i ∷ []) first n
 -- the values at all points of an extent, in their order
 abbrev pub values_on : (ℕ → ℕ → ℕ → ℤ) → Bounds → List ℤ
 values_on number b =
-    joined (λ k. joined (λ j. run_of (λ i. number i j k) b.x0 (size_x b)) b.y0 (size_y b)) b.z0 (size_z b)
+    joined (λ k. joined (λ j. run_of (λ i. number i j k) b.x0 (size_x b)) b.y0 (size_y b)) b.z0
+    (size_z b)

@@ -20,7 +20,8 @@ pub record AreOn (grids : Grids) (xs ys : List ℤ) : Type 0 where
 -- what is reckoned of the two numbers of a point
 abbrev pub reckoned_at : Op → Grids → List ℤ → List ℤ → ℕ → ℕ → ℕ → ℤ
 reckoned_at op grids xs ys i j k =
-    clamped (reckoned op (slice_index_or xs (index_at grids.first i j k) (pos 0)) (slice_index_or ys (index_at grids.second i j k) (pos 0)))
+    clamped (reckoned op (slice_index_or xs (index_at grids.first i j k) (pos 0))
+    (slice_index_or ys (index_at grids.second i j k) (pos 0)))
 
 -- of 64 bits with a sign, what is reckoned for each point of the part
 abbrev pub AreReckoned : Op → Grids → List ℤ → List ℤ → Numbers → Type 0

@@ -1,5 +1,6 @@
 -- Sums over a window that moves along an axis: words of private contracts alone.
-use Rattle.std.specs.Prelude.{◌≡◌, ℕ, ◌+◌, ◌-◌, ◌*◌, ◌^◌, ◌<◌, ◌≤◌, ℤ, pos, neg_ℤ, ◌≤ℤ◌, List, length, slice_index_or, max, min}
+use Rattle.std.specs.Prelude.{◌≡◌, ℕ, ◌+◌, ◌-◌, ◌*◌, ◌^◌, ◌<◌, ◌≤◌, ℤ, pos, neg_ℤ, ◌≤ℤ◌, List}
+use Rattle.std.specs.Prelude.{length, slice_index_or, max, min}
 use Rattle.viz_column.specs.declared.kind.Kind8.{Kind8}
 use Rattle.viz_column.specs.declared.kind.Kind8.TheVariants.{I8, U8, I16, U16, I32, U32, I64, U64}
 use Rattle.viz_column.specs.Numbers.{Numbers}
@@ -45,7 +46,8 @@ pub record IsWithin (below above : ℕ) (z : ℤ) : Type 0 where
 
 -- all numbers are from -below to above
 abbrev pub AreWithin : ℕ → ℕ → List ℤ → Type 0
-AreWithin below above xs = (p : ℕ) → p < length xs → IsWithin below above (slice_index_or xs p (pos 0))
+AreWithin below above xs = (p : ℕ) → p < length xs
+    → IsWithin below above (slice_index_or xs p (pos 0))
 
 -- so many numbers of a list may be summed up in 128 bits
 pub record HasRoom (count : ℕ) (xs : List ℤ) : Type 0 where
@@ -60,7 +62,8 @@ place_sum xs long first count p = sum_of (λ c. slice_index_or xs (c * long + p)
 -- the sums at each place
 abbrev pub ArePlaceSums : List ℤ → ℕ → ℕ → List ℤ → Type 0
 ArePlaceSums xs first behind sums =
-    (p : ℕ) → p < length sums → slice_index_or sums p (pos 0) ≡ place_sum xs (length sums) first (behind - first) p
+    (p : ℕ) → p < length sums → slice_index_or sums p (pos 0)
+    ≡ place_sum xs (length sums) first (behind - first) p
 
 -- how far the numbers of a kind reach below 0
 abbrev pub reach_below : Kind8 → ℕ
@@ -91,20 +94,24 @@ AreSumsOf kind count xs = AreWithin (count * reach_below kind) (count * reach_ab
 -- the mean in a window of a row, whose numbers are sums of so many each
 abbrev pub row_mean : List ℤ → ℕ → Axis → ℕ → ℤ
 row_mean row rows x i =
-    floor_of (sum_of (λ p. slice_index_or row p (pos 0)) (window_first x i) (window_size x i)) (rows * window_size x i)
+    floor_of (sum_of (λ p. slice_index_or row p (pos 0)) (window_first x i) (window_size x i))
+    (rows * window_size x i)
 
 -- the mean in a window of a plane, whose numbers are sums of so many each
 abbrev pub plane_mean : List ℤ → ℕ → Axes → ℕ → ℕ → ℤ
 plane_mean plane planes a i j =
     floor_of
-    (sum_of (λ p. place_sum plane a.x.places (window_first a.y j) (window_size a.y j) p) (window_first a.x i) (window_size a.x i))
+    (sum_of (λ p. place_sum plane a.x.places (window_first a.y j) (window_size a.y j) p)
+    (window_first a.x i) (window_size a.x i))
     (planes * window_size a.y j * window_size a.x i)
 
 -- the mean in a window of all numbers
 abbrev pub place_mean : List ℤ → Axes → ℕ → ℕ → ℕ → ℤ
 place_mean xs a i j k =
     floor_of
-    (sum_of (λ p. sum_of (λ b. place_sum xs (a.x.places * a.y.places) (window_first a.z k) (window_size a.z k) (b * a.x.places + p)) (window_first a.y j) (window_size a.y j)) (window_first a.x i) (window_size a.x i))
+    (sum_of (λ p. sum_of (λ b. place_sum xs (a.x.places * a.y.places) (window_first a.z k)
+    (window_size a.z k) (b * a.x.places + p)) (window_first a.y j) (window_size a.y j))
+    (window_first a.x i) (window_size a.x i))
     (window_size a.z k * window_size a.y j * window_size a.x i)
 
 -- the axes of a whole, and the places of the points round those of a part
@@ -112,9 +119,30 @@ abbrev pub round_axes : ℕ → Bounds → Bounds → Axes
 round_axes radius whole out =
     let round = grown radius whole out in
     record {
-      x = record { radius = radius; lower = whole.x0; upper = whole.x1; start = round.x0; places = size_x round };
-      y = record { radius = radius; lower = whole.y0; upper = whole.y1; start = round.y0; places = size_y round };
-      z = record { radius = radius; lower = whole.z0; upper = whole.z1; start = round.z0; places = size_z round };
+      x =
+          record {
+            radius = radius;
+            lower = whole.x0;
+            upper = whole.x1;
+            start = round.x0;
+            places = size_x round;
+          };
+      y =
+          record {
+            radius = radius;
+            lower = whole.y0;
+            upper = whole.y1;
+            start = round.y0;
+            places = size_y round;
+          };
+      z =
+          record {
+            radius = radius;
+            lower = whole.z0;
+            upper = whole.z1;
+            start = round.z0;
+            places = size_z round;
+          };
     }
 
 -- of the same kind, for each point of an extent the mean of the numbers round it
@@ -122,5 +150,8 @@ abbrev pub AreMeans : ℕ → Bounds → Bounds → Numbers → Numbers → Type
 AreMeans radius whole out old new =
     new ≡ record {
       kind = old.kind;
-      items = values_on (λ i j k. mean_on (λ i j k. slice_index_or old.items (index_at (grown radius whole out) i j k) (pos 0)) (box_round radius whole i j k)) out;
+      items = values_on
+          (λ i j k. mean_on (λ i j k. slice_index_or old.items
+          (index_at (grown radius whole out) i j k) (pos 0))
+          (box_round radius whole i j k)) out;
     }

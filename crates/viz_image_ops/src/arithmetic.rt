@@ -1,6 +1,7 @@
 //! Arithmetic of two images.
 
-ghost use Rattle.std.specs.Prelude.{◌≡◌, ℕ, ◌+◌, ◌^◌, ◌<◌, ◌≤◌, ◌++◌, pos, length, map, take, drop, slice_index_or, unsigned_abs, IfOk, OnOk};
+ghost use Rattle.std.specs.Prelude.{◌≡◌, ℕ, ◌+◌, ◌^◌, ◌<◌, ◌≤◌, ◌++◌, pos, length, map, take};
+ghost use Rattle.std.specs.Prelude.{drop, slice_index_or, unsigned_abs, IfOk, OnOk};
 ghost use Rattle.viz_extent.specs.Extent.{size_x, size_y, IsOnAxis, Has, count_of};
 ghost use Rattle.viz_extent.specs.Numbering.{index_at};
 ghost use Rattle.viz_extent.specs.Parts.{IsPart};

@@ -1,7 +1,8 @@
 //! What the definitions of filters mean of an image by itself. A law is a function that does
 //! nothing: its contract holds of the definitions alone.
 
-ghost use Rattle.viz_image_ops.specs.Determined.{ImagesAreWholes, PartIsDetermined, SamplesAskWithin, WholeThreshold};
+ghost use Rattle.viz_image_ops.specs.Determined.{ImagesAreWholes, PartIsDetermined};
+ghost use Rattle.viz_image_ops.specs.Determined.{SamplesAskWithin, WholeThreshold};
 
 /// An image is the part of a whole image on its own extent. So the contract of a filter, which
 /// speaks of whatever whole image its input is a part of, always speaks of one.

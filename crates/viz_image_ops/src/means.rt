@@ -1,10 +1,13 @@
 //! Means in a window that moves over the points of an image, by running sums.
 
-ghost use Rattle.std.specs.Prelude.{◌≡◌, ℕ, ◌+◌, ◌-◌, ◌*◌, ◌^◌, ◌<◌, ◌≤◌, ◌++◌, pos, length, map, slice_index_or, OnOk};
+ghost use Rattle.std.specs.Prelude.{◌≡◌, ℕ, ◌+◌, ◌-◌, ◌*◌, ◌^◌, ◌<◌, ◌≤◌, ◌++◌, pos, length, map};
+ghost use Rattle.std.specs.Prelude.{slice_index_or, OnOk};
 ghost use Rattle.viz_extent.specs.Extent.{size_of, size_x, size_y};
 ghost use Rattle.viz_meaning.specs.ImageFilters.{sum_of, floor_of};
 ghost use Rattle.viz_image_ops.specs.Joined.{joined, run_of, values_on};
-ghost use Rattle.viz_image_ops.specs.Sums.{AreReaches, AreSumsOf, HasRoom, IsReach, IsWithin, place_mean, plane_mean, reach_above, reach_below, row_mean};
+ghost use Rattle.viz_image_ops.specs.Sums.{AreReaches, AreSumsOf, HasRoom, IsReach, IsWithin};
+ghost use Rattle.viz_image_ops.specs.Sums.{place_mean, plane_mean, reach_above, reach_below};
+ghost use Rattle.viz_image_ops.specs.Sums.{row_mean};
 
 use crate::bounded::own;
 use crate::divisor::Divisor;

@@ -1,5 +1,7 @@
--- The text of a written image (VTK User's Guide, "Simple legacy formats"; docs/FORMATS.md, "Written files").
-use Rattle.std.specs.Prelude.{ℕ, ℤ, pos, zero, suc, ◌*◌, Bool, true, false, List, [], ◌∷◌, ◌++◌, take, drop, codes}
+-- The text of a written image (VTK User's Guide, "Simple legacy formats"; docs/FORMATS.md,
+-- "Written files").
+use Rattle.std.specs.Prelude.{ℕ, ℤ, pos, zero, suc, ◌*◌, Bool, true, false, List, [], ◌∷◌, ◌++◌}
+use Rattle.std.specs.Prelude.{take, drop, codes}
 use Rattle.std.specs.List.{flat_map}
 use Rattle.std.specs.Fmt.{decimal, signed_decimal}
 use Rattle.viz_extent.specs.Extent.{size_x, size_y, size_z, count_of}
@@ -49,7 +51,8 @@ spacing_line v = vector_line (codes "SPACING") v
 
 -- the lines that say where the points are
 unfoldable pub geometry_lines : ImageData → List ℕ
-geometry_lines i = dimensions_line (size_x i.extent) (size_y i.extent) (size_z i.extent) ++ origin_line (corner i) ++ spacing_line i.spacing
+geometry_lines i = dimensions_line (size_x i.extent) (size_y i.extent) (size_z i.extent)
+    ++ origin_line (corner i) ++ spacing_line i.spacing
 
 -- the number of points, on a line
 unfoldable pub point_data_line : ℕ → List ℕ
@@ -77,7 +80,8 @@ table_line = codes "LOOKUP_TABLE default\n"
 -- the lines in front of the values
 unfoldable pub header_lines : Bool → ImageData → List ℕ
 header_lines binary i =
-    title_lines ++ form_line binary ++ dataset_line ++ geometry_lines i ++ point_data_line (count_of i.extent) ++ array_line i.values.kind ++ table_line
+    title_lines ++ form_line binary ++ dataset_line ++ geometry_lines i
+    ++ point_data_line (count_of i.extent) ++ array_line i.values.kind ++ table_line
 
 -- a number behind a space
 abbrev pub spaced_number : ℤ → List ℕ
@@ -91,7 +95,8 @@ row_text (n ∷ ns) = signed_decimal n ++ flat_map spaced_number ns ++ 10 ∷ []
 -- so many rows of so many values, one line each
 abbrev pub rows_text : ℕ → ℕ → List ℤ → List ℕ
 rows_text zero width values = []
-rows_text (suc rows) width values = row_text (take width values) ++ rows_text rows width (drop width values)
+rows_text (suc rows) width values = row_text (take width values)
+    ++ rows_text rows width (drop width values)
 
 -- the values: their bytes and a newline, or a line for each row
 abbrev pub values_text : Bool → ℕ → ℕ → Numbers → List ℕ
@@ -100,4 +105,5 @@ values_text false rows width values = rows_text rows width values.items
 
 -- the whole text of an image: each row along x is one line
 unfoldable pub image_text : Bool → ImageData → List ℕ
-image_text binary i = header_lines binary i ++ values_text binary (size_y i.extent * size_z i.extent) (size_x i.extent) i.values
+image_text binary i = header_lines binary i ++ values_text binary
+    (size_y i.extent * size_z i.extent) (size_x i.extent) i.values

@@ -4,7 +4,11 @@ ghost use Rattle.std.specs.Prelude.{◌≡◌, ◌++◌, OnOk};
 ghost use Rattle.viz_extent.specs.Extent.{size_x, size_y, size_z};
 ghost use Rattle.viz_dataset.specs.Images.{vector_of};
 ghost use Rattle.viz_lex.specs.Written.{decimal_text};
-ghost use Rattle.viz_image_write.specs.ImageText.{title_lines, form_line, dataset_line, spaced_size, dimensions_line, spaced_decimal, vector_line, origin_line, spacing_line, geometry_lines, point_data_line, type_word, array_line, table_line, header_lines};
+ghost use Rattle.viz_image_write.specs.ImageText.{title_lines, form_line, dataset_line};
+ghost use Rattle.viz_image_write.specs.ImageText.{spaced_size, dimensions_line, spaced_decimal};
+ghost use Rattle.viz_image_write.specs.ImageText.{vector_line, origin_line, spacing_line};
+ghost use Rattle.viz_image_write.specs.ImageText.{geometry_lines, point_data_line, type_word};
+ghost use Rattle.viz_image_write.specs.ImageText.{array_line, table_line, header_lines};
 
 use std::alloc::AllocError;
 use viz_column::Kind8;

@@ -1,7 +1,8 @@
 //! Why a dataset wasn't written.
 
 ghost use Rattle.std.specs.Prelude.{◌≡◌};
-ghost use Rattle.viz_image_write.specs.declared.stop.WriteStop.TheVariants.{TooWide as Wide, Memory};
+ghost use Rattle.viz_image_write.specs.declared.stop.WriteStop.TheVariants.{TooWide as Wide};
+ghost use Rattle.viz_image_write.specs.declared.stop.WriteStop.TheVariants.{Memory};
 
 use std::alloc::AllocError;
 use thiserror::Error;

@@ -19,9 +19,11 @@ value_words (Text word) = word ∷ []
 abbrev pub edit_words : Edit → List (List ℕ)
 edit_words (edit.Add kind node) = command_word command.Add ∷ kind_word kind ∷ node ∷ []
 edit_words (edit.Remove node) = command_word command.Remove ∷ node ∷ []
-edit_words (edit.Connect from to port) = command_word command.Connect ∷ from ∷ to ∷ decimal port ∷ []
+edit_words (edit.Connect from to port) =
+    command_word command.Connect ∷ from ∷ to ∷ decimal port ∷ []
 edit_words (edit.Disconnect to port) = command_word command.Disconnect ∷ to ∷ decimal port ∷ []
-edit_words (edit.Set node param value) = command_word command.Set ∷ node ∷ param_word param ∷ value_words value
+edit_words (edit.Set node param value) =
+    command_word command.Set ∷ node ∷ param_word param ∷ value_words value
 edit_words (edit.Load node file) = command_word command.Load ∷ node ∷ decimal (length file) ∷ []
 
 -- the words of an entry: its actor, its count, and its edit
@@ -50,4 +52,5 @@ last_line count = codes "end " ++ decimal count
 
 -- a journal: its first line, its entries, and its last line
 abbrev pub journal : List JournalEntry → List ℕ
-journal entries = first_line ++ flat_map entry_text entries ++ (last_line (length entries) ++ 10 ∷ [])
+journal entries = first_line ++ flat_map entry_text entries
+    ++ (last_line (length entries) ++ 10 ∷ [])

@@ -38,7 +38,8 @@ in_line b part = record { line = b ∷ part.line; ended = part.ended; rest = par
 
 abbrev pub part_of : List ℕ → Part
 part_of [] = record { line = []; ended = false; rest = [] }
-part_of (b ∷ bs) = if b == 10 then record { line = []; ended = true; rest = bs } else in_line b (part_of bs)
+part_of (b ∷ bs) = if b == 10 then record { line = []; ended = true; rest = bs }
+    else in_line b (part_of bs)
 
 -- the bytes of a load are there
 abbrev pub is_there : Draft → List ℕ → Bool
@@ -67,7 +68,8 @@ edit_of (draft.Load node len) rest = edit.Load node (take (size len) rest)
 
 -- the entry that was told
 abbrev pub entry_of : Told → List ℕ → JournalEntry
-entry_of told rest = record { actor = told.actor; count = told.count; edit = edit_of told.draft rest }
+entry_of told rest =
+    record { actor = told.actor; count = told.count; edit = edit_of told.draft rest }
 
 -- how many of the entries are this actor's
 abbrev pub entries_by : ℕ → List JournalEntry → ℕ

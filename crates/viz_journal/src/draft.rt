@@ -2,7 +2,8 @@
 
 ghost use Rattle.std.specs.Prelude.{◌≡◌, codes};
 ghost use Rattle.viz_words.specs.Words.{words_of};
-ghost use Rattle.viz_journal.specs.Lines.{journal_verb, behind_verb, load_draft, draft_in, told_in, last_in, words_in, line_in};
+ghost use Rattle.viz_journal.specs.Lines.{journal_verb, behind_verb, load_draft, draft_in};
+ghost use Rattle.viz_journal.specs.Lines.{told_in, last_in, words_in, line_in};
 
 use viz_base::Word;
 use viz_network::Edit;

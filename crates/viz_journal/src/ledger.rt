@@ -1,12 +1,14 @@
 //! The entries so far, the network that they make, and how many each actor has.
 
-ghost use Rattle.std.specs.Prelude.{◌≡◌, ◌+◌, ◌<◌, ◌++◌, ◌∷◌, [], ℕ, true, false, nat_eq, if◌then◌else◌, unwrap_or, length, OnOk, IfOk, IsErrOf};
+ghost use Rattle.std.specs.Prelude.{◌≡◌, ◌+◌, ◌<◌, ◌++◌, ◌∷◌, [], ℕ, true, false, nat_eq};
+ghost use Rattle.std.specs.Prelude.{if◌then◌else◌, unwrap_or, length, OnOk, IfOk, IsErrOf};
 ghost use Rattle.std.specs.Ordering.{nat_cmp};
 ghost use Rattle.std.specs.BTreeMap as tree;
 ghost use Rattle.viz_network.specs.declared.refusal.Refusal.{Refusal as Cause};
 ghost use Rattle.viz_network.specs.Edits.{apply as applied};
 ghost use Rattle.viz_network.specs.History.{net_of};
-ghost use Rattle.viz_journal.specs.Reading.{edits_of, entries_by, entry_limit, is_counted, is_accepted};
+ghost use Rattle.viz_journal.specs.Reading.{edits_of, entries_by, entry_limit, is_counted};
+ghost use Rattle.viz_journal.specs.Reading.{is_accepted};
 ghost use Rattle.viz_journal.specs.Steps.Kept.{IsKept, Took};
 
 use crate::draft::Told;

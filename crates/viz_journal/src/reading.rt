@@ -3,7 +3,8 @@
 ghost use Rattle.std.specs.Prelude.{◌≡◌, ◌+◌, ◌<◌, ◌≤◌, [], length, OnOk, IfOk};
 ghost use Rattle.viz_kinds.specs.Values.{is_text};
 ghost use Rattle.viz_journal.specs.Journal.{entry_line, last_line};
-ghost use Rattle.viz_journal.specs.Reading.{entry_limit, entry_of, last_at, journal_from, journal_read, Reads};
+ghost use Rattle.viz_journal.specs.Reading.{entry_limit, entry_of, last_at, journal_from};
+ghost use Rattle.viz_journal.specs.Reading.{journal_read, Reads};
 ghost use Rattle.viz_journal.specs.Steps.Kept.{IsKept, Enters, Goes};
 
 use crate::draft::{Line, Told, line_in};

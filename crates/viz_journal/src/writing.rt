@@ -4,7 +4,8 @@ ghost use Rattle.std.specs.Prelude.{◌≡◌, ◌++◌, ◌≤◌, ◌∷◌, [
 ghost use Rattle.std.specs.List.{flat_map};
 ghost use Rattle.std.specs.Fmt.{decimal, signed_decimal};
 ghost use Rattle.viz_words.specs.Words.{behind_space};
-ghost use Rattle.viz_journal.specs.Journal.{value_words, edit_words, entry_line, file_text, entry_text, first_line, last_line, journal};
+ghost use Rattle.viz_journal.specs.Journal.{value_words, edit_words, entry_line, file_text};
+ghost use Rattle.viz_journal.specs.Journal.{entry_text, first_line, last_line, journal};
 
 use crate::entry::JournalEntry;
 use std::alloc::{AllocError, Global};

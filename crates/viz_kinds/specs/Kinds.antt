@@ -1,7 +1,9 @@
 -- The kinds of node: their ports and their parameters (docs/FORMATS.md, "Kinds of node").
 use Rattle.std.specs.Prelude.{ℕ, Bool, true, false, nat_le, ◌&&◌}
 use Rattle.viz_kinds.specs.declared.kind.Kind.{Kind}
-use Rattle.viz_kinds.specs.declared.kind.Kind.TheVariants.{File, Crop, Sample, Threshold, Smooth, Arith, Tets, Select, Contour, Cut, Append, Boundary, Merge, Writer}
+use Rattle.viz_kinds.specs.declared.kind.Kind.TheVariants.{File, Crop, Sample, Threshold, Smooth}
+use Rattle.viz_kinds.specs.declared.kind.Kind.TheVariants.{Arith, Tets, Select, Contour, Cut}
+use Rattle.viz_kinds.specs.declared.kind.Kind.TheVariants.{Append, Boundary, Merge, Writer}
 use Rattle.viz_kinds.specs.declared.param.Param.{Param}
 use Rattle.viz_kinds.specs.declared.param.Param.TheVariants as param
 

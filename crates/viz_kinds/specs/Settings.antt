@@ -1,5 +1,6 @@
 -- The parameters of a node, typed by its kind (docs/FORMATS.md, "Kinds of node").
-use Rattle.std.specs.Prelude.{ℕ, Bool, true, false, ◌&&◌, if◌then◌else◌, ℤ, pos, int_le, unsigned_abs, List, ◌∷◌, replicate, codes, Option, None, Some}
+use Rattle.std.specs.Prelude.{ℕ, Bool, true, false, ◌&&◌, if◌then◌else◌, ℤ, pos, int_le}
+use Rattle.std.specs.Prelude.{unsigned_abs, List, ◌∷◌, replicate, codes, Option, None, Some}
 use Rattle.std.specs.Ordering.{int_eq}
 use Rattle.viz_base.specs.declared.node.Pick.{Pick}
 use Rattle.viz_base.specs.declared.node.Pick.TheVariants.{First, Zero, Named}
@@ -59,7 +60,8 @@ natural limit n = if int_le (pos 0) n && int_le n (pos limit) then unsigned_abs 
 
 -- the array that a text picks
 abbrev pub pick_of : List ℕ → Pick
-pick_of text = if is_text text (codes "*") then First else (if is_text text (codes "-") then Zero else Named text)
+pick_of text = if is_text text (codes "*") then First
+    else (if is_text text (codes "-") then Zero else Named text)
 
 -- the text that picks an array
 abbrev pub pick_text : Pick → List ℕ
@@ -69,7 +71,9 @@ pick_text (Named name) = name
 
 -- what a text tells arith to reckon
 abbrev pub op_of : List ℕ → Op
-op_of text = if is_text text (codes "add") then op.Add else (if is_text text (codes "sub") then op.Sub else (if is_text text (codes "min") then op.Min else op.Max))
+op_of text = if is_text text (codes "add") then op.Add
+    else (if is_text text (codes "sub") then op.Sub
+    else (if is_text text (codes "min") then op.Min else op.Max))
 
 -- the text of what arith reckons
 abbrev pub op_text : Op → List ℕ
@@ -80,32 +84,42 @@ op_text op.Max = codes "max"
 
 -- the bounds of a crop
 abbrev pub boxed : List ℤ → Settings
-boxed n = settings.Crop (natural index_limit (number n 0)) (natural index_limit (number n 1)) (natural index_limit (number n 2)) (natural index_limit (number n 3))
+boxed n = settings.Crop (natural index_limit (number n 0)) (natural index_limit (number n 1))
+    (natural index_limit (number n 2)) (natural index_limit (number n 3))
     (natural index_limit (number n 4)) (natural index_limit (number n 5))
 
 -- the rates of a sample
 abbrev pub rated : List ℤ → Settings
-rated n = settings.Sample (natural 1024 (number n 0)) (natural 1024 (number n 1)) (natural 1024 (number n 2))
+rated n = settings.Sample (natural 1024 (number n 0)) (natural 1024 (number n 1))
+    (natural 1024 (number n 2))
 
 -- the parameters with other numbers of one
 abbrev pub with_numbers : Settings → Param → ℕ → List ℤ → Settings
-with_numbers (settings.File array unit) param.Unit count n = settings.File array (natural 9 (number n 0))
+with_numbers (settings.File array unit) param.Unit count n = settings.File array
+    (natural 9 (number n 0))
 with_numbers (settings.Crop x0 x1 y0 y1 z0 z1) param.Bounds count n = boxed n
 with_numbers (settings.Sample x y z) param.Rate count n = rated n
-with_numbers (settings.Threshold lo hi) param.Range count n = settings.Threshold (number n 0) (number n 1)
-with_numbers (settings.Smooth radius) param.Radius count n = settings.Smooth (natural 8 (number n 0))
-with_numbers (settings.Select lo hi all) param.Range count n = settings.Select (number n 0) (number n 1) all
+with_numbers (settings.Threshold lo hi) param.Range count n = settings.Threshold (number n 0)
+    (number n 1)
+with_numbers (settings.Smooth radius) param.Radius count n = settings.Smooth
+    (natural 8 (number n 0))
+with_numbers (settings.Select lo hi all) param.Range count n = settings.Select (number n 0)
+    (number n 1) all
 with_numbers (settings.Contour levels_count levels) param.Levels count n = settings.Contour count n
-with_numbers (settings.Cut a b c r) param.Plane count n = settings.Cut (number n 0) (number n 1) (number n 2) (number n 3)
-with_numbers (settings.Writer binary digits) param.Digits count n = settings.Writer binary (natural 9 (number n 0))
+with_numbers (settings.Cut a b c r) param.Plane count n = settings.Cut (number n 0) (number n 1)
+    (number n 2) (number n 3)
+with_numbers (settings.Writer binary digits) param.Digits count n = settings.Writer binary
+    (natural 9 (number n 0))
 with_numbers settings _ _ _ = settings
 
 -- the parameters with another text of one
 abbrev pub with_text : Settings → Param → List ℕ → Settings
 with_text (settings.File array unit) param.Array text = settings.File (pick_of text) unit
 with_text (settings.Arith op) param.Op text = settings.Arith (op_of text)
-with_text (settings.Select lo hi all) param.Mode text = settings.Select lo hi (is_text text (codes "all"))
-with_text (settings.Writer binary digits) param.Style text = settings.Writer (is_text text (codes "binary")) digits
+with_text (settings.Select lo hi all) param.Mode text = settings.Select lo hi
+    (is_text text (codes "all"))
+with_text (settings.Writer binary digits) param.Style text = settings.Writer
+    (is_text text (codes "binary")) digits
 with_text settings _ _ = settings
 
 -- the parameters with another value of one
@@ -126,16 +140,20 @@ one n = Some (Numbers 1 (n ∷ replicate 7 (pos 0)))
 abbrev pub setting : Settings → Param → Option Value
 setting (settings.File array unit) param.Array = Some (Text (pick_text array))
 setting (settings.File array unit) param.Unit = one (pos unit)
-setting (settings.Crop x0 x1 y0 y1 z0 z1) param.Bounds = Some (Numbers 6 (pos x0 ∷ pos x1 ∷ pos y0 ∷ pos y1 ∷ pos z0 ∷ pos z1 ∷ replicate 2 (pos 0)))
-setting (settings.Sample x y z) param.Rate = Some (Numbers 3 (pos x ∷ pos y ∷ pos z ∷ replicate 5 (pos 0)))
+setting (settings.Crop x0 x1 y0 y1 z0 z1) param.Bounds = Some
+    (Numbers 6 (pos x0 ∷ pos x1 ∷ pos y0 ∷ pos y1 ∷ pos z0 ∷ pos z1 ∷ replicate 2 (pos 0)))
+setting (settings.Sample x y z) param.Rate = Some
+    (Numbers 3 (pos x ∷ pos y ∷ pos z ∷ replicate 5 (pos 0)))
 setting (settings.Threshold lo hi) param.Range = Some (Numbers 2 (lo ∷ hi ∷ replicate 6 (pos 0)))
 setting (settings.Smooth radius) param.Radius = one (pos radius)
 setting (settings.Arith op) param.Op = Some (Text (op_text op))
 setting (settings.Select lo hi all) param.Range = Some (Numbers 2 (lo ∷ hi ∷ replicate 6 (pos 0)))
-setting (settings.Select lo hi all) param.Mode = Some (Text (if all then codes "all" else codes "any"))
+setting (settings.Select lo hi all) param.Mode = Some
+    (Text (if all then codes "all" else codes "any"))
 setting (settings.Contour count levels) param.Levels = Some (Numbers count levels)
 setting (settings.Cut a b c r) param.Plane = Some (Numbers 4 (a ∷ b ∷ c ∷ r ∷ replicate 4 (pos 0)))
-setting (settings.Writer binary digits) param.Style = Some (Text (if binary then codes "binary" else codes "ascii"))
+setting (settings.Writer binary digits) param.Style = Some
+    (Text (if binary then codes "binary" else codes "ascii"))
 setting (settings.Writer binary digits) param.Digits = one (pos digits)
 setting _ _ = None
 

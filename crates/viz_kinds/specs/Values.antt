@@ -1,5 +1,7 @@
 -- The values that each parameter may have (docs/FORMATS.md, "Kinds of node").
-use Rattle.std.specs.Prelude.{ℕ, Bool, true, false, not, nat_le, nat_eq, ◌&&◌, ◌||◌, ℤ, pos, negsuc, int_le, List, take, drop, codes, slice_index_or, Option, None, Some}
+use Rattle.std.specs.Prelude.{ℕ, Bool, true, false, not, nat_le, nat_eq, ◌&&◌, ◌||◌, ℤ, pos}
+use Rattle.std.specs.Prelude.{negsuc, int_le, List, take, drop, codes, slice_index_or, Option}
+use Rattle.std.specs.Prelude.{None, Some}
 use Rattle.std.specs.List.{list_all}
 use Rattle.std.specs.Ordering.{int_eq}
 use Rattle.std.specs.Cmp.Lexicographic.{pointwise}
@@ -42,8 +44,10 @@ fits_range low high numbers = list_all (λ n. int_le low n && int_le n high) num
 
 -- whether so many numbers are in the range, and the items past them 0
 abbrev pub fits_param : Range → ℕ → List ℤ → Bool
-fits_param range count items = (nat_le range.least count && nat_le count range.most && nat_le count 8)
-    && (fits_range range.low range.high (take count items) && fits_range (pos 0) (pos 0) (drop count items))
+fits_param range count items = (nat_le range.least count && nat_le count range.most
+    && nat_le count 8)
+    && (fits_range range.low range.high (take count items)
+    && fits_range (pos 0) (pos 0) (drop count items))
 
 -- the number at an index
 abbrev pub number : List ℤ → ℕ → ℤ
@@ -56,7 +60,8 @@ is_ascending items = int_le (number items 0) (number items 1)
 
 -- whether a, b and c of a plane aren't all 0
 abbrev pub is_normal : List ℤ → Bool
-is_normal items = not (int_eq (number items 0) (pos 0)) || not (int_eq (number items 1) (pos 0)) || not (int_eq (number items 2) (pos 0))
+is_normal items = not (int_eq (number items 0) (pos 0)) || not (int_eq (number items 1) (pos 0))
+    || not (int_eq (number items 2) (pos 0))
 
 -- whether the numbers of the parameter fit together
 abbrev pub fits_rest : Param → List ℤ → Bool
@@ -71,7 +76,8 @@ is_text = pointwise nat_eq
 -- whether the parameter takes the text
 abbrev pub takes_text : Param → List ℕ → Bool
 takes_text param.Array text = true
-takes_text param.Op text = is_text text (codes "add") || is_text text (codes "sub") || is_text text (codes "min") || is_text text (codes "max")
+takes_text param.Op text = is_text text (codes "add") || is_text text (codes "sub")
+    || is_text text (codes "min") || is_text text (codes "max")
 takes_text param.Mode text = is_text text (codes "all") || is_text text (codes "any")
 takes_text param.Style text = is_text text (codes "ascii") || is_text text (codes "binary")
 takes_text _ text = false

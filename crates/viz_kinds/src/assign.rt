@@ -2,7 +2,11 @@
 
 ghost use Rattle.std.specs.Prelude.{◌≡◌, ◌≤◌, ℕ};
 ghost use Rattle.viz_base.specs.Names.{IsName};
-ghost use Rattle.viz_kinds.specs.Settings.{natural, pick_of as picked, pick_text as picking, op_of as reckoned, op_text as reckoning, with as changed, with_numbers as numbered, with_text as texted, release_with as released, setting, value_of, boxed, rated, one as single};
+ghost use Rattle.viz_kinds.specs.Settings.{natural, pick_of as picked, pick_text as picking};
+ghost use Rattle.viz_kinds.specs.Settings.{op_of as reckoned, op_text as reckoning};
+ghost use Rattle.viz_kinds.specs.Settings.{with as changed, with_numbers as numbered};
+ghost use Rattle.viz_kinds.specs.Settings.{with_text as texted, release_with as released, setting};
+ghost use Rattle.viz_kinds.specs.Settings.{value_of, boxed, rated, one as single};
 ghost use Rattle.std.specs.Prelude.{codes, if◌then◌else◌, Some};
 ghost use Rattle.viz_kinds.specs.declared.param.Value.TheVariants.{Numbers, Text};
 
@@ -259,13 +263,19 @@ impl Settings {
             (Settings::Sample { x, y, z }, Param::Rate) => numbers(3, [
                 i64::from(*x), i64::from(*y), i64::from(*z), 0, 0, 0, 0, 0,
             ]),
-            (Settings::Threshold { lo, hi }, Param::Range) => numbers(2, [*lo, *hi, 0, 0, 0, 0, 0, 0]),
+            (Settings::Threshold { lo, hi }, Param::Range) => numbers(2, [
+                *lo, *hi, 0, 0, 0, 0, 0, 0,
+            ]),
             (Settings::Smooth { radius }, Param::Radius) => one(i64::from(*radius)),
             (Settings::Arith { op }, Param::Op) => text(op_text(*op)),
-            (Settings::Select { lo, hi, .. }, Param::Range) => numbers(2, [*lo, *hi, 0, 0, 0, 0, 0, 0]),
+            (Settings::Select { lo, hi, .. }, Param::Range) => numbers(2, [
+                *lo, *hi, 0, 0, 0, 0, 0, 0,
+            ]),
             (Settings::Select { all, .. }, Param::Mode) => text(mode_text(*all)),
             (Settings::Contour { count, levels }, Param::Levels) => numbers(*count, *levels),
-            (Settings::Cut { a, b, c, r }, Param::Plane) => numbers(4, [*a, *b, *c, *r, 0, 0, 0, 0]),
+            (Settings::Cut { a, b, c, r }, Param::Plane) => numbers(4, [
+                *a, *b, *c, *r, 0, 0, 0, 0,
+            ]),
             (Settings::Writer { binary, .. }, Param::Style) => text(style_text(*binary)),
             (Settings::Writer { digits, .. }, Param::Digits) => one(i64::from(*digits)),
             _ => None,

@@ -1,7 +1,9 @@
 //! The values that each parameter may have.
 
-ghost use Rattle.std.specs.Prelude.{◌≡◌, ◌≤◌, ◌&&◌, ◌||◌, take, drop, nat_le, length, int_le, ℤ, pos};
-ghost use Rattle.viz_kinds.specs.Values.{numbers_of, fits_range, fits_rest, takes_text, fits_param, is_value, is_ascending, is_normal};
+ghost use Rattle.std.specs.Prelude.{◌≡◌, ◌≤◌, ◌&&◌, ◌||◌, take, drop, nat_le, length, int_le, ℤ};
+ghost use Rattle.std.specs.Prelude.{pos};
+ghost use Rattle.viz_kinds.specs.Values.{numbers_of, fits_range, fits_rest, takes_text};
+ghost use Rattle.viz_kinds.specs.Values.{fits_param, is_value, is_ascending, is_normal};
 
 use crate::param::{Param, Value};
 use viz_base::Word;

@@ -1,5 +1,6 @@
 -- The axes of the grid, and the eight corners of a cube (Kuhn 1960).
-use Rattle.std.specs.Prelude.{◌≡◌, ℕ, ◌+◌, ◌/◌, ◌%◌, ◌<◌, ◌⊎◌, List, [], ◌∷◌, nat_lt, count_by, swap}
+use Rattle.std.specs.Prelude.{◌≡◌, ℕ, ◌+◌, ◌/◌, ◌%◌, ◌<◌, ◌⊎◌, List, [], ◌∷◌, nat_lt, count_by}
+use Rattle.std.specs.Prelude.{swap}
 
 -- an axis of the grid
 pub data Axis : Type 0 where
@@ -53,7 +54,8 @@ rank along_z = 2
 -- how many pairs of the axes stand in the other order than x, y, z
 abbrev pub inversions : List Axis → ℕ
 inversions [] = 0
-inversions (axis ∷ axes) = count_by (λ later. nat_lt (rank later) (rank axis)) axes + inversions axes
+inversions (axis ∷ axes) = count_by (λ later. nat_lt (rank later)
+    (rank axis)) axes + inversions axes
 
 -- each step is 0 or 1
 pub record IsCorner (c : Corner) : Type 0 where

@@ -1,5 +1,7 @@
--- The cubes between the points of an extent, and the tetrahedra of all (VTK User's Guide, structured points).
-use Rattle.std.specs.Prelude.{◌≡◌, ℕ, ◌+◌, ◌-◌, ◌*◌, ◌<◌, ◌≤◌, List, [], map, length, slice_index_or, flat_map}
+-- The cubes between the points of an extent, and the tetrahedra of all (VTK User's Guide,
+-- structured points).
+use Rattle.std.specs.Prelude.{◌≡◌, ℕ, ◌+◌, ◌-◌, ◌*◌, ◌<◌, ◌≤◌, List, [], map, length}
+use Rattle.std.specs.Prelude.{slice_index_or, flat_map}
 use Rattle.std.specs.List.{range_with_len}
 use Rattle.viz_extent.specs.Extent.{Bounds}
 use Rattle.viz_extent.specs.Numbering.{index_at}

@@ -1,6 +1,9 @@
 -- Kuhn's subdivision of a cube into six tetrahedra (Kuhn 1960; Doi and Koide 1991), row by row.
-use Rattle.std.specs.Prelude.{◌≡◌, ◌≢◌, ℕ, ◌%◌, ◌<◌, ◌==◌, Bool, true, false, IsTrue, if◌then◌else◌, List, [], ◌∷◌, slice_index_or, All, AllPairs, Contains, IsPermutation}
-use Rattle.viz_kuhn.specs.Corners.{Axis, along_x, along_y, along_z, Corner, corner, path_of, exchanged, inversions, IsCorner, IsEdge}
+use Rattle.std.specs.Prelude.{◌≡◌, ◌≢◌, ℕ, ◌%◌, ◌<◌, ◌==◌, Bool, true, false, IsTrue}
+use Rattle.std.specs.Prelude.{if◌then◌else◌, List, [], ◌∷◌, slice_index_or, All, AllPairs}
+use Rattle.std.specs.Prelude.{Contains, IsPermutation}
+use Rattle.viz_kuhn.specs.Corners.{Axis, along_x, along_y, along_z, Corner, corner, path_of}
+use Rattle.viz_kuhn.specs.Corners.{exchanged, inversions, IsCorner, IsEdge}
 
 -- a tetrahedron: the axes in the order of its path, whether that order is even, its corners
 pub record Row : Type 0 where
@@ -16,17 +19,23 @@ row axes even corners = record { axes = axes; even = even; corners = corners }
 unfoldable pub rows : List Row
 rows =
     -- x y z
-    row (along_x ∷ along_y ∷ along_z ∷ []) true (corner 0 0 0 ∷ corner 1 0 0 ∷ corner 1 1 0 ∷ corner 1 1 1 ∷ [])
+    row (along_x ∷ along_y ∷ along_z ∷ []) true
+    (corner 0 0 0 ∷ corner 1 0 0 ∷ corner 1 1 0 ∷ corner 1 1 1 ∷ [])
     -- x z y
-    ∷ row (along_x ∷ along_z ∷ along_y ∷ []) false (corner 0 0 0 ∷ corner 1 0 1 ∷ corner 1 0 0 ∷ corner 1 1 1 ∷ [])
+    ∷ row (along_x ∷ along_z ∷ along_y ∷ []) false
+    (corner 0 0 0 ∷ corner 1 0 1 ∷ corner 1 0 0 ∷ corner 1 1 1 ∷ [])
     -- y x z
-    ∷ row (along_y ∷ along_x ∷ along_z ∷ []) false (corner 0 0 0 ∷ corner 1 1 0 ∷ corner 0 1 0 ∷ corner 1 1 1 ∷ [])
+    ∷ row (along_y ∷ along_x ∷ along_z ∷ []) false
+    (corner 0 0 0 ∷ corner 1 1 0 ∷ corner 0 1 0 ∷ corner 1 1 1 ∷ [])
     -- y z x
-    ∷ row (along_y ∷ along_z ∷ along_x ∷ []) true (corner 0 0 0 ∷ corner 0 1 0 ∷ corner 0 1 1 ∷ corner 1 1 1 ∷ [])
+    ∷ row (along_y ∷ along_z ∷ along_x ∷ []) true
+    (corner 0 0 0 ∷ corner 0 1 0 ∷ corner 0 1 1 ∷ corner 1 1 1 ∷ [])
     -- z x y
-    ∷ row (along_z ∷ along_x ∷ along_y ∷ []) true (corner 0 0 0 ∷ corner 0 0 1 ∷ corner 1 0 1 ∷ corner 1 1 1 ∷ [])
+    ∷ row (along_z ∷ along_x ∷ along_y ∷ []) true
+    (corner 0 0 0 ∷ corner 0 0 1 ∷ corner 1 0 1 ∷ corner 1 1 1 ∷ [])
     -- z y x
-    ∷ row (along_z ∷ along_y ∷ along_x ∷ []) false (corner 0 0 0 ∷ corner 0 1 1 ∷ corner 0 0 1 ∷ corner 1 1 1 ∷ [])
+    ∷ row (along_z ∷ along_y ∷ along_x ∷ []) false
+    (corner 0 0 0 ∷ corner 0 1 1 ∷ corner 0 0 1 ∷ corner 1 1 1 ∷ [])
     ∷ []
 
 -- row p, and an empty one past the last
@@ -68,7 +77,8 @@ ParityIsOfOrder = (p : ℕ) → p < 6 → (row_at p).even ≡ (inversions (axes_
 abbrev pub CornersFollowPath : Type 0
 CornersFollowPath =
     (p : ℕ) → p < 6
-    → corners_of p ≡ (if (row_at p).even then path_of (axes_of p) else exchanged (path_of (axes_of p)))
+    → corners_of p ≡ (if (row_at p).even then path_of (axes_of p)
+    else exchanged (path_of (axes_of p)))
 
 -- each tetrahedron has corners of the cube alone
 abbrev pub OnlyCorners : Type 0

@@ -1,7 +1,10 @@
 //! Laws of the six tetrahedra and of the list of all. A function that calls one may rest on it.
-ghost use Rattle.viz_kuhn.specs.Kuhn.{HasThreeAxes, HasEveryOrder, OrdersDiffer, ParityIsOfOrder, CornersFollowPath, OnlyCorners, EveryCorner, SharesDiagonal, EdgesAreSteps};
+ghost use Rattle.viz_kuhn.specs.Kuhn.{HasThreeAxes, HasEveryOrder, OrdersDiffer, ParityIsOfOrder};
+ghost use Rattle.viz_kuhn.specs.Kuhn.{CornersFollowPath, OnlyCorners, EveryCorner, SharesDiagonal};
+ghost use Rattle.viz_kuhn.specs.Kuhn.{EdgesAreSteps};
 ghost use Rattle.viz_kuhn.specs.Places.{IsPositiveSixth};
-ghost use Rattle.viz_kuhn.specs.Cubes.{ListsEachCube, NumbersXFastest, NumbersEachCube, ListsSixEach, ListsInOrder};
+ghost use Rattle.viz_kuhn.specs.Cubes.{ListsEachCube, NumbersXFastest, NumbersEachCube};
+ghost use Rattle.viz_kuhn.specs.Cubes.{ListsSixEach, ListsInOrder};
 
 /// The rows have the six orders of the three axes, each once.
 pub fn orders_are_six()
@@ -10,13 +13,15 @@ pub fn orders_are_six()
     ensures differ { OrdersDiffer }
 {}
 
-/// A row's corners are the path along its axes; where the order is odd, the middle ones change places.
+/// A row's corners are the path along its axes; where the order is odd, the middle ones change
+/// places.
 pub fn paths_are_followed()
     ensures parity { ParityIsOfOrder }
     ensures path { CornersFollowPath }
 {}
 
-/// The six have the eight corners of the cube and no other, and each has the lowest and the highest.
+/// The six have the eight corners of the cube and no other, and each has the lowest and the
+/// highest.
 pub fn corners_are_the_cubes()
     ensures only { OnlyCorners }
     ensures every { EveryCorner }

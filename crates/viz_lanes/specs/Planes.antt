@@ -1,4 +1,5 @@
--- The truth values of a comparison at each number of a list, as Rust compares whole numbers, and the numbers that are selected.
+-- The truth values of a comparison at each number of a list, as Rust compares whole numbers, and
+-- the numbers that are selected.
 use Rattle.std.specs.Prelude.{ℤ, pos, Bool, ◌&&◌, List, map, int_le, if◌then◌else◌}
 
 -- whether each number is at least v

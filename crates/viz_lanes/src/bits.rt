@@ -1,6 +1,7 @@
 //! A list of truth values, 64 to a word.
 
-ghost use Rattle.std.specs.Prelude.{◌≡◌, ◌==◌, ◌+◌, ◌/◌, ◌%◌, ◌^◌, ◌<◌, ◌≤◌, ◌++◌, ◌∷◌, [], length, false, slice_index_or, IfOk, OnOk, OnErr};
+ghost use Rattle.std.specs.Prelude.{◌≡◌, ◌==◌, ◌+◌, ◌/◌, ◌%◌, ◌^◌, ◌<◌, ◌≤◌, ◌++◌, ◌∷◌, []};
+ghost use Rattle.std.specs.Prelude.{length, false, slice_index_or, IfOk, OnOk, OnErr};
 ghost use Rattle.viz_lanes.specs.Kept.{low_bits, bits_of};
 
 use std::alloc::{AllocError, Global};

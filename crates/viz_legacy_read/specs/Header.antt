@@ -1,10 +1,14 @@
--- The header of a file: up to the word of the dataset, and of an image up to its third header line (VTK User's Guide, "Simple legacy formats"; docs/FORMATS.md, "Images").
-use Rattle.std.specs.Prelude.{ℕ, ℤ, pos, negsuc, ◌-◌, ◌*◌, ◌^◌, Bool, true, false, not, ◌&&◌, ◌||◌, nat_le, nat_lt, List, [], ◌∷◌, codes, fold, Option, Some, None, unwrap_or, unsigned_abs}
+-- The header of a file: up to the word of the dataset, and of an image up to its third header line
+-- (VTK User's Guide, "Simple legacy formats"; docs/FORMATS.md, "Images").
+use Rattle.std.specs.Prelude.{ℕ, ℤ, pos, negsuc, ◌-◌, ◌*◌, ◌^◌, Bool, true, false, not, ◌&&◌, ◌||◌}
+use Rattle.std.specs.Prelude.{nat_le, nat_lt, List, [], ◌∷◌, codes, fold, Option, Some, None}
+use Rattle.std.specs.Prelude.{unwrap_or, unsigned_abs}
 use Rattle.viz_extent.specs.Extent.{Bounds, bounds_of}
 use Rattle.viz_dataset.specs.Images.{Vector}
 use Rattle.viz_attr.specs.Counts.{is_at_least}
 use Rattle.viz_attr.specs.Passed.{passed_field}
-use Rattle.viz_lex.specs.declared.fault.FileKind.TheVariants.{Form, Count, Spacing, HeaderNumber, TooMany, Unsupported}
+use Rattle.viz_lex.specs.declared.fault.FileKind.TheVariants.{Form, Count, Spacing, HeaderNumber}
+use Rattle.viz_lex.specs.declared.fault.FileKind.TheVariants.{TooMany, Unsupported}
 use Rattle.viz_lex.specs.Reading.{fault_at}
 use Rattle.viz_lex.specs.Steps.{has, same_word, keyword_kind, is_next}
 use Rattle.viz_lex.specs.Rules.{Rule, gives, refuses, demand, choose, ◌>>=◌}
@@ -19,11 +23,13 @@ use Rattle.viz_legacy_read.specs.Magic.{two_lines}
 abbrev pub form : Rule Bool
 form = do
   w ← word
-  choose (same_word w.1 (codes "ASCII")) (gives false) (choose (same_word w.1 (codes "BINARY")) (gives true) (refuses (fault_at Form w.0)))
+  choose (same_word w.1 (codes "ASCII")) (gives false)
+      (choose (same_word w.1 (codes "BINARY")) (gives true) (refuses (fault_at Form w.0)))
 
 -- the datasets of the format that aren't read here
 abbrev pub is_left_out_dataset : List ℕ → Bool
-is_left_out_dataset word = same_word word (codes "STRUCTURED_GRID") || same_word word (codes "RECTILINEAR_GRID")
+is_left_out_dataset word = same_word word (codes "STRUCTURED_GRID")
+    || same_word word (codes "RECTILINEAR_GRID")
 
 -- a word for a dataset
 abbrev pub dataset_word : ℕ × List ℕ → Rule DatasetWord
@@ -31,7 +37,8 @@ dataset_word w =
     choose (same_word w.1 (codes "STRUCTURED_POINTS")) (gives Points)
     (choose (same_word w.1 (codes "UNSTRUCTURED_GRID")) (gives Grid)
     (choose (same_word w.1 (codes "POLYDATA")) (gives Polydata)
-    (choose (is_left_out_dataset w.1) (refuses (fault_at Unsupported w.0)) (refuses (fault_at (keyword_kind w.1) w.0)))))
+    (choose (is_left_out_dataset w.1) (refuses (fault_at Unsupported w.0))
+    (refuses (fault_at (keyword_kind w.1) w.0)))))
 
 -- DATASET and a word for a dataset
 abbrev pub dataset : Rule DatasetWord
@@ -121,7 +128,8 @@ is_above (negsuc n) = false
 abbrev pub step : Rule ℤ
 step = do
   n ← decimal
-  demand (nat_le (unsigned_abs n.1) (10 ^ 18)) (fault_at HeaderNumber n.0) (demand (is_above n.1) (fault_at Spacing n.0) (gives n.1))
+  demand (nat_le (unsigned_abs n.1) (10 ^ 18)) (fault_at HeaderNumber n.0)
+      (demand (is_above n.1) (fault_at Spacing n.0) (gives n.1))
 
 -- SPACING x y z, or ASPECT_RATIO x y z
 abbrev pub spacing : Rule Vector
@@ -140,7 +148,8 @@ behind g key =
     (choose (same_word key.1 (codes "ORIGIN") && not (has g.origin)) (do
       v ← origin
       gives (Origin v))
-    (choose ((same_word key.1 (codes "SPACING") || same_word key.1 (codes "ASPECT_RATIO")) && not (has g.spacing)) (do
+    (choose ((same_word key.1 (codes "SPACING") || same_word key.1 (codes "ASPECT_RATIO"))
+    && not (has g.spacing)) (do
       v ← spacing
       gives (Spacing_of v))
     (refuses (fault_at (keyword_kind key.1) key.0))))

@@ -20,7 +20,8 @@ cells_of b = cells_along b.x0 b.x1 * cells_along b.y0 b.y1 * cells_along b.z0 b.
 
 -- what is asked of the attributes
 abbrev pub asked : Header → Pick → Given
-asked h pick = record { binary = h.binary; points = count_of h.whole; cells = cells_of h.whole; pick = pick }
+asked h pick =
+    record { binary = h.binary; points = count_of h.whole; cells = cells_of h.whole; pick = pick }
 
 -- the picked numbers, or zeros of a byte where none are asked for
 abbrev pub numbers_or_zeros : ℕ → Option Numbers → Numbers
@@ -29,7 +30,13 @@ numbers_or_zeros points (Some numbers) = numbers
 
 -- the image of a header and numbers
 abbrev pub image_of : Header → Option Numbers → ImageData
-image_of h column = record { extent = h.whole; origin = h.origin; spacing = h.spacing; values = numbers_or_zeros (count_of h.whole) column }
+image_of h column =
+    record {
+      extent = h.whole;
+      origin = h.origin;
+      spacing = h.spacing;
+      values = numbers_or_zeros (count_of h.whole) column;
+    }
 
 -- the image behind its header: the attributes to the end
 abbrev pub image_behind : Pick → Header → Rule ImageData

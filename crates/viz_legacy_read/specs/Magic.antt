@@ -1,5 +1,7 @@
--- The two lines in front of a file (VTK User's Guide, "Simple legacy formats"; docs/FORMATS.md, "Reading").
-use Rattle.std.specs.Prelude.{◌≡◌, ℕ, suc, ◌+◌, Bool, false, ◌&&◌, ◌||◌, ◌==◌, nat_le, nat_lt, nat_eq, List, [], ◌∷◌, length, take, drop, codes, if◌then◌else◌}
+-- The two lines in front of a file (VTK User's Guide, "Simple legacy formats"; docs/FORMATS.md,
+-- "Reading").
+use Rattle.std.specs.Prelude.{◌≡◌, ℕ, suc, ◌+◌, Bool, false, ◌&&◌, ◌||◌, ◌==◌, nat_le, nat_lt}
+use Rattle.std.specs.Prelude.{nat_eq, List, [], ◌∷◌, length, take, drop, codes, if◌then◌else◌}
 use Rattle.std.specs.List.{list_all, starts_with}
 use Rattle.viz_lex.specs.declared.fault.FileKind.{FileKind}
 use Rattle.viz_lex.specs.declared.fault.FileKind.TheVariants.{Magic, Title}
@@ -49,12 +51,14 @@ behind_point text = drop 1 (behind_digits text)
 -- a version of 5.1 or above, both parts as numbers: 5.10 comes behind 5.9
 abbrev pub is_later : List ℕ → Bool
 is_later text =
-    nat_lt 5 (leading_number text) || (leading_number text == 5 && nat_le 1 (leading_number (behind_point text)))
+    nat_lt 5 (leading_number text) || (leading_number text == 5
+    && nat_le 1 (leading_number (behind_point text)))
 
 -- a line, which is due
 abbrev pub line : FileKind → Rule (List ℕ)
 line kind = record {
-  is = λ old new text. (behind : List ℕ) × IsNextLine (rest_of old) text behind × (new ≡ advanced old (length text + 1));
+  is = λ old new text. (behind : List ℕ) × IsNextLine (rest_of old) text behind
+      × (new ≡ advanced old (length text + 1));
   isnt = λ old f. HasNoNewline (rest_of old) × (f ≡ fault_at kind old.place);
 }
 

@@ -1,4 +1,5 @@
--- The file of a grid or of polydata, behind the word of its dataset (VTK User's Guide, "Simple legacy formats"; docs/FORMATS.md, "Grids and polydata").
+-- The file of a grid or of polydata, behind the word of its dataset (VTK User's Guide, "Simple
+-- legacy formats"; docs/FORMATS.md, "Grids and polydata").
 use Rattle.std.specs.Prelude.{ℕ, ◌+◌, Bool, true, false, List, length}
 use Rattle.viz_base.specs.declared.node.Pick.{Pick}
 use Rattle.viz_attr.specs.Picks.{Given}
@@ -16,7 +17,8 @@ use Rattle.viz_legacy_read.specs.declared.front.Preamble.{Preamble}
 
 -- what is asked of the attributes of so many points and cells of the file
 abbrev pub asked_of : Preamble → Pick → ℕ → ℕ → Given
-asked_of p pick points cells = record { binary = p.binary; points = points; cells = cells; pick = pick }
+asked_of p pick points cells =
+    record { binary = p.binary; points = points; cells = cells; pick = pick }
 
 -- a grid, and its attributes to the end
 abbrev pub grid_behind : Pick → ℕ → Preamble → Rule (List SheetData)

@@ -1,4 +1,5 @@
--- What a file is read as, and where its first fault is (VTK User's Guide, "Simple legacy formats"; docs/FORMATS.md, "Reading").
+-- What a file is read as, and where its first fault is (VTK User's Guide, "Simple legacy formats";
+-- docs/FORMATS.md, "Reading").
 use Rattle.std.specs.Prelude.{◌≡◌, ℕ, List, All}
 use Rattle.viz_base.specs.declared.node.Pick.{Pick}
 use Rattle.viz_extent.specs.Extent.{Bounds}
@@ -54,7 +55,8 @@ pub record HasParts (h : Header) (extent : Bounds) (position step : Vector) : Ty
 -- this is what the header of a file says
 abbrev pub IsInfo : List ℕ → Info → Type 0
 IsInfo bytes (Image whole origin spacing) =
-    (h : Header) × ReadsHeader bytes (OfImage h) × HasParts h whole (vector_of origin) (vector_of spacing)
+    (h : Header) × ReadsHeader bytes (OfImage h)
+    × HasParts h whole (vector_of origin) (vector_of spacing)
 IsInfo bytes Mesh = IsMeshFile bytes
 
 -- the dataset keeps the rule of its type, and sections of a mesh have names

@@ -20,22 +20,35 @@ StopsAt (File fault) read = read ≡ Err fault
 StopsAt Memory read = Unit {0}
 
 -- a value, seen by view, and the new place; or the fault; or memory ran out
-abbrev pub ReadsUnlessMemory : {X Y : Type 0} → (X → Y) → Result X ReadStop → Reading → Result (Y × Reading) FileFault → Type 0
+abbrev pub ReadsUnlessMemory : {X Y : Type 0} → (X → Y) → Result X ReadStop → Reading
+    → Result (Y × Reading) FileFault → Type 0
 ReadsUnlessMemory view (Ok x) new read = read ≡ Ok (view x, new)
 ReadsUnlessMemory view (Err stop) new read = StopsAt stop read
 
 -- the value that reading gives, wherever it ends
-abbrev pub GivesUnlessMemory : {X : Type 0} → Result X ReadStop → Result (X × Reading) FileFault → Type 0
+abbrev pub GivesUnlessMemory : {X : Type 0} → Result X ReadStop → Result (X × Reading) FileFault
+    → Type 0
 GivesUnlessMemory (Ok x) read = (next : Reading) × (read ≡ Ok (x, next))
 GivesUnlessMemory (Err stop) read = StopsAt stop read
 
 -- the lines so far, as the code holds them
 abbrev pub lines_of : Lines → Geometry
-lines_of l = record { whole = l.whole; origin = option_map vector_of l.origin; spacing = option_map vector_of l.spacing }
+lines_of l =
+    record {
+      whole = l.whole;
+      origin = option_map vector_of l.origin;
+      spacing = option_map vector_of l.spacing;
+    }
 
 -- the header of an image, as the code holds it
 abbrev pub image_seen : ImageHeader → Header
-image_seen h = record { binary = h.binary; whole = h.whole; origin = vector_of h.origin; spacing = vector_of h.spacing }
+image_seen h =
+    record {
+      binary = h.binary;
+      whole = h.whole;
+      origin = vector_of h.origin;
+      spacing = vector_of h.spacing;
+    }
 
 -- the origin and the spacing of these lines, where they stand, are those of an image
 pub record AreWithin (l : Lines) : Type 0 where

@@ -1,5 +1,7 @@
 -- The readers of a file, which proofs compare with the rules (docs/FORMATS.md, "Reading").
-use Rattle.std.specs.Prelude.{ℕ, ℤ, ◌+◌, ◌*◌, ◌^◌, Bool, true, false, not, ◌&&◌, ◌||◌, nat_le, nat_lt, List, length, drop, codes, Some, ok_or, Result, Ok, Err, unsigned_abs, if◌then◌else◌}
+use Rattle.std.specs.Prelude.{ℕ, ℤ, ◌+◌, ◌*◌, ◌^◌, Bool, true, false, not, ◌&&◌, ◌||◌, nat_le}
+use Rattle.std.specs.Prelude.{nat_lt, List, length, drop, codes, Some, ok_or, Result, Ok, Err}
+use Rattle.std.specs.Prelude.{unsigned_abs, if◌then◌else◌}
 use Rattle.viz_base.specs.declared.node.Pick.{Pick}
 use Rattle.viz_extent.specs.Extent.{Bounds}
 use Rattle.viz_dataset.specs.Images.{Vector, ImageData}
@@ -7,11 +9,13 @@ use Rattle.viz_attr.specs.Counts.{is_at_least}
 use Rattle.viz_attr.specs.PassedSteps.{passed_field_at}
 use Rattle.viz_attr.specs.Steps.Parts.{attributes_at}
 use Rattle.viz_lex.specs.declared.fault.FileKind.{FileKind}
-use Rattle.viz_lex.specs.declared.fault.FileKind.TheVariants.{Magic, Title, Form, Count, Spacing, HeaderNumber, TooMany, Unsupported}
+use Rattle.viz_lex.specs.declared.fault.FileKind.TheVariants.{Magic, Title, Form, Count, Spacing}
+use Rattle.viz_lex.specs.declared.fault.FileKind.TheVariants.{HeaderNumber, TooMany, Unsupported}
 use Rattle.viz_lex.specs.declared.fault.FileFault.{FileFault}
 use Rattle.viz_lex.specs.Reading.{Reading, fault_at, ◌>>=◌}
 use Rattle.viz_lex.specs.Words.{line_at, text_of}
-use Rattle.viz_lex.specs.Steps.{guard, has, same_word, due_word, due_number, due_decimal, keyword_kind, keyword_at, is_next}
+use Rattle.viz_lex.specs.Steps.{guard, has, same_word, due_word, due_number, due_decimal}
+use Rattle.viz_lex.specs.Steps.{keyword_kind, keyword_at, is_next}
 use Rattle.viz_lex.specs.Readers.{skip_at}
 use Rattle.viz_mesh_read.specs.Poly.{ByKind}
 use Rattle.viz_mesh_read.specs.Pieces.{pieces_in}
@@ -27,7 +31,8 @@ use Rattle.viz_legacy_read.specs.declared.front.DatasetWord.TheVariants.{Points,
 use Rattle.viz_legacy_read.specs.declared.front.Preamble.{Preamble}
 use Rattle.viz_legacy_read.specs.Magic.{magic, is_magic, is_later}
 use Rattle.viz_legacy_read.specs.MeshFile.{asked_of, is_grid}
-use Rattle.viz_legacy_read.specs.Header.{is_left_out_dataset, is_image, Geometry, no_line, whole_of, is_above, Header, header_of, Heading}
+use Rattle.viz_legacy_read.specs.Header.{is_left_out_dataset, is_image, Geometry, no_line}
+use Rattle.viz_legacy_read.specs.Header.{whole_of, is_above, Header, header_of, Heading}
 use Rattle.viz_legacy_read.specs.Header.Heading.{OfImage, OfMesh}
 use Rattle.viz_legacy_read.specs.ImageFile.{asked, image_of}
 
@@ -49,7 +54,9 @@ two_lines_at r = do
 unfoldable pub form_at : Reading → Result (Bool × Reading) FileFault
 form_at r = do
   word ← due_word r
-  if same_word word.0.1 (codes "ASCII") then Ok (false, word.1) else (if same_word word.0.1 (codes "BINARY") then Ok (true, word.1) else Err (fault_at Form word.0.0))
+  if same_word word.0.1 (codes "ASCII") then Ok (false, word.1)
+      else (if same_word word.0.1 (codes "BINARY") then Ok (true, word.1)
+      else Err (fault_at Form word.0.0))
 
 -- a word for a dataset
 unfoldable pub dataset_word_at : ℕ × List ℕ → Reading → Result (DatasetWord × Reading) FileFault
@@ -57,7 +64,8 @@ dataset_word_at w r =
     if same_word w.1 (codes "STRUCTURED_POINTS") then Ok (Points, r)
     else (if same_word w.1 (codes "UNSTRUCTURED_GRID") then Ok (Grid, r)
     else (if same_word w.1 (codes "POLYDATA") then Ok (Polydata, r)
-    else (if is_left_out_dataset w.1 then Err (fault_at Unsupported w.0) else Err (fault_at (keyword_kind w.1) w.0))))
+    else (if is_left_out_dataset w.1 then Err (fault_at Unsupported w.0)
+    else Err (fault_at (keyword_kind w.1) w.0))))
 
 -- DATASET and a word for a dataset
 unfoldable pub dataset_at : Reading → Result (DatasetWord × Reading) FileFault
@@ -117,9 +125,12 @@ spacing_at r = do
 -- what is known behind the keyword of a header line
 unfoldable pub behind_at : Geometry → ℕ × List ℕ → Reading → Result (Geometry × Reading) FileFault
 behind_at g key r =
-    if same_word key.1 (codes "DIMENSIONS") && not (has g.whole) then (sizes_at r >>= λ v. Ok (record g { whole = Some v.0 }, v.1))
-    else (if same_word key.1 (codes "ORIGIN") && not (has g.origin) then (origin_at r >>= λ v. Ok (record g { origin = Some v.0 }, v.1))
-    else (if (same_word key.1 (codes "SPACING") || same_word key.1 (codes "ASPECT_RATIO")) && not (has g.spacing) then (spacing_at r >>= λ v. Ok (record g { spacing = Some v.0 }, v.1))
+    if same_word key.1 (codes "DIMENSIONS") && not (has g.whole)
+    then (sizes_at r >>= λ v. Ok (record g { whole = Some v.0 }, v.1))
+    else (if same_word key.1 (codes "ORIGIN") && not (has g.origin)
+    then (origin_at r >>= λ v. Ok (record g { origin = Some v.0 }, v.1))
+    else (if (same_word key.1 (codes "SPACING") || same_word key.1 (codes "ASPECT_RATIO"))
+    && not (has g.spacing) then (spacing_at r >>= λ v. Ok (record g { spacing = Some v.0 }, v.1))
     else Err (fault_at (keyword_kind key.1) key.0)))
 
 -- a FIELD
@@ -175,7 +186,8 @@ image_behind_at pick h r = do
   Ok (image_of h column.0, column.1)
 
 -- a grid
-unfoldable pub grid_behind_at : Pick → ℕ → Preamble → Reading → Result (List SheetData × Reading) FileFault
+unfoldable pub grid_behind_at : Pick → ℕ → Preamble → Reading
+    → Result (List SheetData × Reading) FileFault
 grid_behind_at pick unit p r = do
   g ← grid_at p.binary p.later r
   picked ← attributes_at (asked_of p pick g.0.0.count g.0.1.0) g.1
@@ -186,15 +198,18 @@ abbrev pub cells_in : ByKind (ℕ × List ℕ) → ℕ
 cells_in all = all.vertices.0 + all.lines.0 + all.polygons.0 + all.strips.0
 
 -- polydata
-unfoldable pub poly_behind_at : Pick → ℕ → Preamble → Reading → Result (List SheetData × Reading) FileFault
+unfoldable pub poly_behind_at : Pick → ℕ → Preamble → Reading
+    → Result (List SheetData × Reading) FileFault
 poly_behind_at pick unit p r = do
   all ← polydata_at p.binary p.later r
   picked ← attributes_at (asked_of p pick all.0.0.count (cells_in all.0.1)) all.1
   Ok (mesh_of unit all.0.0 picked.0 (pieces_in all.0.1), picked.1)
 
 -- a mesh
-unfoldable pub mesh_behind_at : Pick → ℕ → Preamble → Reading → Result (List SheetData × Reading) FileFault
-mesh_behind_at pick unit p r = if is_grid p then grid_behind_at pick unit p r else poly_behind_at pick unit p r
+unfoldable pub mesh_behind_at : Pick → ℕ → Preamble → Reading
+    → Result (List SheetData × Reading) FileFault
+mesh_behind_at pick unit p r = if is_grid p then grid_behind_at pick unit p r
+    else poly_behind_at pick unit p r
 
 -- what stands behind a header
 unfoldable pub contents_at : Pick → ℕ → Heading → Reading → Result (Dataset × Reading) FileFault

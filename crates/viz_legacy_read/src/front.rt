@@ -5,9 +5,14 @@ ghost use Rattle.viz_dataset.specs.Images.{vector_of, IsOrigin, IsSpacing};
 ghost use Rattle.viz_lex.specs.Reading.{Reads};
 ghost use Rattle.viz_lex.specs.Readers.{skip_at};
 ghost use Rattle.viz_lex.specs.Steps.{is_next};
-ghost use Rattle.viz_legacy_read.specs.Header.{is_left_out_dataset, is_image, whole_of, all_of, header_of};
-ghost use Rattle.viz_legacy_read.specs.Steps.{form_at, dataset_word_at, dataset_at, preamble_at, one_field_at, fields_at, header_line_at, lines_header_at, image_heading_at, behind_preamble_at, header_at};
-ghost use Rattle.viz_legacy_read.specs.Reads.{lines_of, image_seen, header_seen, AreWithin, HasLimits, IsWithin};
+ghost use Rattle.viz_legacy_read.specs.Header.{is_left_out_dataset, is_image, whole_of, all_of};
+ghost use Rattle.viz_legacy_read.specs.Header.{header_of};
+ghost use Rattle.viz_legacy_read.specs.Steps.{form_at, dataset_word_at, dataset_at, preamble_at};
+ghost use Rattle.viz_legacy_read.specs.Steps.{one_field_at, fields_at, header_line_at};
+ghost use Rattle.viz_legacy_read.specs.Steps.{lines_header_at, image_heading_at};
+ghost use Rattle.viz_legacy_read.specs.Steps.{behind_preamble_at, header_at};
+ghost use Rattle.viz_legacy_read.specs.Reads.{lines_of, image_seen, header_seen, AreWithin};
+ghost use Rattle.viz_legacy_read.specs.Reads.{HasLimits, IsWithin};
 
 use crate::lines::{ImageHeader, Lines, behind};
 use crate::magic::two_lines;
@@ -171,7 +176,8 @@ const UNIT: i128 = 1_000_000_000;
 /// The spacing of these lines, 1 along each axis where they have none.
 fn spacing_of_lines(lines: &Lines) -> [i128; 3]
     requires { AreWithin lines.now }
-    ensures value { vector_of result ≡ unwrap_or (lines_of lines.now).spacing (all_of (pos (10 ^ 9))) }
+    ensures value { vector_of result ≡ unwrap_or (lines_of lines.now).spacing
+        (all_of (pos (10 ^ 9))) }
     ensures within { IsSpacing (vector_of result) }
 {
     match lines.spacing {

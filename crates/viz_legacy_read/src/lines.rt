@@ -1,12 +1,14 @@
 //! The three header lines of an image.
 
-ghost use Rattle.std.specs.Prelude.{◌≡◌, ◌≤◌, ◌*◌, ◌^◌, nat_lt, nat_le, if◌then◌else◌, IfOk, IfSome, Some, None, unsigned_abs};
+ghost use Rattle.std.specs.Prelude.{◌≡◌, ◌≤◌, ◌*◌, ◌^◌, nat_lt, nat_le, if◌then◌else◌, IfOk};
+ghost use Rattle.std.specs.Prelude.{IfSome, Some, None, unsigned_abs};
 ghost use Rattle.viz_extent.specs.Extent.{IsExtent};
 ghost use Rattle.viz_dataset.specs.Images.{vector_of, IsOrigin, IsStep, IsSpacing};
 ghost use Rattle.viz_attr.specs.Counts.{is_at_least};
 ghost use Rattle.viz_lex.specs.Reading.{Reads};
 ghost use Rattle.viz_legacy_read.specs.Header.{whole_of, is_above};
-ghost use Rattle.viz_legacy_read.specs.Steps.{size_at, sizes_at, origin_at, step_at, spacing_at, behind_at};
+ghost use Rattle.viz_legacy_read.specs.Steps.{size_at, sizes_at, origin_at, step_at, spacing_at};
+ghost use Rattle.viz_legacy_read.specs.Steps.{behind_at};
 ghost use Rattle.viz_legacy_read.specs.Reads.{lines_of, AreWithin};
 
 use viz_extent::Extent;

@@ -5,7 +5,8 @@ ghost use Rattle.std.specs.List.{list_all};
 ghost use Rattle.viz_lex.specs.Numbers.{digits_value};
 ghost use Rattle.viz_lex.specs.Words.{is_blank};
 ghost use Rattle.viz_lex.specs.Reading.{Reads};
-ghost use Rattle.viz_legacy_read.specs.Magic.{digits_len, has_short_number, leading_number, is_minor, is_version, is_later, magic, is_magic};
+ghost use Rattle.viz_legacy_read.specs.Magic.{digits_len, has_short_number, leading_number};
+ghost use Rattle.viz_legacy_read.specs.Magic.{is_minor, is_version, is_later, magic, is_magic};
 ghost use Rattle.viz_legacy_read.specs.Steps.{due_line, two_lines_at};
 
 use viz_lex::{FileFault, FileKind, Lexer};

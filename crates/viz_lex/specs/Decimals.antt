@@ -1,5 +1,8 @@
 -- Decimals as words, in billionths (docs/FORMATS.md, "Reading").
-use Rattle.std.specs.Prelude.{◌≡◌, ◌≢◌, ℕ, ℤ, pos, negsuc, neg_ℤ, suc, ◌+◌, ◌*◌, ◌/◌, ◌^◌, ◌≤◌, Bool, true, false, ◌||◌, ◌⊎◌, ◌==◌, nat_le, unsigned_abs, List, [], ◌∷◌, ◌++◌, length, take, drop, Option, Some, None, option_map, ok_or, Result, Ok, if◌then◌else◌}
+use Rattle.std.specs.Prelude.{◌≡◌, ◌≢◌, ℕ, ℤ, pos, negsuc, neg_ℤ, suc, ◌+◌, ◌*◌, ◌/◌, ◌^◌, ◌≤◌}
+use Rattle.std.specs.Prelude.{Bool, true, false, ◌||◌, ◌⊎◌, ◌==◌, nat_le, unsigned_abs, List, []}
+use Rattle.std.specs.Prelude.{◌∷◌, ◌++◌, length, take, drop, Option, Some, None, option_map, ok_or}
+use Rattle.std.specs.Prelude.{Result, Ok, if◌then◌else◌}
 use Rattle.std.specs.List.{list_all}
 use Rattle.viz_lex.specs.declared.fault.FileFault.{FileFault}
 use Rattle.viz_lex.specs.declared.fault.FileKind.TheVariants.{HeaderNumber, Truncated}
@@ -21,7 +24,8 @@ abbrev pub first_at : (ℕ → Bool) → List ℕ → ℕ
 first_at is [] = 0
 first_at is (b ∷ bs) = if is b then 0 else suc (first_at is bs)
 
--- m · 10^(9 + e - p), truncated: the digits m, of which p stand behind the point, and the exponent e
+-- m · 10^(9 + e - p), truncated: the digits m, of which p stand behind the point, and the exponent
+-- e
 abbrev pub billionths : ℕ → ℕ → ℤ → ℕ
 billionths m p (pos e) = m * 10 ^ (9 + e) / 10 ^ p
 billionths m p (negsuc e) = m * 10 ^ 9 / 10 ^ (p + suc e)
@@ -47,18 +51,21 @@ scaled_of (Some m) p (Some e) = Some (billionths m p e)
 -- the magnitude of a text without a sign, whose exponent begins at a place
 abbrev pub magnitude_by : List ℕ → List ℕ → Option ℕ
 magnitude_by text exponent =
-    scaled_of (natural_of (in_front text ++ behind_point text)) (length (behind_point text)) (exponent_of exponent)
+    scaled_of (natural_of (in_front text ++ behind_point text)) (length (behind_point text))
+    (exponent_of exponent)
 
 -- the magnitude of a text without a sign
 abbrev pub magnitude_of : List ℕ → Option ℕ
-magnitude_of text = magnitude_by (take (first_at is_letter text) text) (drop (first_at is_letter text) text)
+magnitude_of text = magnitude_by (take (first_at is_letter text) text)
+    (drop (first_at is_letter text) text)
 
 -- the same with an optional sign in front
 abbrev pub signed_of : List ℕ → Option ℤ
 signed_of [] = None
 signed_of (b ∷ bs) =
     if b == 45 then option_map (λ n. neg_ℤ (pos n)) (magnitude_of bs)
-    else (if b == 43 then option_map (λ n. pos n) (magnitude_of bs) else option_map (λ n. pos n) (magnitude_of (b ∷ bs)))
+    else (if b == 43 then option_map (λ n. pos n) (magnitude_of bs)
+    else option_map (λ n. pos n) (magnitude_of (b ∷ bs)))
 
 -- the decimal of a word, in billionths, if it is one
 abbrev pub decimal_of : List ℕ → Option ℤ
@@ -92,7 +99,8 @@ IsMantissa text front back = (text ≡ front ++ 46 ∷ back) ⊎ ((text ≡ fron
 -- an exponent of ten behind e or E, or none for 0
 abbrev pub IsExponent : List ℕ → ℤ → Type 0
 IsExponent text e =
-    ((letter : ℕ) × (digits : List ℕ) × (text ≡ letter ∷ digits) × (is_letter letter ≡ true) × (whole_of digits ≡ Some e))
+    ((letter : ℕ) × (digits : List ℕ) × (text ≡ letter ∷ digits) × (is_letter letter ≡ true)
+    × (whole_of digits ≡ Some e))
     ⊎ ((text ≡ []) × (e ≡ pos 0))
 
 -- the parts of a decimal as it is spelled
@@ -127,4 +135,5 @@ IsDecimal word z = (s : Spelling) × IsSpelled word s × (worth s ≡ z)
 
 -- a decimal is that of the next word, and the new place is behind it
 abbrev pub IsDecimalAt : Reading → Reading → ℤ → Type 0
-IsDecimalAt old new z = (span : Span) × IsWordAt old new span × IsDecimal (text_of old span) z × (in_limit z ≡ true)
+IsDecimalAt old new z = (span : Span) × IsWordAt old new span × IsDecimal (text_of old span) z
+    × (in_limit z ≡ true)

@@ -1,6 +1,9 @@
--- The items of a file as rules: words, whole numbers and keywords that are due, the end of a line, blocks of bytes, and what is passed over (docs/FORMATS.md, "Reading").
-use Rattle.std.specs.Prelude.{◌≡◌, ◌≢◌, ◌⊎◌, ℕ, ℤ, ◌+◌, ◌<◌, false, List, ◌∷◌, ◌++◌, length, codes, Option, Some, None}
-use Rattle.viz_lex.specs.declared.fault.FileKind.TheVariants.{Keyword, Number, ValueRange, HeaderNumber, Truncated}
+-- The items of a file as rules: words, whole numbers and keywords that are due, the end of a line,
+-- blocks of bytes, and what is passed over (docs/FORMATS.md, "Reading").
+use Rattle.std.specs.Prelude.{◌≡◌, ◌≢◌, ◌⊎◌, ℕ, ℤ, ◌+◌, ◌<◌, false, List, ◌∷◌, ◌++◌, length, codes}
+use Rattle.std.specs.Prelude.{Option, Some, None}
+use Rattle.viz_lex.specs.declared.fault.FileKind.TheVariants.{Keyword, Number, ValueRange}
+use Rattle.viz_lex.specs.declared.fault.FileKind.TheVariants.{HeaderNumber, Truncated}
 use Rattle.viz_lex.specs.Reading.{Reading, rest_of, advanced, fault_at}
 use Rattle.viz_lex.specs.Words.{is_filler, IsBlank, IsNextWord, IsFiller, IsLineEnd}
 use Rattle.viz_lex.specs.Numbers.{whole_of, fits_i128}
@@ -62,24 +65,31 @@ decimal = do
 -- spaces, tabs and carriage returns, and the newline that is due behind them
 abbrev pub line_end : Rule (Unit {0})
 line_end = record {
-  is = λ old new x. (filler : List ℕ) × (behind : List ℕ) × IsLineEnd (rest_of old) filler behind × (new ≡ advanced old (length filler + 1));
+  is = λ old new x. (filler : List ℕ) × (behind : List ℕ) × IsLineEnd (rest_of old) filler behind
+      × (new ≡ advanced old (length filler + 1));
   isnt = λ old f.
       (IsFiller (rest_of old) × (f ≡ fault_at Truncated (length old.bytes)))
-      ⊎ ((filler : List ℕ) × (b : ℕ) × (behind : List ℕ) × (rest_of old ≡ filler ++ b ∷ behind) × IsFiller filler × (is_filler b ≡ false) × (b ≢ 10) × (f ≡ fault_at Keyword (old.place + length filler)));
+      ⊎ ((filler : List ℕ) × (b : ℕ) × (behind : List ℕ) × (rest_of old ≡ filler ++ b ∷ behind)
+      × IsFiller filler × (is_filler b ≡ false) × (b ≢ 10)
+      × (f ≡ fault_at Keyword (old.place + length filler)));
 }
 
 -- so many bytes
 abbrev pub block : ℕ → Rule (List ℕ)
 block n = record {
-  is = λ old new bytes. (behind : List ℕ) × (rest_of old ≡ bytes ++ behind) × (length bytes ≡ n) × (new ≡ advanced old n);
+  is = λ old new bytes. (behind : List ℕ) × (rest_of old ≡ bytes ++ behind) × (length bytes ≡ n)
+      × (new ≡ advanced old n);
   isnt = λ old f. (length (rest_of old) < n) × (f ≡ fault_at Truncated (length old.bytes));
 }
 
--- behind the word METADATA: the rest of its line, and lines up to and with the first empty one, or to the end
+-- behind the word METADATA: the rest of its line, and lines up to and with the first empty one, or
+-- to the end
 abbrev pub metadata_lines : Rule (Unit {0})
 metadata_lines = record {
   is = λ old new x.
-      ((rest : List ℕ) × (lines : List (List ℕ)) × (empty : List ℕ) × (behind : List ℕ) × EndsEmpty (rest_of old) rest lines empty behind × (new ≡ advanced old (length (lines_text (rest ∷ lines)) + (length empty + 1))))
+      ((rest : List ℕ) × (lines : List (List ℕ)) × (empty : List ℕ) × (behind : List ℕ)
+      × EndsEmpty (rest_of old) rest lines empty behind
+      × (new ≡ advanced old (length (lines_text (rest ∷ lines)) + (length empty + 1))))
       ⊎ (RunsOut (rest_of old) × (new ≡ advanced old (length (rest_of old))));
   isnt = λ old f. ⊥;
 }

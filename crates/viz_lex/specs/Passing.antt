@@ -1,5 +1,7 @@
--- What is passed over: words by their number, and the lines of METADATA (docs/FORMATS.md, "Reading").
-use Rattle.std.specs.Prelude.{◌≡◌, ◌≢◌, ℕ, zero, suc, Bool, false, ◌&&◌, ◌==◌, nat_lt, List, [], ◌∷◌, ◌++◌, length, All, ◌⊎◌, ok_or, Result, Ok, if◌then◌else◌}
+-- What is passed over: words by their number, and the lines of METADATA (docs/FORMATS.md,
+-- "Reading").
+use Rattle.std.specs.Prelude.{◌≡◌, ◌≢◌, ℕ, zero, suc, Bool, false, ◌&&◌, ◌==◌, nat_lt, List, []}
+use Rattle.std.specs.Prelude.{◌∷◌, ◌++◌, length, All, ◌⊎◌, ok_or, Result, Ok, if◌then◌else◌}
 use Rattle.viz_lex.specs.declared.fault.FileFault.{FileFault}
 use Rattle.viz_lex.specs.declared.fault.FileKind.TheVariants.{Truncated}
 use Rattle.viz_lex.specs.Reading.{Reading, rest_of, advanced, fault_at, ◌>>=◌}
@@ -25,7 +27,8 @@ empty_line (b ∷ bs) = if b == 10 then 1 else (if b == 13 && newline_first bs t
 -- how long the rest of a line and the lines behind it are, up to and with the first empty one
 abbrev pub metadata_len : List ℕ → ℕ
 metadata_len [] = 0
-metadata_len (b ∷ bs) = if b == 10 && nat_lt 0 (empty_line bs) then suc (empty_line bs) else suc (metadata_len bs)
+metadata_len (b ∷ bs) = if b == 10 && nat_lt 0 (empty_line bs) then suc (empty_line bs)
+    else suc (metadata_len bs)
 
 -- the place behind the lines of METADATA, whose word was read last
 unfoldable pub metadata_at : Reading → Result (Unit {0} × Reading) FileFault
@@ -35,7 +38,8 @@ metadata_at r = Ok (tt, advanced r (metadata_len (rest_of r)))
 abbrev pub IsNextWords : ℕ → List ℕ → List ℕ → Type 0
 IsNextWords zero text behind = text ≡ behind
 IsNextWords (suc n) text behind =
-    (gap : List ℕ) × (word : List ℕ) × (later : List ℕ) × IsNextWord text gap word later × IsNextWords n later behind
+    (gap : List ℕ) × (word : List ℕ) × (later : List ℕ) × IsNextWord text gap word later
+    × IsNextWords n later behind
 
 -- an empty line: no byte, or one carriage return alone
 abbrev pub IsEmptyLine : List ℕ → Type 0
@@ -53,7 +57,8 @@ lines_text [] = []
 lines_text (line ∷ lines) = line ++ 10 ∷ lines_text lines
 
 -- the rest of a line, lines none of which is empty, and then an empty one stand in front
-pub record EndsEmpty (text rest : List ℕ) (lines : List (List ℕ)) (empty behind : List ℕ) : Type 0 where
+pub record EndsEmpty (text rest : List ℕ) (lines : List (List ℕ))
+    (empty behind : List ℕ) : Type 0 where
   pub parts : text ≡ lines_text (rest ∷ lines) ++ (empty ++ 10 ∷ behind)
   pub one : HasNoNewline rest
   pub full : All IsFullLine lines
@@ -66,10 +71,12 @@ NoneEmpty (rest ∷ lines) last = HasNoNewline rest × All IsFullLine lines × H
 
 -- METADATA runs to the end of the text
 abbrev pub RunsOut : List ℕ → Type 0
-RunsOut text = (lines : List (List ℕ)) × (last : List ℕ) × (text ≡ lines_text lines ++ last) × NoneEmpty lines last
+RunsOut text = (lines : List (List ℕ)) × (last : List ℕ) × (text ≡ lines_text lines ++ last)
+    × NoneEmpty lines last
 
 -- behind METADATA: what follows the first empty line, or nothing where there is none
 abbrev pub IsBehindMetadata : List ℕ → List ℕ → Type 0
 IsBehindMetadata text behind =
-    ((rest : List ℕ) × (lines : List (List ℕ)) × (empty : List ℕ) × EndsEmpty text rest lines empty behind)
+    ((rest : List ℕ) × (lines : List (List ℕ)) × (empty : List ℕ)
+    × EndsEmpty text rest lines empty behind)
     ⊎ (RunsOut text × (behind ≡ []))

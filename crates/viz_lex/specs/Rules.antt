@@ -1,9 +1,11 @@
--- Rules of a format: what stands between two places, and which first fault is met where it doesn't (docs/FORMATS.md, "Reading").
+-- Rules of a format: what stands between two places, and which first fault is met where it doesn't
+-- (docs/FORMATS.md, "Reading").
 use Rattle.std.specs.Prelude.{◌≡◌, ◌⊎◌, ◌<◌, ◌≤◌, length, Bool, true, false, Result, Ok, Err}
 use Rattle.viz_lex.specs.declared.fault.FileFault.{FileFault}
 use Rattle.viz_lex.specs.Reading.{Reading}
 
--- what stands between two places, with its value; and the first fault that is met from a place where it doesn't
+-- what stands between two places, with its value; and the first fault that is met from a place
+-- where it doesn't
 pub record Rule (V : Type 0) : Type 1 where
   pub is : Reading → Reading → V → Type 0
   pub isnt : Reading → FileFault → Type 0
@@ -20,7 +22,8 @@ refuses fault = record { is = λ old new x. ⊥; isnt = λ old f. f ≡ fault }
 abbrev pub follow : {A B : Type 0} → Rule A → (A → Rule B) → Rule B
 follow {A = A} a f = record {
   is = λ old new y. (x : A) × (mid : Reading) × a.is old mid x × (f x).is mid new y;
-  isnt = λ old fault. a.isnt old fault ⊎ ((x : A) × (mid : Reading) × a.is old mid x × (f x).isnt mid fault);
+  isnt = λ old fault. a.isnt old fault ⊎ ((x : A) × (mid : Reading) × a.is old mid x
+      × (f x).isnt mid fault);
 }
 
 -- the same, as do-blocks write it
@@ -60,7 +63,8 @@ pub record IsOnward (old new : Reading) : Type 0 where
   pub within : new.place ≤ length old.bytes
 
 -- a reader decides a rule: it gives just what stands there, and else just the fault that is met
-pub record Decides {V : Type 0} (rule : Rule V) (read : Reading → Result (V × Reading) FileFault) : Type 0 where
+pub record Decides {V : Type 0} (rule : Rule V)
+    (read : Reading → Result (V × Reading) FileFault) : Type 0 where
   pub found : (r : Reading) (x : V × Reading) → read r ≡ Ok x → rule.is r x.1 x.0
   pub only : (r next : Reading) (x : V) → rule.is r next x → read r ≡ Ok (x, next)
   pub stops : (r : Reading) (f : FileFault) → read r ≡ Err f → rule.isnt r f
@@ -69,7 +73,9 @@ pub record Decides {V : Type 0} (rule : Rule V) (read : Reading → Result (V ×
 
 -- from each place exactly one value stands there, or exactly one fault is met
 pub record IsDefinite {V : Type 0} (rule : Rule V) : Type 0 where
-  pub some : (r : Reading) → ((x : V) × (next : Reading) × rule.is r next x) ⊎ ((f : FileFault) × rule.isnt r f)
-  pub one : (r next after : Reading) (x y : V) → rule.is r next x → rule.is r after y → (x ≡ y) × (next ≡ after)
+  pub some : (r : Reading) → ((x : V) × (next : Reading) × rule.is r next x)
+      ⊎ ((f : FileFault) × rule.isnt r f)
+  pub one : (r next after : Reading) (x y : V) → rule.is r next x → rule.is r after y → (x ≡ y)
+      × (next ≡ after)
   pub one_fault : (r : Reading) (f g : FileFault) → rule.isnt r f → rule.isnt r g → f ≡ g
   pub not_both : (r next : Reading) (x : V) (f : FileFault) → rule.is r next x → rule.isnt r f → ⊥

@@ -1,5 +1,6 @@
 -- Decimals as the code comes to them: words of private contracts alone.
-use Rattle.std.specs.Prelude.{ℕ, ℤ, pos, negsuc, suc, ◌+◌, ◌-◌, ◌*◌, ◌/◌, ◌^◌, nat_le, min, List, fold, Option, Some, None, if◌then◌else◌}
+use Rattle.std.specs.Prelude.{ℕ, ℤ, pos, negsuc, suc, ◌+◌, ◌-◌, ◌*◌, ◌/◌, ◌^◌, nat_le, min, List}
+use Rattle.std.specs.Prelude.{fold, Option, Some, None, if◌then◌else◌}
 
 -- a magnitude within the limit, if it is one
 abbrev pub small : Option ℕ → Option ℕ

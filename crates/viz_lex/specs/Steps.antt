@@ -1,8 +1,12 @@
--- The steps of reading a file: a word, a number or a keyword that is due, a test (VTK User's Guide, "Simple legacy formats"; docs/FORMATS.md, "Reading").
-use Rattle.std.specs.Prelude.{ℕ, ℤ, Bool, true, false, ◌||◌, List, [], ◌∷◌, ◌==◌, length, codes, Option, Some, None, option_map, unwrap_or, ok_or, Result, Ok, Err, if◌then◌else◌}
+-- The steps of reading a file: a word, a number or a keyword that is due, a test (VTK User's
+-- Guide, "Simple legacy formats"; docs/FORMATS.md, "Reading").
+use Rattle.std.specs.Prelude.{ℕ, ℤ, Bool, true, false, ◌||◌, List, [], ◌∷◌, ◌==◌, length, codes}
+use Rattle.std.specs.Prelude.{Option, Some, None, option_map, unwrap_or, ok_or, Result, Ok, Err}
+use Rattle.std.specs.Prelude.{if◌then◌else◌}
 use Rattle.std.specs.Str.{str_eq_ignore_ascii_case}
 use Rattle.viz_lex.specs.declared.fault.FileKind.{FileKind}
-use Rattle.viz_lex.specs.declared.fault.FileKind.TheVariants.{Keyword, HeaderNumber, Truncated, Unsupported}
+use Rattle.viz_lex.specs.declared.fault.FileKind.TheVariants.{Keyword, HeaderNumber, Truncated}
+use Rattle.viz_lex.specs.declared.fault.FileKind.TheVariants.{Unsupported}
 use Rattle.viz_lex.specs.declared.fault.FileFault.{FileFault}
 use Rattle.viz_lex.specs.declared.span.Span.{Span}
 use Rattle.viz_lex.specs.Reading.{Reading, rest_of, fault_at, ◌>>=◌}
@@ -16,7 +20,8 @@ guard test kind place = if test then Ok tt else Err (fault_at kind place)
 
 -- where the next word starts, or the end where there is none
 abbrev pub start_at : Reading → ℕ
-start_at r = unwrap_or (option_map (λ (found : Span × Reading). found.0.start) (word_at r)) (length r.bytes)
+start_at r = unwrap_or (option_map (λ (found : Span × Reading). found.0.start) (word_at r))
+    (length r.bytes)
 
 -- two words are the same but for the case of letters
 abbrev pub same_word : List ℕ → List ℕ → Bool
@@ -50,7 +55,8 @@ due_decimal r = do
 -- the keywords of the format that aren't read here
 abbrev pub is_left_out : List ℕ → Bool
 is_left_out word =
-    same_word word (codes "GLOBAL_IDS") || same_word word (codes "PEDIGREE_IDS") || same_word word (codes "TENSORS6") || same_word word (codes "EDGE_FLAGS")
+    same_word word (codes "GLOBAL_IDS") || same_word word (codes "PEDIGREE_IDS")
+    || same_word word (codes "TENSORS6") || same_word word (codes "EDGE_FLAGS")
 
 -- what is wrong with a word that stands in the place of a keyword and is none that may stand there
 abbrev pub keyword_kind : List ℕ → FileKind
@@ -65,7 +71,9 @@ keyword_at keyword r = do
 
 -- the next word is this one, in any case of letters
 abbrev pub is_next : List ℕ → Reading → Bool
-is_next keyword r = unwrap_or (option_map (λ (found : Span × Reading). same_word (text_of r found.0) keyword) (word_at r)) false
+is_next keyword r = unwrap_or
+    (option_map (λ (found : Span × Reading). same_word (text_of r found.0) keyword)
+    (word_at r)) false
 
 -- a byte that is no blank stands before the next newline
 abbrev pub continues : List ℕ → Bool

@@ -1,9 +1,11 @@
 //! The decimal of a word, in billionths.
 
-ghost use Rattle.std.specs.Prelude.{◌≡◌, ◌+◌, ◌-◌, ◌^◌, ◌≤◌, ◌++◌, pos, neg_ℤ, true, min, length, take, drop, option_map, Some, IfSome};
+ghost use Rattle.std.specs.Prelude.{◌≡◌, ◌+◌, ◌-◌, ◌^◌, ◌≤◌, ◌++◌, pos, neg_ℤ, true, min, length};
+ghost use Rattle.std.specs.Prelude.{take, drop, option_map, Some, IfSome};
 ghost use Rattle.std.specs.List.{list_all};
 ghost use Rattle.viz_lex.specs.Numbers.{is_digit, digits_value, natural_of};
-ghost use Rattle.viz_lex.specs.Decimals.{is_point, is_letter, first_at, in_front, behind_point, exponent_of, magnitude_of, decimal_of, limited};
+ghost use Rattle.viz_lex.specs.Decimals.{is_point, is_letter, first_at, in_front, behind_point};
+ghost use Rattle.viz_lex.specs.Decimals.{exponent_of, magnitude_of, decimal_of, limited};
 ghost use Rattle.viz_lex.specs.Scaled.{small, scaled, clipped, more_digits};
 
 use crate::number::{is_digit, natural, negated};

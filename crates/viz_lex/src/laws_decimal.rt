@@ -1,6 +1,7 @@
 //! What the definition of a decimal means, in the words of the format.
 
-ghost use Rattle.std.specs.Prelude.{◌≡◌, ◌≢◌, ◌↔◌, ◌+◌, ◌-◌, ◌*◌, ◌^◌, ◌<◌, ◌≤◌, ℕ, ℤ, List, [], ◌∷◌, ◌++◌, length, Some, None, Ok, Err, true, false};
+ghost use Rattle.std.specs.Prelude.{◌≡◌, ◌≢◌, ◌↔◌, ◌+◌, ◌-◌, ◌*◌, ◌^◌, ◌<◌, ◌≤◌, ℕ, ℤ, List, []};
+ghost use Rattle.std.specs.Prelude.{◌∷◌, ◌++◌, length, Some, None, Ok, Err, true, false};
 ghost use Rattle.viz_lex.specs.declared.fault.FileKind.TheVariants.{HeaderNumber, Truncated};
 ghost use Rattle.viz_lex.specs.Reading.{Reading, rest_of, advanced, fault_at};
 ghost use Rattle.viz_lex.specs.Words.{EndsWord, IsBlank, IsNextWord};

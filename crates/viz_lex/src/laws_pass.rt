@@ -6,7 +6,8 @@ ghost use Rattle.viz_lex.specs.declared.fault.FileKind.TheVariants.{Truncated};
 ghost use Rattle.viz_lex.specs.Reading.{Reading, rest_of, advanced, fault_at};
 ghost use Rattle.viz_lex.specs.Words.{span_from, text_of};
 ghost use Rattle.viz_lex.specs.Blocks.{block_at, IsBlockAt};
-ghost use Rattle.viz_lex.specs.Passing.{words_at, metadata_at, lines_text, IsNextWords, EndsEmpty, RunsOut, IsBehindMetadata};
+ghost use Rattle.viz_lex.specs.Passing.{words_at, metadata_at, lines_text, IsNextWords, EndsEmpty};
+ghost use Rattle.viz_lex.specs.Passing.{RunsOut, IsBehindMetadata};
 
 /// The next bytes are found by their number, and nothing is found exactly where fewer are left.
 pub fn finds_each_block()

@@ -1,11 +1,13 @@
 //! The reader of a text.
 
-ghost use Rattle.std.specs.Prelude.{◌≡◌, ◌↔◌, ◌<◌, ◌≤◌, ℕ, List, length, option_map, IsNone, IfSome, IfOk, OnOk};
+ghost use Rattle.std.specs.Prelude.{◌≡◌, ◌↔◌, ◌<◌, ◌≤◌, ℕ, List, length, option_map, IsNone};
+ghost use Rattle.std.specs.Prelude.{IfSome, IfOk, OnOk};
 ghost use Rattle.viz_lex.specs.Decimals.{decimal_at, IsDecimalAt};
 ghost use Rattle.viz_lex.specs.Blocks.{block_at, IsBlockAt};
 ghost use Rattle.viz_lex.specs.Passing.{words_at, metadata_at, IsNextWords, IsBehindMetadata};
 ghost use Rattle.viz_lex.specs.Reading.{rest_of, fault_at, Gives, Finds};
-ghost use Rattle.viz_lex.specs.Words.{text_of, word_at, line_at, line_end_at, IsBlank, HasNoNewline, IsFiller, IsWordAt, IsLineAt, IsLineEndAt};
+ghost use Rattle.viz_lex.specs.Words.{text_of, word_at, line_at, line_end_at, IsBlank};
+ghost use Rattle.viz_lex.specs.Words.{HasNoNewline, IsFiller, IsWordAt, IsLineAt, IsLineEndAt};
 ghost use Rattle.viz_lex.specs.Numbers.{whole_at, IsNumberAt};
 ghost use Rattle.viz_lex.specs.declared.fault.FileKind.TheVariants.{Truncated};
 

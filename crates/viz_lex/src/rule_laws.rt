@@ -2,15 +2,19 @@
 //! holds of the definitions alone. Laws range over every rule by a type parameter, whose ghost
 //! members are the rule and a reader; no code has such a type.
 
-ghost use Rattle.std.specs.Prelude.{◌≡◌, ℕ, Bool, List, [], suc, length, Result, Ok, Err, if◌then◌else◌};
+ghost use Rattle.std.specs.Prelude.{◌≡◌, ℕ, Bool, List, [], suc, length, Result, Ok, Err};
+ghost use Rattle.std.specs.Prelude.{if◌then◌else◌};
 ghost use Rattle.viz_lex.specs.declared.fault.FileFault.{FileFault as Fault};
 ghost use Rattle.viz_lex.specs.declared.fault.FileKind.{FileKind};
 ghost use Rattle.viz_lex.specs.Reading.{Reading, fault_at, ◌>>=◌ as after};
 ghost use Rattle.viz_lex.specs.Steps.{guard, due_word, due_number, due_decimal, keyword_at};
-ghost use Rattle.viz_lex.specs.Rules.{Rule, Decides, IsDefinite, gives, refuses, demand, choose, beside, follow};
+ghost use Rattle.viz_lex.specs.Rules.{Rule, Decides, IsDefinite, gives, refuses, demand, choose};
+ghost use Rattle.viz_lex.specs.Rules.{beside, follow};
 ghost use Rattle.viz_lex.specs.Repeats.{times, times_knowing, skip, Skips, to_the_end, Moves};
-ghost use Rattle.viz_lex.specs.Readers.{times_at, known_at, skip_at, all_at, bytes_at, any_metadata_at};
-ghost use Rattle.viz_lex.specs.Items.{word, number, decimal, keyword, line_end, block, words, metadata};
+ghost use Rattle.viz_lex.specs.Readers.{times_at, known_at, skip_at, all_at, bytes_at};
+ghost use Rattle.viz_lex.specs.Readers.{any_metadata_at};
+ghost use Rattle.viz_lex.specs.Items.{word, number, decimal, keyword, line_end, block, words};
+ghost use Rattle.viz_lex.specs.Items.{metadata};
 ghost use Rattle.viz_lex.specs.Words.{line_end_at};
 ghost use Rattle.viz_lex.specs.Passing.{words_at};
 

@@ -4,7 +4,9 @@ ghost use Rattle.std.specs.Prelude.{◌≡◌, ◌≤◌, not, length, OnErr, If
 ghost use Rattle.viz_lex.specs.Reading.{fault_at, rest_of, Reads};
 ghost use Rattle.viz_lex.specs.Words.{word_at};
 ghost use Rattle.viz_lex.specs.Readers.{any_metadata_at};
-ghost use Rattle.viz_lex.specs.Steps.{has, same_word, due_word, due_number, due_decimal, is_left_out, keyword_kind, keyword_at, is_next, continues, is_beside};
+ghost use Rattle.viz_lex.specs.Steps.{has, same_word, due_word, due_number, due_decimal};
+ghost use Rattle.viz_lex.specs.Steps.{is_left_out, keyword_kind, keyword_at, is_next, continues};
+ghost use Rattle.viz_lex.specs.Steps.{is_beside};
 
 use crate::decimal::decimal;
 use crate::fault::{FileFault, FileKind};

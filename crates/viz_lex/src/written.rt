@@ -1,7 +1,8 @@
 //! Decimals as text.
 
 ghost use Rattle.std.specs.Prelude.{◌≡◌, ◌++◌, ◌<◌, ◌^◌, ◌∷◌, OnOk, OnErr, pos};
-ghost use Rattle.viz_lex.specs.Written.{places, fraction_text, magnitude_text, decimal_text, IsBegun};
+ghost use Rattle.viz_lex.specs.Written.{places, fraction_text, magnitude_text, decimal_text};
+ghost use Rattle.viz_lex.specs.Written.{IsBegun};
 
 use crate::put::put_whole;
 use std::alloc::AllocError;

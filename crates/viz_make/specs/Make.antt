@@ -70,5 +70,6 @@ abbrev pub IsMakeRun : {P : Type 0} → port.Ghosts P → Make → Came → List
 IsMakeRun m c ended [] new = (ended ≡ came.NoPort) × (new ≡ [])
 IsMakeRun m c ended (p ∷ ps) [] = ⊥
 IsMakeRun m c ended (p ∷ ps) (q ∷ qs) =
-    ((answer : Option WriteAnswer) × IsEndOfMaking c answer ended × IsCalled m (written c answer) p q)
+    ((answer : Option WriteAnswer) × IsEndOfMaking c answer ended
+    × IsCalled m (written c answer) p q)
     × (qs ≡ ps)

@@ -13,4 +13,5 @@ middle = pos 128
 -- the contour of a made volume at the middle is narrow, on every extent
 abbrev pub VolumesAreNarrow : Type 0
 VolumesAreNarrow =
-    (number : ℕ) (b : Bounds) → IsExtent b → AreNarrowSections (contour_form middle ∷ []) (tetrahedra_sheet (volume number b) ∷ [])
+    (number : ℕ) (b : Bounds) → IsExtent b → AreNarrowSections (contour_form middle ∷ [])
+    (tetrahedra_sheet (volume number b) ∷ [])

@@ -13,4 +13,5 @@ is_size x y z = nat_le 1 x && nat_le 1 y && nat_le 1 z && nat_le (x * y * z) mos
 -- the extent of so many points along x, y and z, from index 0 on
 abbrev pub volume_extent : ℕ → ℕ → ℕ → Option Bounds
 volume_extent x y z =
-    if is_size x y z then Some (record { x0 = 0; x1 = x - 1; y0 = 0; y1 = y - 1; z0 = 0; z1 = z - 1 }) else None
+    if is_size x y z
+    then Some (record { x0 = 0; x1 = x - 1; y0 = 0; y1 = y - 1; z0 = 0; z1 = z - 1 }) else None

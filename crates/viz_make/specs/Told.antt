@@ -11,11 +11,14 @@ use Rattle.viz_make.specs.declared.made.Made.{Made}
 
 -- what was made
 abbrev pub made_text : Made → List ℕ
-made_text made = and_number (codes "made points ") made.points ++ and_number (codes " sum ") made.sum
+made_text made = and_number (codes "made points ") made.points
+    ++ and_number (codes " sum ") made.sum
 
--- the audit of its contour: its triangles, all their sides, those in two triangles, those in one, and those of them on the boundary
+-- the audit of its contour: its triangles, all their sides, those in two triangles, those in one,
+-- and those of them on the boundary
 abbrev pub audit_text : Made → List ℕ
-audit_text made = and_number (codes "audit cells ") made.cells ++ counts_text made.sides made.two made.lone made.border
+audit_text made = and_number (codes "audit cells ") made.cells
+    ++ counts_text made.sides made.two made.lone made.border
 
 -- both, each on a line
 abbrev pub made_lines : Made → List ℕ

@@ -1,4 +1,5 @@
--- A volume that a number makes (ISO C, the example of rand, in 31 bits; docs/FORMATS.md, "Made volumes").
+-- A volume that a number makes (ISO C, the example of rand, in 31 bits; docs/FORMATS.md, "Made
+-- volumes").
 use Rattle.std.specs.Prelude.{ℕ, zero, suc, ◌+◌, ◌*◌, ◌/◌, ◌%◌, ◌^◌, pos, List, [], ◌∷◌, map, sum}
 use Rattle.viz_extent.specs.Extent.{Bounds, count_of}
 use Rattle.viz_column.specs.declared.kind.Kind8.TheVariants.{U8}

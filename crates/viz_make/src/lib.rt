@@ -1,7 +1,7 @@
 //! The command that makes a volume: from its words to the status.
 //!
-//! Contract: a run writes the volume of a number and tells its numbers and the audit of its contour,
-//! by which the contour is closed up to the boundary; or it says why not.
+//! Contract: a run writes the volume of a number and tells its numbers and the audit of its
+//! contour, by which the contour is closed up to the boundary; or it says why not.
 //! Definitions: `specs/Make.antt`, `specs/Volume.antt` and the files that they name; the rules are
 //! those of docs/FORMATS.md, "Made volumes" and "Report".
 #![tactic(auto)]

@@ -1,4 +1,5 @@
--- Filters of whole images: crop, sample, threshold, box mean and arithmetic (VTK User's Guide: vtkExtractVOI, vtkImageThreshold, vtkImageMathematics).
+-- Filters of whole images: crop, sample, threshold, box mean and arithmetic (VTK User's Guide:
+-- vtkExtractVOI, vtkImageThreshold, vtkImageMathematics).
 use Rattle.std.specs.Prelude.{ℕ, zero, suc, ◌+◌, ◌*◌, ◌/◌, ℤ, pos, negsuc, ◌+ℤ◌, ◌-ℤ◌, ◌*ℤ◌}
 use Rattle.std.specs.Int.{w64, int_min, int_max, saturate_signed}
 use Rattle.viz_column.specs.declared.kind.Kind8.TheVariants.{I64}
@@ -39,7 +40,8 @@ sum_of f first (suc n) = sum_of f first n +ℤ f (first + n)
 -- the sum of the numbers at all points of an extent
 abbrev pub box_sum : (ℕ → ℕ → ℕ → ℤ) → Bounds → ℤ
 box_sum number b =
-    sum_of (λ k. sum_of (λ j. sum_of (λ i. number i j k) b.x0 (size_x b)) b.y0 (size_y b)) b.z0 (size_z b)
+    sum_of (λ k. sum_of (λ j. sum_of (λ i. number i j k) b.x0 (size_x b)) b.y0 (size_y b)) b.z0
+    (size_z b)
 
 -- a quotient rounded down, also below 0
 abbrev pub floor_of : ℤ → ℕ → ℤ

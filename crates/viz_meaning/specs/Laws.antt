@@ -1,4 +1,5 @@
--- What the names of a section are: the set of the names of its cells, in ascending order (docs/FORMATS.md, "Names of a section").
+-- What the names of a section are: the set of the names of its cells, in ascending order
+-- (docs/FORMATS.md, "Names of a section").
 use Rattle.std.specs.Prelude.{◌≡◌, ◌↔◌, ℕ, List, ◌++◌, length, Contains}
 use Rattle.std.specs.List.{flat_map}
 use Rattle.viz_fraction.specs.declared.forms.Form.{Form}
@@ -13,17 +14,20 @@ SectionNamesAscend = (f : Form) (s : SheetData) → AreAscending (section_of f s
 -- a name is among them just where a cell of the section has it
 abbrev pub SectionNamesAreUsed : Type 0
 SectionNamesAreUsed =
-    (f : Form) (s : SheetData) (n : List ℕ) → Contains (section_of f s).names n ↔ Contains (flat_map (λ cell. cell) (section_of f s).cells) n
+    (f : Form) (s : SheetData) (n : List ℕ) → Contains (section_of f s).names n
+    ↔ Contains (flat_map (λ cell. cell) (section_of f s).cells) n
 
 -- each name has a point
 abbrev pub SectionNamesHavePoints : Type 0
-SectionNamesHavePoints = (f : Form) (s : SheetData) → length (section_of f s).points ≡ length (section_of f s).names
+SectionNamesHavePoints = (f : Form) (s : SheetData)
+    → length (section_of f s).points ≡ length (section_of f s).names
 
 -- names that ascend and are just those of cells are the names of these cells
 abbrev pub NamesAreDetermined : Type 0
 NamesAreDetermined =
     (names : List (List ℕ)) (cells : List (List (List ℕ))) → AreAscending names
-    → ((n : List ℕ) → Contains names n ↔ Contains (flat_map (λ cell. cell) cells) n) → names ≡ names_of cells
+    → ((n : List ℕ) → Contains names n ↔ Contains (flat_map (λ cell. cell) cells) n)
+    → names ≡ names_of cells
 
 -- an edge has one name, in whichever order its ends are named
 abbrev pub EdgeHasOneName : Type 0

@@ -1,4 +1,5 @@
--- Names of the points of a section: pairs of names, the lesser one first, each once and ascending (docs/FORMATS.md, "Names of a section").
+-- Names of the points of a section: pairs of names, the lesser one first, each once and ascending
+-- (docs/FORMATS.md, "Names of a section").
 use Rattle.std.specs.Prelude.{ℕ, ◌/◌, Bool, List, [], ◌∷◌, ◌++◌, length, take, drop, if◌then◌else◌}
 use Rattle.std.specs.List.{flat_map}
 use Rattle.std.specs.Cmp.Lexicographic.{slice_cmp}
@@ -23,7 +24,8 @@ greater_end n = drop (length n / 2) n
 -- a name among others that ascend, once
 abbrev pub with_name : List ℕ → List (List ℕ) → List (List ℕ)
 with_name n [] = n ∷ []
-with_name n (m ∷ ms) = if is_before n m then n ∷ m ∷ ms else if is_before m n then m ∷ with_name n ms else m ∷ ms
+with_name n (m ∷ ms) = if is_before n m then n ∷ m ∷ ms else if is_before m n
+    then m ∷ with_name n ms else m ∷ ms
 
 -- the names, each once, ascending
 abbrev pub each_once : List (List ℕ) → List (List ℕ)

@@ -10,8 +10,10 @@ use Rattle.viz_meaning.specs.Section.{point_of, section_cells}
 
 -- the crossing between two points isn't wide, whichever of them is inside
 pub record IsNarrowEdge (f : Form) (p q : Point) : Type 0 where
-  pub up : pos 0 ≤ℤ value_of f p → value_of f q <ℤ pos 0 → IsNarrowCrossing (value_of f p) p (value_of f q) q
-  pub down : pos 0 ≤ℤ value_of f q → value_of f p <ℤ pos 0 → IsNarrowCrossing (value_of f q) q (value_of f p) p
+  pub up : pos 0 ≤ℤ value_of f p → value_of f q <ℤ pos 0
+      → IsNarrowCrossing (value_of f p) p (value_of f q) q
+  pub down : pos 0 ≤ℤ value_of f q → value_of f p <ℤ pos 0
+      → IsNarrowCrossing (value_of f q) q (value_of f p) p
 
 -- the crossing of an edge isn't wide
 abbrev pub IsNarrowName : Form → SheetData → List ℕ → Type 0
@@ -22,7 +24,8 @@ pub record IsNarrowSection (f : Form) (s : SheetData) : Type 0 where
   pub values : All (IsNarrowValue f) s.points
   pub crossings : All (IsNarrowName f s) (names_of (section_cells f s))
 
--- no number of the section in one cell is wide: no term and no value at a corner, and no number of the crossing between two corners of which one is inside
+-- no number of the section in one cell is wide: no term and no value at a corner, and no number of
+-- the crossing between two corners of which one is inside
 pub record IsNarrowCell (f : Form) (s : SheetData) (cell : List (List ℕ)) : Type 0 where
   pub values : All (λ n. IsNarrowValue f (point_of s n)) cell
   pub crossings : All (λ m. All (λ n. IsNarrowEdge f (point_of s m) (point_of s n)) cell) cell

@@ -1,5 +1,7 @@
--- The section of a sheet by a linear form: cells between the crossings on cut edges (Doi and Koide 1991).
-use Rattle.std.specs.Prelude.{ℕ, ◌+◌, ◌*◌, Bool, pos, int_le, List, [], ◌∷◌, length, map, slice_index_or, if◌then◌else◌}
+-- The section of a sheet by a linear form: cells between the crossings on cut edges (Doi and Koide
+-- 1991).
+use Rattle.std.specs.Prelude.{ℕ, ◌+◌, ◌*◌, Bool, pos, int_le, List, [], ◌∷◌, length, map}
+use Rattle.std.specs.Prelude.{slice_index_or, if◌then◌else◌}
 use Rattle.std.specs.List.{flat_map}
 use Rattle.viz_fraction.specs.declared.forms.Form.{Form}
 use Rattle.viz_fraction.specs.Points.{Point, numbers}
@@ -38,7 +40,8 @@ end_name corners e = edge_name (slice_index_or corners e.low []) (slice_index_or
 
 -- the cells in one cell, by the names of their ends: those of its row in the table
 abbrev pub cells_in : (List ℕ → Bool) → List (List ℕ) → List (List (List ℕ))
-cells_in inside corners = map (map (end_name corners)) (cells_at (length corners) (mask_of inside corners))
+cells_in inside corners = map (map (end_name corners))
+    (cells_at (length corners) (mask_of inside corners))
 
 -- the cells in all cells, in their order
 abbrev pub section_cells : Form → SheetData → List (List (List ℕ))

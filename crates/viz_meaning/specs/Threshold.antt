@@ -1,4 +1,5 @@
--- The threshold of an image: a number between two bounds stays, and every other becomes 0 (docs/FORMATS.md, "Filters").
+-- The threshold of an image: a number between two bounds stays, and every other becomes 0
+-- (docs/FORMATS.md, "Filters").
 use Rattle.std.specs.Prelude.{ℤ, pos, Bool, ◌&&◌, int_le, map, if◌then◌else◌}
 use Rattle.viz_column.specs.Numbers.{Numbers}
 use Rattle.viz_dataset.specs.Images.{ImageData}
@@ -13,7 +14,11 @@ kept_value lo hi n = if is_within lo hi n then n else pos 0
 
 -- numbers of the same type, each kept or 0
 abbrev pub kept_numbers : ℤ → ℤ → Numbers → Numbers
-kept_numbers lo hi numbers = record { kind = numbers.kind; items = map (kept_value lo hi) numbers.items }
+kept_numbers lo hi numbers = record {
+  kind = numbers.kind;
+  items = map
+      (kept_value lo hi) numbers.items;
+}
 
 -- the same image with each number kept or 0
 abbrev pub thresholded : ℤ → ℤ → ImageData → ImageData

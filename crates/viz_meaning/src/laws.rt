@@ -1,8 +1,12 @@
 //! Laws of sections. A function that calls one may rest on it.
 
-ghost use Rattle.viz_meaning.specs.Laws.{EdgeHasOneName, NamesAreDetermined, PairsHaveEnds, SectionNamesAreUsed, SectionNamesAscend, SectionNamesHavePoints};
-ghost use Rattle.viz_meaning.specs.SectionLaws.{NarrowCellByCell, SectionFits, SectionHasNextNames, SectionIsSheet};
-ghost use Rattle.viz_meaning.specs.TetrahedraLaws.{TetrahedraAreSheet, TetrahedraFit, TetrahedraHaveLeaves};
+ghost use Rattle.viz_meaning.specs.Laws.{EdgeHasOneName, NamesAreDetermined, PairsHaveEnds};
+ghost use Rattle.viz_meaning.specs.Laws.{SectionNamesAreUsed, SectionNamesAscend};
+ghost use Rattle.viz_meaning.specs.Laws.{SectionNamesHavePoints};
+ghost use Rattle.viz_meaning.specs.SectionLaws.{NarrowCellByCell, SectionFits};
+ghost use Rattle.viz_meaning.specs.SectionLaws.{SectionHasNextNames, SectionIsSheet};
+ghost use Rattle.viz_meaning.specs.TetrahedraLaws.{TetrahedraAreSheet, TetrahedraFit};
+ghost use Rattle.viz_meaning.specs.TetrahedraLaws.{TetrahedraHaveLeaves};
 
 use viz_kuhn::{corners_are_the_cubes, edges_are_steps};
 

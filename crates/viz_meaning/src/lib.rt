@@ -3,8 +3,8 @@
 //!
 //! Contract: the laws of the definitions. The names of a section ascend and are just those of its
 //! cells, and each has a point; a section of a sheet is a sheet, fits if the sheet does, and has a
-//! wide number just where some cell has one. `WorkStop` is the answer of a section, or of a contour,
-//! that has no result. Definitions: `specs/Section.antt`, `specs/Narrow.antt`
+//! wide number just where some cell has one. `WorkStop` is the answer of a section, or of a
+//! contour, that has no result. Definitions: `specs/Section.antt`, `specs/Narrow.antt`
 //! and `specs/ImageFilters.antt`; the table of cells is that of docs/FORMATS.md, "Cases of a
 //! section".
 #![tactic(auto)]

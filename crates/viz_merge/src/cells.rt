@@ -1,6 +1,7 @@
 //! The cells of all sheets by leaves, without those that repeat one.
 
-ghost use Rattle.std.specs.Prelude.{◌≡◌, ◌≤◌, ◌<◌, ◌++◌, ◌∷◌, ◌&&◌, [], All, OnOk, length, slice_index_or, if◌then◌else◌};
+ghost use Rattle.std.specs.Prelude.{◌≡◌, ◌≤◌, ◌<◌, ◌++◌, ◌∷◌, ◌&&◌, [], All, OnOk, length};
+ghost use Rattle.std.specs.Prelude.{slice_index_or, if◌then◌else◌};
 ghost use Rattle.viz_sheet.specs.Arrays.{ranks_in};
 ghost use Rattle.viz_sheet.specs.Ranked.{IsCell};
 ghost use Rattle.viz_sheet.specs.Steps.Lookup.{looked_up};

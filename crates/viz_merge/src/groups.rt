@@ -1,6 +1,7 @@
 //! The first point of each group.
 
-ghost use Rattle.std.specs.Prelude.{◌≡◌, ◌+◌, ◌≤◌, ◌++◌, ◌∷◌, [], IfOk, IfSome, OnOk, drop, length, take, true, if◌then◌else◌};
+ghost use Rattle.std.specs.Prelude.{◌≡◌, ◌+◌, ◌≤◌, ◌++◌, ◌∷◌, [], IfOk, IfSome, OnOk, drop};
+ghost use Rattle.std.specs.Prelude.{length, take, true, if◌then◌else◌};
 ghost use Rattle.viz_sheet.specs.Arrays.{points_in};
 ghost use Rattle.viz_sheet.specs.Kept.{kept};
 ghost use Rattle.viz_mesh_meaning.specs.Merge.{all_points};

@@ -1,10 +1,12 @@
 //! For each point the first one at its place, by a sort of places.
 
-ghost use Rattle.std.specs.Prelude.{◌≡◌, ◌-◌, ◌<◌, ◌^◌, [], IfOk, length, pos, slice_index_or, slice_set};
+ghost use Rattle.std.specs.Prelude.{◌≡◌, ◌-◌, ◌<◌, ◌^◌, [], IfOk, length, pos, slice_index_or};
+ghost use Rattle.std.specs.Prelude.{slice_set};
 ghost use Rattle.std.specs.List.Sorted.{IsSorted};
 ghost use Rattle.std.specs.Cmp.Lexicographic.{slice_cmp};
 ghost use Rattle.std.specs.Ordering.{int_cmp};
-ghost use Rattle.viz_merge.specs.Steps.Leads.{AreWritten, HaveIndices, has_same_place, index_in, key_at, lead_in};
+ghost use Rattle.viz_merge.specs.Steps.Leads.{AreWritten, HaveIndices, has_same_place, index_in};
+ghost use Rattle.viz_merge.specs.Steps.Leads.{key_at, lead_in};
 
 use std::alloc::{AllocError, Global};
 

@@ -1,9 +1,11 @@
 //! The merge of sheets.
 
-ghost use Rattle.std.specs.Prelude.{◌≡◌, ◌+◌, ◌<◌, ◌≤◌, ◌^◌, ◌++◌, ◌∷◌, [], All, IfOk, OnOk, drop, length};
+ghost use Rattle.std.specs.Prelude.{◌≡◌, ◌+◌, ◌<◌, ◌≤◌, ◌^◌, ◌++◌, ◌∷◌, [], All, IfOk, OnOk, drop};
+ghost use Rattle.std.specs.Prelude.{length};
 ghost use Rattle.std.specs.List.{filter, flat_map};
 ghost use Rattle.viz_sheet.specs.Sheet.{IsSheet};
-ghost use Rattle.viz_mesh_meaning.specs.Merge.{all_points, cells_by_leaves, firsts, has_no_repeat, merged};
+ghost use Rattle.viz_mesh_meaning.specs.Merge.{all_points, cells_by_leaves, firsts, has_no_repeat};
+ghost use Rattle.viz_mesh_meaning.specs.Merge.{merged};
 ghost use Rattle.viz_merge.specs.Steps.Cells.{AreNumbers, left_by_names};
 ghost use Rattle.viz_merge.specs.Steps.Leads.{AreLeads};
 

@@ -1,5 +1,7 @@
--- Facets of a simplex: a facet leaves one corner out, turned so that it faces outward (VTK User's Guide: vtkGeometryFilter).
-use Rattle.std.specs.Prelude.{ℕ, ◌%◌, ◌==◌, ◌&&◌, nat_le, Bool, List, [], ◌∷◌, length, map, if◌then◌else◌, count_by}
+-- Facets of a simplex: a facet leaves one corner out, turned so that it faces outward (VTK User's
+-- Guide: vtkGeometryFilter).
+use Rattle.std.specs.Prelude.{ℕ, ◌%◌, ◌==◌, ◌&&◌, nat_le, Bool, List, [], ◌∷◌, length, map}
+use Rattle.std.specs.Prelude.{if◌then◌else◌, count_by}
 use Rattle.std.specs.List.{flat_map, filter, list_all, list_any, range_with_len, remove}
 use Rattle.std.specs.Cmp.Lexicographic.{slice_cmp}
 use Rattle.std.specs.Ordering.{nat_cmp, is_eq}
@@ -18,7 +20,8 @@ facet cell i = if i % 2 == 1 then exchanged (remove cell i) else remove cell i
 
 -- the facets of a cell, by the name that each leaves out; a vertex has none
 abbrev pub facets_of : {X : Type 0} → List X → List (List X)
-facets_of cell = if nat_le (length cell) 1 then [] else map (facet cell) (range_with_len 0 (length cell))
+facets_of cell = if nat_le (length cell) 1 then []
+    else map (facet cell) (range_with_len 0 (length cell))
 
 -- two names are the same
 abbrev pub is_same_name : List ℕ → List ℕ → Bool
@@ -30,11 +33,13 @@ has_each same xs items = list_all (λ n. list_any (same n) xs) items
 
 -- in how many cells of a size all names of a facet occur
 abbrev pub occurrences : {X : Type 0} → (X → X → Bool) → List (List X) → ℕ → List X → ℕ
-occurrences same cells size names = count_by (λ d. (length d == size) && has_each same d names) cells
+occurrences same cells size names = count_by (λ d. (length d == size)
+    && has_each same d names) cells
 
 -- the facets of a cell whose set of names occurs in exactly one cell of the cell's size
 abbrev pub lone_facets : {X : Type 0} → (X → X → Bool) → List (List X) → List X → List (List X)
-lone_facets same cells cell = filter (λ names. occurrences same cells (length cell) names == 1) (facets_of cell)
+lone_facets same cells cell = filter (λ names. occurrences same cells (length cell) names == 1)
+    (facets_of cell)
 
 -- the boundary of a sheet: the lone facets of all cells, cell after cell
 abbrev pub boundary_of : SheetData → SheetData

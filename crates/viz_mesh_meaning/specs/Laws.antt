@@ -1,4 +1,5 @@
--- Laws of filters of meshes: what they give is a sheet, each of its cells comes from one cell, and its points stay.
+-- Laws of filters of meshes: what they give is a sheet, each of its cells comes from one cell, and
+-- its points stay.
 use Rattle.std.specs.Prelude.{◌≡◌, ◌↔◌, ◌+◌, ℤ, Bool, true, List, length, All, Contains}
 use Rattle.std.specs.List.{flat_map}
 use Rattle.viz_fraction.specs.Points.{Point}
@@ -12,7 +13,8 @@ use Rattle.viz_mesh_meaning.specs.Select.{has_scalar_within, if_selected, select
 -- a sheet whose points are those of another is made of its own cells at the points of the other
 abbrev pub KeptPointsMakeCells : Type 0
 KeptPointsMakeCells =
-    (s t : SheetData) → IsSheet s → IsSheet t → KeepPoints t.names t.points s.names s.points → t ≡ with_cells s t.cells
+    (s t : SheetData) → IsSheet s → IsSheet t → KeepPoints t.names t.points s.names s.points
+    → t ≡ with_cells s t.cells
 
 -- the cells have names of a sheet alone
 abbrev pub AreOfNames : SheetData → List Cell → Type 0
@@ -25,16 +27,19 @@ pub record IsMadeOf (s t : SheetData) : Type 0 where
 
 abbrev pub CellsMakeSheet : Type 0
 CellsMakeSheet =
-    (s : SheetData) (cells : List Cell) → IsSheet s → All IsNamedCell cells → AreOfNames s cells → IsMadeOf s (with_cells s cells)
+    (s : SheetData) (cells : List Cell) → IsSheet s → All IsNamedCell cells → AreOfNames s cells
+    → IsMadeOf s (with_cells s cells)
 
 -- a selection has each selected cell once, and no other
 abbrev pub SelectionIsCellByCell : Type 0
 SelectionIsCellByCell =
-    (all : Bool) (lo hi : ℤ) (s : SheetData) → (selected all lo hi s).cells ≡ flat_map (if_selected all lo hi s) s.cells
+    (all : Bool) (lo hi : ℤ) (s : SheetData) → (selected all lo hi s).cells
+    ≡ flat_map (if_selected all lo hi s) s.cells
 
 -- a selection of a sheet is a sheet, with the points that it had
 abbrev pub SelectionIsSheet : Type 0
-SelectionIsSheet = (all : Bool) (lo hi : ℤ) (s : SheetData) → IsSheet s → IsMadeOf s (selected all lo hi s)
+SelectionIsSheet = (all : Bool) (lo hi : ℤ) (s : SheetData) → IsSheet s
+    → IsMadeOf s (selected all lo hi s)
 
 -- the test of a scalar is what it says of the fraction
 abbrev pub ScalarTestIsWithin : Type 0
@@ -52,7 +57,8 @@ BoundaryIsSheet = (s : SheetData) → IsSheet s → IsMadeOf s (boundary_of s)
 -- what a cell gives to the boundary are facets of it
 abbrev pub BoundaryHasFacets : Type 0
 BoundaryHasFacets =
-    (cells : List Cell) (cell : Cell) → IsNamedCell cell → All (IsFacetOf cell) (lone_facets is_same_name cells cell)
+    (cells : List Cell) (cell : Cell) → IsNamedCell cell
+    → All (IsFacetOf cell) (lone_facets is_same_name cells cell)
 
 -- a merge of sheets is a sheet
 abbrev pub MergeIsSheet : Type 0

@@ -1,5 +1,7 @@
--- Merging: points at one position become one point, and cells that lose a corner go (VTK User's Guide: vtkCleanPolyData).
-use Rattle.std.specs.Prelude.{ℕ, suc, Bool, ◌&&◌, true, not, nat_eq, List, [], ◌∷◌, length, map, if◌then◌else◌}
+-- Merging: points at one position become one point, and cells that lose a corner go (VTK User's
+-- Guide: vtkCleanPolyData).
+use Rattle.std.specs.Prelude.{ℕ, suc, Bool, ◌&&◌, true, not, nat_eq, List, [], ◌∷◌, length, map}
+use Rattle.std.specs.Prelude.{if◌then◌else◌}
 use Rattle.std.specs.List.{flat_map, filter, list_any}
 use Rattle.std.specs.Cmp.Lexicographic.{slice_cmp}
 use Rattle.std.specs.Ordering.{int_cmp, is_eq}
@@ -41,8 +43,10 @@ abbrev pub has_no_repeat : List ℕ → Bool
 has_no_repeat [] = true
 has_no_repeat (leaf ∷ leaves) = not (list_any (nat_eq leaf) leaves) && has_no_repeat leaves
 
--- the merge of sheets: one sheet, a leaf for each group, the cells of all sheets in order without those that then repeat a leaf, and no point without a cell
+-- the merge of sheets: one sheet, a leaf for each group, the cells of all sheets in order without
+-- those that then repeat a leaf, and no point without a cell
 abbrev pub merged : List SheetData → SheetData
 merged sheets =
     let groups = firsts (all_points sheets) in
-    sheet_with (leaf_names (length groups)) groups (filter has_no_repeat (flat_map (cells_by_leaves groups) sheets))
+    sheet_with (leaf_names (length groups)) groups
+    (filter has_no_repeat (flat_map (cells_by_leaves groups) sheets))

@@ -1,4 +1,5 @@
--- Selection: the cells all or any of whose corners have a scalar within bounds (VTK User's Guide: vtkThreshold, AllScalars).
+-- Selection: the cells all or any of whose corners have a scalar within bounds (VTK User's Guide:
+-- vtkThreshold, AllScalars).
 use Rattle.std.specs.Prelude.{ℤ, ◌*ℤ◌, int_le, Bool, ◌&&◌, List, [], ◌∷◌, map, if◌then◌else◌}
 use Rattle.std.specs.List.{filter, list_all, list_any}
 use Rattle.viz_fraction.specs.Points.{Point}

@@ -1,7 +1,10 @@
 //! Laws of filters of meshes. A function that calls one may rest on it.
 
 ghost use Rattle.viz_mesh_meaning.specs.FitLaws.{BoundaryFits, MergeFits, SelectionFits};
-ghost use Rattle.viz_mesh_meaning.specs.Laws.{BoundaryHasFacets, BoundaryIsSheet, CellsMakeSheet, KeptPointsMakeCells, MergeIsSheet, ScalarTestIsWithin, SelectionIsCellByCell, SelectionIsSheet};
+ghost use Rattle.viz_mesh_meaning.specs.Laws.{BoundaryHasFacets, BoundaryIsSheet, CellsMakeSheet};
+ghost use Rattle.viz_mesh_meaning.specs.Laws.{KeptPointsMakeCells, MergeIsSheet};
+ghost use Rattle.viz_mesh_meaning.specs.Laws.{ScalarTestIsWithin, SelectionIsCellByCell};
+ghost use Rattle.viz_mesh_meaning.specs.Laws.{SelectionIsSheet};
 
 /// Cells of names of a sheet are a sheet with the points that the names had, and there is but one.
 pub fn cells_make_sheets()

@@ -1,5 +1,6 @@
 -- How the cells of a filter's result are found again among those that they may be made of.
-use Rattle.std.specs.Prelude.{◌≡◌, ℕ, ◌+◌, ◌<◌, ◌⊎◌, Bool, List, [], ◌∷◌, length, filter, drop, take, replicate, slice_index_or}
+use Rattle.std.specs.Prelude.{◌≡◌, ℕ, ◌+◌, ◌<◌, ◌⊎◌, Bool, List, [], ◌∷◌, length, filter, drop}
+use Rattle.std.specs.Prelude.{take, replicate, slice_index_or}
 use Rattle.std.specs.List.{flat_map}
 use Rattle.viz_mesh_meaning.specs.Cells.{Cell}
 use Rattle.viz_parts.specs.Parts.{PartSheetData}
@@ -28,19 +29,24 @@ itself c = c ∷ []
 abbrev pub passing : (Cell → List Cell) → (Cell → Bool) → Cell → List Cell
 passing makes test c = filter test (makes c)
 
--- where a filter makes of each cell what passes some test, made cells have the levels of the cells that they are made of
-pub record AreHandedOn (makes : Cell → List Cell) (part : PartSheetData) (made : List Cell) (levels : List ℕ) : Type 0 where
+-- where a filter makes of each cell what passes some test, made cells have the levels of the cells
+-- that they are made of
+pub record AreHandedOn (makes : Cell → List Cell) (part : PartSheetData) (made : List Cell)
+    (levels : List ℕ) : Type 0 where
   pub each : (test : Cell → Bool) → made ≡ flat_map (passing makes test) part.sheet.cells
       → levels ≡ handed_on part.levels (counts (passing makes test) part.sheet.cells)
 
 -- the same of what is made of the first cells, so many, which ends at a place
-pub record AreHandedTo (makes : Cell → List Cell) (part : PartSheetData) (made : List Cell) (count at : ℕ) (levels : List ℕ) : Type 0 where
+pub record AreHandedTo (makes : Cell → List Cell) (part : PartSheetData) (made : List Cell)
+    (count at : ℕ) (levels : List ℕ) : Type 0 where
   pub each : (test : Cell → Bool) → made ≡ flat_map (passing makes test) part.sheet.cells
-      → (levels ≡ handed_on (take count part.levels) (counts (passing makes test) (take count part.sheet.cells)))
+      → (levels ≡ handed_on (take count part.levels)
+      (counts (passing makes test) (take count part.sheet.cells)))
       × (drop at made ≡ flat_map (passing makes test) (drop count part.sheet.cells))
 
 -- the cells of a sheet up to a level, with their levels
-pub record IsNear (ghosts : ℕ) (s : SheetData) (levels : List ℕ) (part : PartSheetData) : Type 0 where
+pub record IsNear (ghosts : ℕ) (s : SheetData) (levels : List ℕ)
+    (part : PartSheetData) : Type 0 where
   pub sheet_is : IsSheet part.sheet
   pub cells : part.sheet.cells ≡ near_items ghosts levels s.cells
   pub points : KeepPoints part.sheet.names part.sheet.points s.names s.points

@@ -1,6 +1,7 @@
 //! Cells of one sheet found again in another, one after the other.
 
-ghost use Rattle.std.specs.Prelude.{◌≡◌, ◌≤◌, ◌<◌, ◌↔◌, [], ◌∷◌, All, IsTrue, length, map, slice_index_or};
+ghost use Rattle.std.specs.Prelude.{◌≡◌, ◌≤◌, ◌<◌, ◌↔◌, [], ◌∷◌, All, IsTrue, length, map};
+ghost use Rattle.std.specs.Prelude.{slice_index_or};
 ghost use Rattle.viz_mesh_meaning.specs.Facets.{facets_of};
 ghost use Rattle.viz_sheet.specs.Ranked.{names_at};
 ghost use Rattle.viz_mesh_parts.specs.Steps.{IsNext, IsStep, Passes};

@@ -1,7 +1,9 @@
 //! The filters of meshes over parts of meshes, as the executive asks for them.
 
 ghost use Rattle.std.specs.Prelude.{◌≡◌, All, Err, IfOk, OnOk};
-ghost use Rattle.viz_piece_divisions.specs.Answers.{IsAppendedAnswer, IsBoundaryAnswer, IsFitPart, IsMergedAnswer, IsNarrowPart, IsOfMesh, IsSectionAnswer, IsSelectedAnswer, parts_in};
+ghost use Rattle.viz_piece_divisions.specs.Answers.{IsAppendedAnswer, IsBoundaryAnswer, IsFitPart};
+ghost use Rattle.viz_piece_divisions.specs.Answers.{IsMergedAnswer, IsNarrowPart, IsOfMesh};
+ghost use Rattle.viz_piece_divisions.specs.Answers.{IsSectionAnswer, IsSelectedAnswer, parts_in};
 
 use crate::bounding::bounded_parts;
 use crate::joining::{appended_parts, merged_parts};

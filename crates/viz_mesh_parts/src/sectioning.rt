@@ -1,6 +1,7 @@
 //! Sections of parts.
 
-ghost use Rattle.std.specs.Prelude.{◌≡◌, ◌≤◌, ◌<◌, ◌^◌, ◌++◌, All, IfOk, OnOk, Err, false, length, map, slice_index, slice_index_or, ◌∷◌, [], int_le, pos};
+ghost use Rattle.std.specs.Prelude.{◌≡◌, ◌≤◌, ◌<◌, ◌^◌, ◌++◌, All, IfOk, OnOk, Err, false, length};
+ghost use Rattle.std.specs.Prelude.{map, slice_index, slice_index_or, ◌∷◌, [], int_le, pos};
 ghost use Rattle.viz_fraction.specs.Cases.{cells_at};
 ghost use Rattle.viz_fraction.specs.Forms.{IsNarrowValue};
 ghost use Rattle.viz_meaning.specs.Narrow.{IsNarrowSection};

@@ -1,5 +1,7 @@
--- The geometry of an unstructured grid (VTK User's Guide, "Simple legacy formats"; docs/FORMATS.md, "Grids and polydata").
-use Rattle.std.specs.Prelude.{ℕ, ℤ, pos, negsuc, Bool, not, ◌==◌, List, [], ◌∷◌, length, drop, codes, Option, Some, None, unwrap_or, if◌then◌else◌}
+-- The geometry of an unstructured grid (VTK User's Guide, "Simple legacy formats";
+-- docs/FORMATS.md, "Grids and polydata").
+use Rattle.std.specs.Prelude.{ℕ, ℤ, pos, negsuc, Bool, not, ◌==◌, List, [], ◌∷◌, length, drop}
+use Rattle.std.specs.Prelude.{codes, Option, Some, None, unwrap_or, if◌then◌else◌}
 use Rattle.viz_lex.specs.declared.fault.FileKind.TheVariants.{Count, CellType, Sections51}
 use Rattle.viz_lex.specs.Reading.{fault_at}
 use Rattle.viz_lex.specs.Steps.{has, same_word, keyword_kind, is_next}
@@ -11,7 +13,8 @@ use Rattle.viz_attr.specs.Passed.{passed_field}
 use Rattle.viz_mesh_read.specs.declared.coordinates.FilePoints.{FilePoints}
 use Rattle.viz_mesh_read.specs.declared.grids.GridFile.{GridFile}
 use Rattle.viz_mesh_read.specs.Points.{points}
-use Rattle.viz_mesh_read.specs.Sections.{section_number, section_start, section, numbers_of_cells, section_of}
+use Rattle.viz_mesh_read.specs.Sections.{section_number, section_start, section, numbers_of_cells}
+use Rattle.viz_mesh_read.specs.Sections.{section_of}
 
 -- a FIELD that is passed over
 abbrev pub one_field : Bool → Rule (Unit {0})
@@ -33,7 +36,8 @@ cells_keyword later = do
 -- how many points a cell of a type has: a vertex, a line, a triangle or a tetrahedron
 abbrev pub points_of_type : ℤ → Option ℕ
 points_of_type (pos t) =
-    if t == 1 then Some 1 else (if t == 3 then Some 2 else (if t == 5 then Some 3 else (if t == 10 then Some 4 else None)))
+    if t == 1 then Some 1 else (if t == 3 then Some 2
+    else (if t == 5 then Some 3 else (if t == 10 then Some 4 else None)))
 points_of_type (negsuc t) = None
 
 -- the type of a cell of so many points

@@ -1,5 +1,7 @@
--- The readers of a grid, which proofs compare with the rules (docs/FORMATS.md, "Grids and polydata").
-use Rattle.std.specs.Prelude.{ℕ, zero, suc, ◌+◌, Bool, not, ◌==◌, List, length, codes, unwrap_or, Result, Ok}
+-- The readers of a grid, which proofs compare with the rules (docs/FORMATS.md, "Grids and
+-- polydata").
+use Rattle.std.specs.Prelude.{ℕ, zero, suc, ◌+◌, Bool, not, ◌==◌, List, length, codes, unwrap_or}
+use Rattle.std.specs.Prelude.{Result, Ok}
 use Rattle.viz_lex.specs.declared.fault.FileFault.{FileFault}
 use Rattle.viz_lex.specs.declared.fault.FileKind.TheVariants.{Count, CellType, Sections51}
 use Rattle.viz_lex.specs.Reading.{Reading, ◌>>=◌}
@@ -42,7 +44,8 @@ cell_type_at binary size r = do
 -- the types of so many cells, whose numbers are these
 unfoldable pub cell_types_at : Bool → ℕ → List ℕ → Reading → Result (Unit {0} × Reading) FileFault
 cell_types_at binary zero numbers r = Ok (tt, r)
-cell_types_at binary (suc n) numbers r = cell_type_at binary (first_count numbers) r >>= λ x. cell_types_at binary n (behind_first numbers) x.1
+cell_types_at binary (suc n) numbers r = cell_type_at binary
+    (first_count numbers) r >>= λ x. cell_types_at binary n (behind_first numbers) x.1
 
 -- CELL_TYPES
 unfoldable pub types_at : Bool → ℕ × List ℕ → Reading → Result (Unit {0} × Reading) FileFault
@@ -53,7 +56,8 @@ types_at binary cells r = do
   cell_types_at binary cells.0 cells.1 started.1
 
 -- the grid
-unfoldable pub grid_at : Bool → Bool → Reading → Result ((FilePoints × (ℕ × List ℕ)) × Reading) FileFault
+unfoldable pub grid_at : Bool → Bool → Reading
+    → Result ((FilePoints × (ℕ × List ℕ)) × Reading) FileFault
 grid_at binary later r = do
   before ← fields_at binary r
   p ← points_at binary before.1

@@ -1,5 +1,7 @@
--- The geometry of polydata (VTK User's Guide, "Simple legacy formats"; docs/FORMATS.md, "Grids and polydata").
-use Rattle.std.specs.Prelude.{ℕ, zero, suc, Bool, true, false, not, ◌&&◌, ◌||◌, List, [], length, codes, if◌then◌else◌}
+-- The geometry of polydata (VTK User's Guide, "Simple legacy formats"; docs/FORMATS.md, "Grids and
+-- polydata").
+use Rattle.std.specs.Prelude.{ℕ, zero, suc, Bool, true, false, not, ◌&&◌, ◌||◌, List, [], length}
+use Rattle.std.specs.Prelude.{codes, if◌then◌else◌}
 use Rattle.viz_lex.specs.declared.fault.FileKind.TheVariants.{Sections51}
 use Rattle.viz_lex.specs.Reading.{Reading, fault_at}
 use Rattle.viz_lex.specs.Steps.{same_word, is_next}
@@ -7,7 +9,8 @@ use Rattle.viz_lex.specs.Rules.{Rule, gives, demand, beside, ◌>>=◌}
 use Rattle.viz_lex.specs.Items.{word}
 use Rattle.viz_mesh_read.specs.declared.coordinates.FilePoints.{FilePoints}
 use Rattle.viz_mesh_read.specs.declared.poly.SectionKind.{SectionKind}
-use Rattle.viz_mesh_read.specs.declared.poly.SectionKind.TheVariants.{Vertices, Lines, Polygons, Strips}
+use Rattle.viz_mesh_read.specs.declared.poly.SectionKind.TheVariants.{Vertices, Lines, Polygons}
+use Rattle.viz_mesh_read.specs.declared.poly.SectionKind.TheVariants.{Strips}
 use Rattle.viz_mesh_read.specs.declared.poly.Seen.{Seen}
 use Rattle.viz_mesh_read.specs.declared.poly.PolyCells.{PolyCells}
 use Rattle.viz_mesh_read.specs.declared.poly.PolyFile.{PolyFile}
@@ -28,10 +31,14 @@ for_each x = record { vertices = x; lines = x; polygons = x; strips = x }
 
 -- another for one kind
 abbrev pub with_kind : {A : Type 0} → ByKind A → SectionKind → A → ByKind A
-with_kind all Vertices x = record { vertices = x; lines = all.lines; polygons = all.polygons; strips = all.strips }
-with_kind all Lines x = record { vertices = all.vertices; lines = x; polygons = all.polygons; strips = all.strips }
-with_kind all Polygons x = record { vertices = all.vertices; lines = all.lines; polygons = x; strips = all.strips }
-with_kind all Strips x = record { vertices = all.vertices; lines = all.lines; polygons = all.polygons; strips = x }
+with_kind all Vertices x =
+    record { vertices = x; lines = all.lines; polygons = all.polygons; strips = all.strips }
+with_kind all Lines x =
+    record { vertices = all.vertices; lines = x; polygons = all.polygons; strips = all.strips }
+with_kind all Polygons x =
+    record { vertices = all.vertices; lines = all.lines; polygons = x; strips = all.strips }
+with_kind all Strips x =
+    record { vertices = all.vertices; lines = all.lines; polygons = all.polygons; strips = x }
 
 -- the kind of section that a keyword begins, where it begins one
 abbrev pub kind_named : List ℕ → SectionKind
@@ -47,18 +54,26 @@ none_seen = record { vertices = false; lines = false; polygons = false; strips =
 
 -- one kind more was read
 abbrev pub seen_with : Seen → SectionKind → Seen
-seen_with s Vertices = record { vertices = true; lines = s.lines; polygons = s.polygons; strips = s.strips }
-seen_with s Lines = record { vertices = s.vertices; lines = true; polygons = s.polygons; strips = s.strips }
-seen_with s Polygons = record { vertices = s.vertices; lines = s.lines; polygons = true; strips = s.strips }
-seen_with s Strips = record { vertices = s.vertices; lines = s.lines; polygons = s.polygons; strips = true }
+seen_with s Vertices =
+    record { vertices = true; lines = s.lines; polygons = s.polygons; strips = s.strips }
+seen_with s Lines =
+    record { vertices = s.vertices; lines = true; polygons = s.polygons; strips = s.strips }
+seen_with s Polygons =
+    record { vertices = s.vertices; lines = s.lines; polygons = true; strips = s.strips }
+seen_with s Strips =
+    record { vertices = s.vertices; lines = s.lines; polygons = s.polygons; strips = true }
 
 -- the keyword of a section stands next, of a kind that wasn't read
 abbrev pub is_due : Seen → Reading → Bool
 is_due s r =
-    is_next (codes "VERTICES") r && not s.vertices || is_next (codes "LINES") r && not s.lines || is_next (codes "POLYGONS") r && not s.polygons || is_next (codes "TRIANGLE_STRIPS") r && not s.strips
+    is_next (codes "VERTICES") r && not s.vertices || is_next (codes "LINES") r && not s.lines
+    || is_next (codes "POLYGONS") r && not s.polygons || is_next (codes "TRIANGLE_STRIPS") r
+    && not s.strips
 
--- at most so many sections more, each of a kind that wasn't read, in front of which FIELDs may stand: all cells by kind
-abbrev pub sections : Bool → Bool → ℕ → ℕ → Seen → ByKind (List (List ℕ)) → Rule (ByKind (List (List ℕ)))
+-- at most so many sections more, each of a kind that wasn't read, in front of which FIELDs may
+-- stand: all cells by kind
+abbrev pub sections : Bool → Bool → ℕ → ℕ → Seen → ByKind (List (List ℕ))
+    → Rule (ByKind (List (List ℕ)))
 sections binary later points zero seen all = gives all
 sections binary later points (suc n) seen all = do
   passed ← fields binary
@@ -66,7 +81,8 @@ sections binary later points (suc n) seen all = do
     key ← word
     demand (not later) (fault_at Sections51 key.0) (do
       cells ← section binary points
-      sections binary later points n (seen_with seen (kind_named key.1)) (with_kind all (kind_named key.1) cells)))
+      sections binary later points n (seen_with seen (kind_named key.1))
+          (with_kind all (kind_named key.1) cells)))
       (gives all)
 
 -- the points and the cells of polydata

@@ -1,5 +1,8 @@
--- The cells of a grid or polydata file, section by section (VTK User's Guide, "Simple legacy formats"; docs/FORMATS.md, "Grids and polydata").
-use Rattle.std.specs.Prelude.{◌≡◌, ◌<◌, ℕ, ℤ, pos, negsuc, zero, suc, ◌+◌, ◌-◌, ◌^◌, All, Bool, false, not, ◌&&◌, ◌||◌, ◌==◌, nat_le, nat_lt, unsigned_abs, List, [], ◌∷◌, length}
+-- The cells of a grid or polydata file, section by section (VTK User's Guide, "Simple legacy
+-- formats"; docs/FORMATS.md, "Grids and polydata").
+use Rattle.std.specs.Prelude.{◌≡◌, ◌<◌, ℕ, ℤ, pos, negsuc, zero, suc, ◌+◌, ◌-◌, ◌^◌, All, Bool}
+use Rattle.std.specs.Prelude.{false, not, ◌&&◌, ◌||◌, ◌==◌, nat_le, nat_lt, unsigned_abs, List, []}
+use Rattle.std.specs.Prelude.{◌∷◌, length}
 use Rattle.std.specs.List.{flat_map}
 use Rattle.viz_column.specs.declared.kind.Kind8.TheVariants.{I32}
 use Rattle.viz_column.specs.Bytes.{number_in}
@@ -41,16 +44,19 @@ index binary points = do
   n ← section_number binary
   demand (is_index points n.1) (fault_at Index n.0) (gives (unsigned_abs n.1))
 
--- with so many cells and so many numbers left, a cell of c indices leaves a number for each later cell, and the last cell leaves none
+-- with so many cells and so many numbers left, a cell of c indices leaves a number for each later
+-- cell, and the last cell leaves none
 abbrev pub is_cell_count : ℕ → ℕ → ℤ → Bool
-is_cell_count cells left (pos c) = nat_le (c + cells) left && (not (cells == 1) || nat_le left (c + cells))
+is_cell_count cells left (pos c) = nat_le (c + cells) left
+    && (not (cells == 1) || nat_le left (c + cells))
 is_cell_count cells left (negsuc c) = false
 
 -- a cell: its count, and so many indices
 abbrev pub cell : Bool → ℕ → ℕ → ℕ → Rule (List ℕ)
 cell binary points cells left = do
   c ← section_number binary
-  demand (is_cell_count cells left c.1) (fault_at Count c.0) (times (unsigned_abs c.1) (index binary points))
+  demand (is_cell_count cells left c.1) (fault_at Count c.0)
+      (times (unsigned_abs c.1) (index binary points))
 
 -- so many cells, which fill so many numbers
 abbrev pub cells : Bool → ℕ → ℕ → ℕ → Rule (List (List ℕ))
@@ -66,7 +72,8 @@ section_size n = do
   size ← number
   demand (is_at_least 0 size.1) (fault_at Count size.0) (
       demand (is_below (2 ^ 31) size.1) (fault_at TooMany size.0) (
-      demand (not (n == 0) || is_number 0 size.1) (fault_at Count size.0) (gives (unsigned_abs size.1))))
+      demand (not (n == 0) || is_number 0 size.1) (fault_at Count size.0)
+      (gives (unsigned_abs size.1))))
 
 -- a section behind its keyword: n size, then n cells, each by its indices
 abbrev pub section : Bool → ℕ → Rule (List (List ℕ))

@@ -1,5 +1,8 @@
--- The readers of points and sections, which proofs compare with the rules (docs/FORMATS.md, "Grids and polydata").
-use Rattle.std.specs.Prelude.{ℕ, ℤ, zero, suc, ◌-◌, ◌*◌, ◌^◌, Bool, true, not, ◌||◌, ◌==◌, unsigned_abs, List, [], ◌∷◌, ◌++◌, length, codes, Result, Ok, if◌then◌else◌}
+-- The readers of points and sections, which proofs compare with the rules (docs/FORMATS.md, "Grids
+-- and polydata").
+use Rattle.std.specs.Prelude.{ℕ, ℤ, zero, suc, ◌-◌, ◌*◌, ◌^◌, Bool, true, not, ◌||◌, ◌==◌}
+use Rattle.std.specs.Prelude.{unsigned_abs, List, [], ◌∷◌, ◌++◌, length, codes, Result, Ok}
+use Rattle.std.specs.Prelude.{if◌then◌else◌}
 use Rattle.viz_column.specs.declared.kind.Kind8.{Kind8}
 use Rattle.viz_column.specs.declared.kind.Kind8.TheVariants.{I32}
 use Rattle.viz_column.specs.Kinds.{size_of, fits}
@@ -79,7 +82,9 @@ index_at binary points r = do
 -- so many indices, behind the numbers before
 unfoldable pub indices_at : Bool → ℕ → ℕ → List ℕ → Reading → Result (List ℕ × Reading) FileFault
 indices_at binary points zero numbers r = Ok (numbers, r)
-indices_at binary points (suc n) numbers r = index_at binary points r >>= λ i. indices_at binary points n (numbers ++ i.0 ∷ []) i.1
+indices_at binary points
+    (suc n) numbers r = index_at binary points r >>= λ i. indices_at binary points n
+    (numbers ++ i.0 ∷ []) i.1
 
 -- a cell, behind the numbers before
 unfoldable pub cell_at : Bool → ℕ → ℕ → ℕ → List ℕ → Reading → Result (List ℕ × Reading) FileFault
@@ -91,7 +96,8 @@ cell_at binary points cells left numbers r = do
 -- so many cells, behind the numbers before, of which all have so many
 unfoldable pub cells_at : Bool → ℕ → ℕ → ℕ → List ℕ → Reading → Result (List ℕ × Reading) FileFault
 cells_at binary points size zero numbers r = Ok (numbers, r)
-cells_at binary points size (suc n) numbers r = cell_at binary points (suc n) (size - length numbers) numbers r >>= λ x. cells_at binary points size n x.0 x.1
+cells_at binary points size (suc n) numbers r = cell_at binary points (suc n)
+    (size - length numbers) numbers r >>= λ x. cells_at binary points size n x.0 x.1
 
 -- how many numbers a section has
 unfoldable pub section_size_at : ℕ → Reading → Result (ℕ × Reading) FileFault

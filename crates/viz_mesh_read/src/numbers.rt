@@ -6,7 +6,8 @@ ghost use Rattle.viz_column.specs.Bytes.{number_in};
 ghost use Rattle.viz_lex.specs.Reading.{Reads};
 ghost use Rattle.viz_lex.specs.Steps.{due_number};
 ghost use Rattle.viz_mesh_read.specs.Sections.{is_index, is_cell_count};
-ghost use Rattle.viz_mesh_read.specs.Steps.{block_number_at, section_number_at, section_start_at, index_at};
+ghost use Rattle.viz_mesh_read.specs.Steps.{block_number_at, section_number_at, section_start_at};
+ghost use Rattle.viz_mesh_read.specs.Steps.{index_at};
 
 use crate::arrays::{block, line_end};
 use byteorder::{BigEndian, ByteOrder};

@@ -2,7 +2,9 @@
 
 ghost use Rattle.std.specs.Prelude.{◌≡◌, ◌<◌, ◌+◌, ◌++◌, ◌∷◌, [], List, ℕ, length, IfOk, OnOk};
 ghost use Rattle.viz_mesh_read.specs.Poly.{ByKind, sections_of, numbers_by_kind};
-ghost use Rattle.viz_mesh_read.specs.Pieces.{kept, vertex_of, vertices_of, segment_of, is_segment, lines_of, triangle_of, is_triangle, triangles_of, first_indices, in_cells, pieces_in, pieces_of};
+ghost use Rattle.viz_mesh_read.specs.Pieces.{kept, vertex_of, vertices_of, segment_of, is_segment};
+ghost use Rattle.viz_mesh_read.specs.Pieces.{lines_of, triangle_of, is_triangle, triangles_of};
+ghost use Rattle.viz_mesh_read.specs.Pieces.{first_indices, in_cells, pieces_in, pieces_of};
 
 use crate::poly::PolyCells;
 use crate::sections::CellSection;

@@ -4,7 +4,8 @@ ghost use Rattle.std.specs.Prelude.{◌≡◌, ◌<◌, ◌^◌, []};
 ghost use Rattle.viz_attr.specs.Reads.{ReadsUnlessMemory};
 ghost use Rattle.viz_mesh_read.specs.Geometry.{MeetsBy};
 ghost use Rattle.viz_mesh_read.specs.Sections.{section_of};
-ghost use Rattle.viz_mesh_read.specs.Poly.{for_each, with_kind, kind_named, none_seen, seen_with, is_due, sections_of, polydata_of, polydata_numbers};
+ghost use Rattle.viz_mesh_read.specs.Poly.{for_each, with_kind, kind_named, none_seen, seen_with};
+ghost use Rattle.viz_mesh_read.specs.Poly.{is_due, sections_of, polydata_of, polydata_numbers};
 ghost use Rattle.viz_mesh_read.specs.PolySteps.{kind_at, sections_at, polydata_at};
 
 use crate::coordinates::{FilePoints, all_points};

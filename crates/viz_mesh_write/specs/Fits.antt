@@ -9,7 +9,8 @@ use Rattle.viz_mesh_write.specs.MeshText.{coordinates, scalars, size_of}
 -- the cells of each section that a text of these cells may have
 abbrev pub sections_of : List (List ℕ) → List (List (List ℕ))
 sections_of cells =
-    if has_tetrahedra cells then cells ∷ [] else of_size 1 cells ∷ of_size 2 cells ∷ of_size 3 cells ∷ []
+    if has_tetrahedra cells then cells ∷ []
+    else of_size 1 cells ∷ of_size 2 cells ∷ of_size 3 cells ∷ []
 
 -- the points, and the numbers of each section, are at most 2^31 - 1
 pub record FitCounts (sheets : List SheetData) : Type 0 where

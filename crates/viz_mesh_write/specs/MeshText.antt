@@ -1,5 +1,7 @@
--- The text of a written mesh (VTK User's Guide, "Simple legacy formats"; docs/FORMATS.md, "Written meshes").
-use Rattle.std.specs.Prelude.{ℕ, ◌==◌, ℤ, pos, Bool, true, false, List, [], ◌∷◌, ◌++◌, length, map, codes, if◌then◌else◌}
+-- The text of a written mesh (VTK User's Guide, "Simple legacy formats"; docs/FORMATS.md, "Written
+-- meshes").
+use Rattle.std.specs.Prelude.{ℕ, ◌==◌, ℤ, pos, Bool, true, false, List, [], ◌∷◌, ◌++◌, length, map}
+use Rattle.std.specs.Prelude.{codes, if◌then◌else◌}
 use Rattle.std.specs.List.{flat_map}
 use Rattle.std.specs.Fmt.{decimal}
 use Rattle.viz_fraction.specs.Points.{Point}
@@ -12,7 +14,8 @@ use Rattle.viz_mesh_write.specs.Rows.{block_text}
 
 -- the version, and the title with the number of places
 unfoldable pub title_lines : ℕ → List ℕ
-title_lines digits = codes "# vtk DataFile Version 3.0\nvizrun fixed 10^-" ++ decimal digits ++ 10 ∷ []
+title_lines digits = codes "# vtk DataFile Version 3.0\nvizrun fixed 10^-" ++ decimal digits
+    ++ 10 ∷ []
 
 -- the kind of dataset, by whether a tetrahedron is there
 unfoldable pub dataset_line : Bool → List ℕ
@@ -25,11 +28,13 @@ points_line n = codes "POINTS " ++ decimal n ++ codes " long\n"
 
 -- the coordinates of a point, rounded down at so many places and counted in the last one
 abbrev pub coordinates : ℕ → Point → List ℤ
-coordinates digits p = fixed_of p.x p.w digits ∷ fixed_of p.y p.w digits ∷ fixed_of p.z p.w digits ∷ []
+coordinates digits p =
+    fixed_of p.x p.w digits ∷ fixed_of p.y p.w digits ∷ fixed_of p.z p.w digits ∷ []
 
 -- the points, a row for each
 unfoldable pub points_text : Bool → ℕ → List Point → List ℕ
-points_text binary digits points = points_line (length points) ++ block_text binary I64 (map (coordinates digits) points)
+points_text binary digits points = points_line (length points)
+    ++ block_text binary I64 (map (coordinates digits) points)
 
 -- the numbers of a cell: how many indices, and these
 abbrev pub cell_numbers : List ℕ → List ℤ
@@ -45,7 +50,8 @@ section_line keyword n size = keyword ++ 32 ∷ decimal n ++ 32 ∷ decimal size
 
 -- a section: its line, and a row for each cell
 unfoldable pub section_text : Bool → List ℕ → List (List ℕ) → List ℕ
-section_text binary keyword cells = section_line keyword (length cells) (size_of cells) ++ block_text binary I32 (map cell_numbers cells)
+section_text binary keyword cells = section_line keyword (length cells) (size_of cells)
+    ++ block_text binary I32 (map cell_numbers cells)
 
 -- VTK's type of a cell of 1 to 4 points
 abbrev pub type_of : ℕ → ℤ
@@ -57,7 +63,8 @@ types_line n = codes "CELL_TYPES " ++ decimal n ++ 10 ∷ []
 
 -- the types of cells, a row for each
 unfoldable pub types_text : Bool → List (List ℕ) → List ℕ
-types_text binary cells = types_line (length cells) ++ block_text binary I32 (map (λ cell. type_of (length cell) ∷ []) cells)
+types_text binary cells = types_line (length cells)
+    ++ block_text binary I32 (map (λ cell. type_of (length cell) ∷ []) cells)
 
 -- the cells of a grid, and their types
 unfoldable pub grid_text : Bool → List (List ℕ) → List ℕ
@@ -71,7 +78,8 @@ some_section binary keyword (cell ∷ cells) = section_text binary keyword (cell
 -- the cells of polydata: vertices, lines and triangles, each where there is one
 unfoldable pub parts_text : Bool → List (List ℕ) → List ℕ
 parts_text binary cells =
-    some_section binary (codes "VERTICES") (of_size 1 cells) ++ some_section binary (codes "LINES") (of_size 2 cells)
+    some_section binary (codes "VERTICES") (of_size 1 cells)
+    ++ some_section binary (codes "LINES") (of_size 2 cells)
     ++ some_section binary (codes "POLYGONS") (of_size 3 cells)
 
 -- the same, and without any cell a section of no polygons
@@ -81,11 +89,13 @@ poly_text binary (cell ∷ cells) = parts_text binary (cell ∷ cells)
 
 -- the cells: of a grid where a tetrahedron is there, and else of polydata
 abbrev pub cells_text : Bool → List (List ℕ) → List ℕ
-cells_text binary cells = if has_tetrahedra cells then grid_text binary cells else poly_text binary cells
+cells_text binary cells = if has_tetrahedra cells then grid_text binary cells
+    else poly_text binary cells
 
 -- the lines in front of so many scalars
 unfoldable pub scalars_head : ℕ → List ℕ
-scalars_head n = codes "POINT_DATA " ++ decimal n ++ codes "\nSCALARS scalars long 1\nLOOKUP_TABLE default\n"
+scalars_head n = codes "POINT_DATA " ++ decimal n
+    ++ codes "\nSCALARS scalars long 1\nLOOKUP_TABLE default\n"
 
 -- the scalar of a point, rounded down
 abbrev pub scalar : Point → ℤ
@@ -104,5 +114,6 @@ scalars_text binary (p ∷ points) =
 -- the whole text: head, points, cells by the indices of their points, scalars
 unfoldable pub mesh_text : Bool → ℕ → List SheetData → List ℕ
 mesh_text binary digits sheets =
-    title_lines digits ++ form_line binary ++ dataset_line (has_tetrahedra (cells_of sheets)) ++ points_text binary digits (points_of sheets)
+    title_lines digits ++ form_line binary ++ dataset_line (has_tetrahedra (cells_of sheets))
+    ++ points_text binary digits (points_of sheets)
     ++ cells_text binary (cells_of sheets) ++ scalars_text binary (points_of sheets)

@@ -1,5 +1,7 @@
--- Rows of numbers, as words or as bytes (VTK User's Guide, "Simple legacy formats"; docs/FORMATS.md, "Written meshes").
-use Rattle.std.specs.Prelude.{ℕ, ◌==◌, ℤ, Bool, true, false, List, [], ◌∷◌, ◌++◌, length, if◌then◌else◌}
+-- Rows of numbers, as words or as bytes (VTK User's Guide, "Simple legacy formats";
+-- docs/FORMATS.md, "Written meshes").
+use Rattle.std.specs.Prelude.{ℕ, ◌==◌, ℤ, Bool, true, false, List, [], ◌∷◌, ◌++◌, length}
+use Rattle.std.specs.Prelude.{if◌then◌else◌}
 use Rattle.std.specs.List.{flat_map}
 use Rattle.viz_column.specs.declared.kind.Kind8.{Kind8}
 use Rattle.viz_column.specs.Bytes.{bytes_of}

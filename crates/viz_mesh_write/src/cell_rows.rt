@@ -1,12 +1,14 @@
 //! The rows of cells and of their types.
 
-ghost use Rattle.std.specs.Prelude.{◌≡◌, ◌<◌, ◌≤◌, ◌+◌, ◌^◌, ◌++◌, ℕ, Bool, List, All, OnOk, length, map, true, false, pos};
+ghost use Rattle.std.specs.Prelude.{◌≡◌, ◌<◌, ◌≤◌, ◌+◌, ◌^◌, ◌++◌, ℕ, Bool, List, All, OnOk};
+ghost use Rattle.std.specs.Prelude.{length, map, true, false, pos};
 ghost use Rattle.std.specs.List.{flat_map};
 ghost use Rattle.viz_sheet.specs.Arrays.{ranks_in};
 ghost use Rattle.viz_column.specs.declared.kind.Kind8.TheVariants.{I32};
 ghost use Rattle.viz_column.specs.Bytes.{bytes_of};
 ghost use Rattle.viz_mesh_write.specs.MeshText.{type_of};
-ghost use Rattle.viz_mesh_write.specs.Steps.Passes.{IsMovable, cell_row, row_of_size, type_row, cell_rows, index_text, index_bytes};
+ghost use Rattle.viz_mesh_write.specs.Steps.Passes.{IsMovable, cell_row, row_of_size, type_row};
+ghost use Rattle.viz_mesh_write.specs.Steps.Passes.{cell_rows, index_text, index_bytes};
 ghost use Rattle.viz_mesh_write.specs.Steps.SheetCells.{points_by};
 
 use crate::cell_ranks::CellRanks;

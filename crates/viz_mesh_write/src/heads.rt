@@ -2,7 +2,8 @@
 
 ghost use Rattle.std.specs.Prelude.{◌≡◌, ◌++◌, OnOk};
 ghost use Rattle.viz_image_write.specs.ImageText.{form_line};
-ghost use Rattle.viz_mesh_write.specs.MeshText.{title_lines, dataset_line, points_line, section_line, types_line, scalars_head};
+ghost use Rattle.viz_mesh_write.specs.MeshText.{title_lines, dataset_line, points_line};
+ghost use Rattle.viz_mesh_write.specs.MeshText.{section_line, types_line, scalars_head};
 
 use crate::numbers::put_count;
 use std::alloc::AllocError;

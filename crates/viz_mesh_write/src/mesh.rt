@@ -1,10 +1,12 @@
 //! The text of a mesh.
 
-ghost use Rattle.std.specs.Prelude.{◌≡◌, ◌≢◌, ◌≤◌, ◌<◌, ◌^◌, ◌++◌, ◌↔◌, Err, OnOk, IfOk, IsErrOf, length};
+ghost use Rattle.std.specs.Prelude.{◌≡◌, ◌≢◌, ◌≤◌, ◌<◌, ◌^◌, ◌++◌, ◌↔◌, Err, OnOk, IfOk, IsErrOf};
+ghost use Rattle.std.specs.Prelude.{length};
 ghost use Rattle.viz_image_write.specs.ImageText.{form_line};
 ghost use Rattle.viz_mesh_write.specs.Cells.{points_of, cells_of, has_tetrahedra};
 ghost use Rattle.viz_mesh_write.specs.Fits.{FitCounts, FitRows, FitNumbers};
-ghost use Rattle.viz_mesh_write.specs.MeshText.{title_lines, dataset_line, coordinates, scalars, points_text, cells_text, scalars_text, mesh_text};
+ghost use Rattle.viz_mesh_write.specs.MeshText.{title_lines, dataset_line, coordinates, scalars};
+ghost use Rattle.viz_mesh_write.specs.MeshText.{points_text, cells_text, scalars_text, mesh_text};
 ghost use Rattle.viz_mesh_write.specs.Steps.Tallies.{AreSmall, IsReady};
 
 use crate::heads::{put_dataset, put_form, put_points_line, put_scalars_head, put_title};

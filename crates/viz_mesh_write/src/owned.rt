@@ -1,6 +1,7 @@
 //! The text of a mesh that is given up on the way.
 
-ghost use Rattle.std.specs.Prelude.{◌≡◌, ◌≢◌, ◌<◌, ◌^◌, ◌++◌, ◌↔◌, Err, OnOk, IfOk, IsErrOf, length};
+ghost use Rattle.std.specs.Prelude.{◌≡◌, ◌≢◌, ◌<◌, ◌^◌, ◌++◌, ◌↔◌, Err, OnOk, IfOk, IsErrOf};
+ghost use Rattle.std.specs.Prelude.{length};
 ghost use Rattle.viz_mesh_write.specs.Cells.{points_of, cells_of};
 ghost use Rattle.viz_mesh_write.specs.Fits.{FitCounts, FitRows, FitNumbers};
 ghost use Rattle.viz_mesh_write.specs.MeshText.{scalars, cells_text, scalars_text, mesh_text};

@@ -1,6 +1,7 @@
 //! The coordinates and scalars of points, a row for each.
 
-ghost use Rattle.std.specs.Prelude.{◌≡◌, ◌≢◌, ◌≤◌, ◌++◌, ◌↔◌, ℤ, List, Err, OnOk, IfOk, IsOk, IsErrOf, FitsSigned};
+ghost use Rattle.std.specs.Prelude.{◌≡◌, ◌≢◌, ◌≤◌, ◌++◌, ◌↔◌, ℤ, List, Err, OnOk, IfOk, IsOk};
+ghost use Rattle.std.specs.Prelude.{IsErrOf, FitsSigned};
 ghost use Rattle.std.specs.Int.{w64};
 ghost use Rattle.viz_column.specs.declared.kind.Kind8.TheVariants.{I64};
 ghost use Rattle.viz_fraction.specs.Points.{Point};

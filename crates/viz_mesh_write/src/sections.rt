@@ -2,7 +2,8 @@
 
 ghost use Rattle.std.specs.Prelude.{◌≡◌, ◌<◌, ◌*◌, ◌+◌, ◌^◌, ◌++◌, codes, OnOk, length, map};
 ghost use Rattle.viz_mesh_write.specs.Cells.{of_size};
-ghost use Rattle.viz_mesh_write.specs.MeshText.{section_line, types_text, grid_text, some_section, parts_text, poly_text, cells_text};
+ghost use Rattle.viz_mesh_write.specs.MeshText.{section_line, types_text, grid_text, some_section};
+ghost use Rattle.viz_mesh_write.specs.MeshText.{parts_text, poly_text, cells_text};
 ghost use Rattle.viz_mesh_write.specs.Rows.{block_end};
 ghost use Rattle.viz_mesh_write.specs.Steps.Passes.{cell_rows};
 ghost use Rattle.viz_mesh_write.specs.Steps.SheetCells.{points_by, indices_by};

@@ -1,13 +1,15 @@
 //! How many points and cells a mesh has.
 
-ghost use Rattle.std.specs.Prelude.{◌≡◌, ◌<◌, ◌==◌, ◌^◌, ◌↔◌, List, ℕ, IfSome, IsSome, IsTrue, All, length, map};
+ghost use Rattle.std.specs.Prelude.{◌≡◌, ◌<◌, ◌==◌, ◌^◌, ◌↔◌, List, ℕ, IfSome, IsSome, IsTrue};
+ghost use Rattle.std.specs.Prelude.{All, length, map};
 ghost use Rattle.std.specs.List.{filter};
 ghost use Rattle.viz_sheet.specs.Arrays.{ranks_in};
 ghost use Rattle.viz_sheet.specs.Sheet.{IsSheet};
 ghost use Rattle.viz_sheet.specs.Ranked.{ranks_of};
 ghost use Rattle.viz_mesh_write.specs.Cells.{points_of, cells_of, of_size};
 ghost use Rattle.viz_mesh_write.specs.Fits.{FitCounts};
-ghost use Rattle.viz_mesh_write.specs.Steps.Tallies.{capped, IsCapped, IsReady, AreSmall, cell_count, size_count, SectionsFit};
+ghost use Rattle.viz_mesh_write.specs.Steps.Tallies.{capped, IsCapped, IsReady, AreSmall};
+ghost use Rattle.viz_mesh_write.specs.Steps.Tallies.{cell_count, size_count, SectionsFit};
 
 use crate::cell_ranks::CellRanks;
 use crate::sheet_cells::sheet_ranks;

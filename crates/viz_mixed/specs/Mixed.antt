@@ -1,4 +1,5 @@
--- Mixed cubes: those that a contour cuts, with a corner at or above the level and one below (Doi and Koide 1991).
+-- Mixed cubes: those that a contour cuts, with a corner at or above the level and one below (Doi
+-- and Koide 1991).
 use Rattle.std.specs.Prelude.{ℤ, ◌&&◌, Bool, false, not, List, map, slice_index_or}
 use Rattle.std.specs.List.{list_all, list_any, range_with_len}
 use Rattle.viz_dataset.specs.Images.{ImageData}
@@ -14,7 +15,8 @@ eight_corners = map corner_of (range_with_len 0 8)
 
 -- which corners of the cube whose lowest corner lies at a place are inside
 abbrev pub corner_flags : Bounds → List Bool → Place → List Bool
-corner_flags b inside lowest = map (λ leaf. slice_index_or inside leaf false) (leaves_of b lowest eight_corners)
+corner_flags b inside lowest = map (λ leaf. slice_index_or inside leaf false)
+    (leaves_of b lowest eight_corners)
 
 -- one of some corners is inside, and not all are
 abbrev pub is_mixed : List Bool → Bool

@@ -12,8 +12,10 @@ abbrev pub IsAccepted : Result Network Refusal → Type 0
 IsAccepted (Ok net) = Unit {0}
 IsAccepted (Err r) = ⊥
 
--- the network is the one that the edit makes; or the edit is refused so and nothing changed; or memory ran out at an edit that isn't refused and nothing changed
-abbrev pub Applies : Result (Unit {0}) ApplyStop → Network → Network → Result Network Refusal → Type 0
+-- the network is the one that the edit makes; or the edit is refused so and nothing changed; or
+-- memory ran out at an edit that isn't refused and nothing changed
+abbrev pub Applies : Result (Unit {0}) ApplyStop → Network → Network → Result Network Refusal
+    → Type 0
 Applies (Ok done) old new made = made ≡ Ok new
 Applies (Err (Refused r)) old new made = (made ≡ Err r) × (new ≡ old)
 Applies (Err Memory) old new made = IsAccepted made × (new ≡ old)

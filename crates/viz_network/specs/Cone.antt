@@ -1,5 +1,7 @@
--- The cone of a node: the node and all that lies upstream of it, as a tree in which a node that feeds two ports stands twice (VTK User's Guide, "The visualization pipeline").
-use Rattle.std.specs.Prelude.{ℕ, zero, suc, max, nat_eq, Bool, false, ◌||◌, List, [], ◌∷◌, Option, None, Some}
+-- The cone of a node: the node and all that lies upstream of it, as a tree in which a node that
+-- feeds two ports stands twice (VTK User's Guide, "The visualization pipeline").
+use Rattle.std.specs.Prelude.{ℕ, zero, suc, max, nat_eq, Bool, false, ◌||◌, List, [], ◌∷◌, Option}
+use Rattle.std.specs.Prelude.{None, Some}
 use Rattle.std.specs.Option.{option_map, option_map_or}
 use Rattle.viz_base.specs.declared.node.NodeId.{NodeId}
 use Rattle.viz_network.specs.declared.node.Node.{Node}
@@ -43,7 +45,8 @@ cone_of net id = above nodes_limit net id
 abbrev pub joined : {X : Type 0} → (X → X → X) → X → (Node → X) → Cone → X
 joined join start own none = start
 joined join start own (empty others) = joined join start own others
-joined join start own (fed node ports others) = join (join (own node) (joined join start own ports)) (joined join start own others)
+joined join start own (fed node ports others) = join
+    (join (own node) (joined join start own ports)) (joined join start own others)
 
 -- what the nodes of a cone have, joined
 abbrev pub total : {X : Type 0} → (X → X → X) → X → (Node → X) → Option Tree → X

@@ -1,4 +1,5 @@
--- Where the stamps of a node are equal, its cone is (VTK User's Guide, "The visualization pipeline": modification times).
+-- Where the stamps of a node are equal, its cone is (VTK User's Guide, "The visualization
+-- pipeline": modification times).
 use Rattle.std.specs.Prelude.{◌≡◌, ℕ, ◌<◌, ◌≤◌, List, [], ◌∷◌, ◌++◌, Option, None, Some}
 use Rattle.std.specs.List.{AllByRecursion}
 use Rattle.viz_base.specs.declared.node.NodeId.{NodeId}
@@ -20,7 +21,8 @@ IsClosed net = (x : ℕ) (n : Node) → node_of net x ≡ Some n → AllByRecurs
 -- the nodes ascend strictly by the positions of their Adds, so that no position stands twice
 abbrev pub IsAscending : Network → Type 0
 IsAscending [] = Unit {0}
-IsAscending (n ∷ net) = AllByRecursion (λ (m : List ℕ × Node). n.1.id.0 < m.1.id.0) net × IsAscending net
+IsAscending (n ∷ net) = AllByRecursion (λ (m : List ℕ × Node). n.1.id.0 < m.1.id.0) net
+    × IsAscending net
 
 -- no Add and no stamp is past p
 abbrev pub IsUpTo : ℕ → Network → Type 0
@@ -34,5 +36,6 @@ pub record IsSound (p : ℕ) (net : Network) : Type 0 where
 
 -- a node with equal stamps in the networks of a history and of a longer one has equal cones in them
 abbrev pub EqualStamps : Type 0
-EqualStamps = (edits more : List Edit) (id stamp : ℕ) → stamp_of (net_of edits) id ≡ Some stamp → stamp_of (net_of (edits ++ more)) id ≡ Some stamp
+EqualStamps = (edits more : List Edit) (id stamp : ℕ) → stamp_of (net_of edits) id ≡ Some stamp
+    → stamp_of (net_of (edits ++ more)) id ≡ Some stamp
     → cone_of (net_of edits) id ≡ cone_of (net_of (edits ++ more)) id

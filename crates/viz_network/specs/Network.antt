@@ -1,5 +1,7 @@
--- A network is its nodes in the order of their Adds, each with its name (VTK User's Guide, "The visualization pipeline").
-use Rattle.std.specs.Prelude.{ℕ, ◌-◌, nat_eq, if◌then◌else◌, List, [], ◌∷◌, slice_index_or, Option, None, Some}
+-- A network is its nodes in the order of their Adds, each with its name (VTK User's Guide, "The
+-- visualization pipeline").
+use Rattle.std.specs.Prelude.{ℕ, ◌-◌, nat_eq, if◌then◌else◌, List, [], ◌∷◌, slice_index_or, Option}
+use Rattle.std.specs.Prelude.{None, Some}
 use Rattle.std.specs.Cmp.Lexicographic.{pointwise}
 use Rattle.std.specs.Map.{lookup, remove_entry}
 use Rattle.viz_base.specs.declared.node.NodeId.{NodeId}
@@ -26,7 +28,8 @@ name_of (n ∷ net) id = if nat_eq id n.1.id.0 then Some n.0 else name_of net id
 -- the network with another node under this name
 abbrev pub change : (Node → Node) → Network → List ℕ → Network
 change f [] name = []
-change f (n ∷ net) name = if pointwise nat_eq name n.0 then (n.0, f n.1) ∷ net else n ∷ change f net name
+change f (n ∷ net) name = if pointwise nat_eq name n.0 then (n.0, f n.1) ∷ net
+    else n ∷ change f net name
 
 -- the network without the node of this name
 abbrev pub without : Network → List ℕ → Network

@@ -1,6 +1,7 @@
 //! The edits, on the nodes and on an order in which each node stands behind what feeds it.
 
-ghost use Rattle.std.specs.Prelude.{◌≡◌, ◌++◌, ◌∷◌, [], OnOk, OnErr, None, Some, not, filter, nat_eq};
+ghost use Rattle.std.specs.Prelude.{◌≡◌, ◌++◌, ◌∷◌, [], OnOk, OnErr, None, Some, not, filter};
+ghost use Rattle.std.specs.Prelude.{nat_eq};
 ghost use Rattle.viz_network.specs.Network.{named, without};
 ghost use Rattle.viz_network.specs.Edits.{apply, fresh, is_file as loadable};
 ghost use Rattle.viz_network.specs.Applies.{Applies, Decides, IsPast};

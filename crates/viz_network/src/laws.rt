@@ -1,5 +1,5 @@
-//! What the networks of a history keep. A law is a function that does nothing: its contract holds of
-//! the definitions alone.
+//! What the networks of a history keep. A law is a function that does nothing: its contract holds
+//! of the definitions alone.
 
 ghost use Rattle.std.specs.Prelude.{◌≡◌, ◌+◌, ◌<◌, ℕ, List, length, Result};
 ghost use Rattle.viz_network.specs.declared.edit.Edit.{Edit};
@@ -22,8 +22,8 @@ pub fn networks_are_sound()
         → Applies answer old new (apply at edit old) → IsSound at new }
 {}
 
-/// Where a node has equal stamps in the networks of a history and of a longer one, it has equal cones
-/// in them, with all parameters and files.
+/// Where a node has equal stamps in the networks of a history and of a longer one, it has equal
+/// cones in them, with all parameters and files.
 pub fn equal_stamps_are_equal_cones()
     ensures { EqualStamps }
 {}

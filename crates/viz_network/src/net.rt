@@ -169,7 +169,8 @@ impl Net {
         Some(stamp_in(&self.nodes, &self.order, node))
     }
 
-    /// The stamps of all nodes, for who asks for many: they cost as much as one. It takes no memory.
+    /// The stamps of all nodes, for who asks for many: they cost as much as one. It takes no
+    /// memory.
     pub fn stamps(&self) -> Stamps<'_>
         ensures { result ≡ self.now }
     {

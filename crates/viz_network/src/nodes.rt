@@ -1,6 +1,7 @@
 //! Nodes by their names and by their ranks.
 
-ghost use Rattle.std.specs.Prelude.{◌≡◌, ◌≤◌, ◌<◌, ◌++◌, ◌∷◌, [], OnOk, OnErr, IfSome, length, slice_get, Some, None, false};
+ghost use Rattle.std.specs.Prelude.{◌≡◌, ◌≤◌, ◌<◌, ◌++◌, ◌∷◌, [], OnOk, OnErr, IfSome, length};
+ghost use Rattle.std.specs.Prelude.{slice_get, Some, None, false};
 ghost use Rattle.std.specs.Option.{option_copied};
 ghost use Rattle.viz_network.specs.Network.{named, node_of, name_of, change, without};
 ghost use Rattle.viz_network.specs.Edits.{connected, valued, loaded, is_used, is_input};
@@ -34,8 +35,9 @@ pub fn rank_of(nodes: &Nodes, id: NodeId) -> Option<usize>
 /// For each rest of a position by 4096, a rank at which its node may stand.
 pub type Guesses = [u8; 4096];
 
-/// Puts a guess for each node into the table. A wrong guess costs a search, so nothing is promised of
-/// it; in a history of at most 4096 entries no two positions share a rest, and no guess is wrong.
+/// Puts a guess for each node into the table. A wrong guess costs a search, so nothing is promised
+/// of it; in a history of at most 4096 entries no two positions share a rest, and no guess is
+/// wrong.
 pub fn guess_all(nodes: &Nodes, guesses: &mut Guesses)
     requires { length nodes.now.entries ≤ 256 }
 {

@@ -1,6 +1,7 @@
 //! What each node's cone has, node by node in an order in which each stands behind what feeds it.
 
-ghost use Rattle.std.specs.Prelude.{◌≡◌, ◌<◌, ◌≤◌, ◌∷◌, [], IsSome, Some, length, slice_get, false, nat_eq, max};
+ghost use Rattle.std.specs.Prelude.{◌≡◌, ◌<◌, ◌≤◌, ◌∷◌, [], IsSome, Some, length, slice_get};
+ghost use Rattle.std.specs.Prelude.{false, nat_eq, max};
 ghost use Rattle.viz_network.specs.Network.{node_of};
 ghost use Rattle.viz_network.specs.Cone.{either, own_stamp, newest, cone_of};
 ghost use Rattle.viz_network.specs.Steps.Order.{IsOrder, rank_of as ranked, Has};

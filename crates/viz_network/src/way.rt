@@ -25,8 +25,9 @@ fn stands_before(order: &[NodeId], first: NodeId, second: NodeId) -> bool
     false
 }
 
-/// Puts the source in front of the target, unless a connection from it to the target closes a cycle.
-/// An order in which it stands there stays; else all that lies downstream of the target moves back.
+/// Puts the source in front of the target, unless a connection from it to the target closes a
+/// cycle. An order in which it stands there stays; else all that lies downstream of the target
+/// moves back.
 pub fn make_way(nodes: &Nodes, order: &mut Vec<NodeId>, source: NodeId, target: NodeId) -> bool
     requires order { IsOrder nodes.now.entries order.old.items }
     requires source { IsSome (node_of nodes.now.entries source.0) }

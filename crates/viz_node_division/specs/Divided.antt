@@ -107,6 +107,7 @@ abbrev pub DividedRule : NodeRule Divided
 DividedRule n inputs (Ok made) = IsMadeOf n.settings n.file inputs made
 DividedRule n inputs (Err cause) = IsExact n.settings n.file (wholes inputs) (Err cause)
 
--- what the node at the foot of a cone gives in whole numbers without bound, and how it is shared out
+-- what the node at the foot of a cone gives in whole numbers without bound, and how it is shared
+-- out
 pub record IsDivided (cone : Option Tree) (whole : Dataset) (division : Division) : Type 0 where
   pub given : IsGiven DividedRule cone (Ok (record { whole = whole; division = division }))

@@ -1,5 +1,7 @@
--- What a node's dataset is, from the datasets at its ports (VTK User's Guide, "The visualization pipeline": the data pass; docs/FORMATS.md, "What a node gives").
-use Rattle.std.specs.Prelude.{◌≡◌, ℕ, ℤ, List, [], ◌∷◌, map, take, min, Option, None, Some, Result, Ok, Err}
+-- What a node's dataset is, from the datasets at its ports (VTK User's Guide, "The visualization
+-- pipeline": the data pass; docs/FORMATS.md, "What a node gives").
+use Rattle.std.specs.Prelude.{◌≡◌, ℕ, ℤ, List, [], ◌∷◌, map, take, min, Option, None, Some, Result}
+use Rattle.std.specs.Prelude.{Ok, Err}
 use Rattle.std.specs.Option.{option_map}
 use Rattle.viz_base.specs.declared.node.Pick.{Pick}
 use Rattle.viz_lex.specs.declared.fault.FileFault.{FileFault}
@@ -29,7 +31,8 @@ use Rattle.viz_network.specs.declared.fault.Cause.{Cause}
 use Rattle.viz_network.specs.declared.fault.Cause.TheVariants.{NoFile, BadFile, TooWide}
 use Rattle.viz_node_meaning.specs.Rules.{Inputs, NodeRule}
 use Rattle.viz_node_meaning.specs.declared.information.Information.{Information}
-use Rattle.viz_node_meaning.specs.Information.{information_of, filter_information, fed_at, rate_with, box_with, within}
+use Rattle.viz_node_meaning.specs.Information.{information_of, filter_information, fed_at}
+use Rattle.viz_node_meaning.specs.Information.{rate_with, box_with, within}
 
 -- ---- files
 
@@ -41,7 +44,8 @@ unit_with unit = within 0 9 unit
 abbrev pub IsReadingOf : Pick → ℕ → Option (List ℕ) → Result Dataset Cause → Type 0
 IsReadingOf array unit None r = r ≡ Err NoFile
 IsReadingOf array unit (Some bytes) (Ok d) = Reads bytes array unit d
-IsReadingOf array unit (Some bytes) (Err cause) = (fault : FileFault) × Stops bytes array unit fault × (cause ≡ BadFile fault)
+IsReadingOf array unit (Some bytes) (Err cause) = (fault : FileFault)
+    × Stops bytes array unit fault × (cause ≡ BadFile fault)
 
 -- ---- image filters
 
@@ -55,7 +59,8 @@ IsOfOne filter (Some (Image i)) r = IsWhole (filter (whole_of i)) r
 IsOfOne filter _ r = ⊥
 
 -- the same of two images
-abbrev pub IsOfTwo : (WholeImage → WholeImage → WholeImage) → Option Dataset → Option Dataset → Result Dataset Cause → Type 0
+abbrev pub IsOfTwo : (WholeImage → WholeImage → WholeImage) → Option Dataset → Option Dataset
+    → Result Dataset Cause → Type 0
 IsOfTwo filter (Some (Image a)) (Some (Image b)) r = IsWhole (filter (whole_of a) (whole_of b)) r
 IsOfTwo filter _ _ r = ⊥
 
@@ -78,7 +83,8 @@ contour_forms count levels = map contour_form (take (min count 8) levels)
 
 -- the sections of a dataset by forms, or that a number of one is wide
 abbrev pub IsSection : List Form → Dataset → Result Dataset Cause → Type 0
-IsSection forms d (Ok made) = AreNarrowSections forms (sheets_of d) × (made ≡ Mesh (sections_of forms (sheets_of d)))
+IsSection forms d (Ok made) = AreNarrowSections forms (sheets_of d)
+    × (made ≡ Mesh (sections_of forms (sheets_of d)))
 IsSection forms d (Err cause) = (AreNarrowSections forms (sheets_of d) → ⊥) × (cause ≡ TooWide)
 
 -- the form of a plane, as the one of a list
@@ -98,7 +104,8 @@ AreTetrahedra (Some (Image i)) r = r ≡ Ok (Mesh (tetrahedra_sheet i ∷ []))
 AreTetrahedra _ r = ⊥
 
 -- what a filter of meshes makes of the mesh at a port
-abbrev pub IsOfMesh : (List SheetData → List SheetData) → Option Dataset → Result Dataset Cause → Type 0
+abbrev pub IsOfMesh : (List SheetData → List SheetData) → Option Dataset → Result Dataset Cause
+    → Type 0
 IsOfMesh filter (Some (Mesh sheets)) r = r ≡ Ok (Mesh (filter sheets))
 IsOfMesh filter _ r = ⊥
 
@@ -116,19 +123,26 @@ meshes_in (_ ∷ inputs) = meshes_in inputs
 
 -- what a filter makes of the datasets at its ports, which have what it takes
 abbrev pub IsFiltered : Settings → Inputs Dataset → Result Dataset Cause → Type 0
-IsFiltered (settings.Crop x0 x1 y0 y1 z0 z1) inputs r = IsOfOne (crop_of (box_with x0 x1 y0 y1 z0 z1)) (fed_at 1 inputs) r
-IsFiltered (settings.Sample x y z) inputs r = IsOfOne (sample_of (rate_with x y z)) (fed_at 1 inputs) r
+IsFiltered (settings.Crop x0 x1 y0 y1 z0 z1) inputs r = IsOfOne
+    (crop_of (box_with x0 x1 y0 y1 z0 z1)) (fed_at 1 inputs) r
+IsFiltered (settings.Sample x y z) inputs r = IsOfOne (sample_of (rate_with x y z))
+    (fed_at 1 inputs) r
 IsFiltered (settings.Threshold lo hi) inputs r = IsOfOne (threshold_of lo hi) (fed_at 1 inputs) r
-IsFiltered (settings.Smooth radius) inputs r = IsOfOne (smooth_of (radius_with radius)) (fed_at 1 inputs) r
-IsFiltered (settings.Arith op) inputs r = IsOfTwo (arith_of (op_with op)) (fed_at 1 inputs) (fed_at 2 inputs) r
+IsFiltered (settings.Smooth radius) inputs r = IsOfOne (smooth_of (radius_with radius))
+    (fed_at 1 inputs) r
+IsFiltered (settings.Arith op) inputs r = IsOfTwo (arith_of (op_with op)) (fed_at 1 inputs)
+    (fed_at 2 inputs) r
 IsFiltered settings.Tets inputs r = AreTetrahedra (fed_at 1 inputs) r
-IsFiltered (settings.Select lo hi all) inputs r = IsOfMesh (selections all lo hi) (fed_at 1 inputs) r
-IsFiltered (settings.Contour count levels) inputs r = IsSectionOf (contour_forms count levels) (fed_at 1 inputs) r
+IsFiltered (settings.Select lo hi all) inputs r = IsOfMesh (selections all lo hi)
+    (fed_at 1 inputs) r
+IsFiltered (settings.Contour count levels) inputs r = IsSectionOf (contour_forms count levels)
+    (fed_at 1 inputs) r
 IsFiltered (settings.Cut a b c k) inputs r = IsSectionOf (cut_forms a b c k) (fed_at 1 inputs) r
 IsFiltered settings.Append inputs r = r ≡ Ok (Mesh (appended (meshes_in inputs)))
 IsFiltered settings.Boundary inputs r = IsOfMesh boundaries (fed_at 1 inputs) r
 IsFiltered settings.Merge inputs r = IsOfMesh merge_of (fed_at 1 inputs) r
-IsFiltered (settings.Writer binary digits) inputs r = (d : Dataset) × (fed_at 1 inputs ≡ Some d) × (r ≡ Ok d)
+IsFiltered (settings.Writer binary digits) inputs r = (d : Dataset) × (fed_at 1 inputs ≡ Some d)
+    × (r ≡ Ok d)
 IsFiltered (settings.File array unit) inputs r = ⊥
 
 -- the information at the ports
@@ -136,14 +150,16 @@ abbrev pub all_information : Inputs Dataset → Inputs Information
 all_information inputs = map (option_map information_of) inputs
 
 -- what is made where the information at the ports is taken; else the cause
-abbrev pub IsMadeWith : Result Information Cause → (Result Dataset Cause → Type 0) → Result Dataset Cause → Type 0
+abbrev pub IsMadeWith : Result Information Cause → (Result Dataset Cause → Type 0)
+    → Result Dataset Cause → Type 0
 IsMadeWith (Ok i) made r = made r
 IsMadeWith (Err cause) made r = r ≡ Err cause
 
 -- what a node with these parameters and this file makes of the datasets at its ports
 abbrev pub IsEvaluated : Settings → Option (List ℕ) → Inputs Dataset → Result Dataset Cause → Type 0
 IsEvaluated (settings.File array unit) file inputs r = IsReadingOf array (unit_with unit) file r
-IsEvaluated settings file inputs r = IsMadeWith (filter_information settings (all_information inputs)) (IsFiltered settings inputs) r
+IsEvaluated settings file inputs r = IsMadeWith
+    (filter_information settings (all_information inputs)) (IsFiltered settings inputs) r
 
 -- the data rule of a node
 abbrev pub DataRule : NodeRule Dataset

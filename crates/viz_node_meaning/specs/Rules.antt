@@ -1,4 +1,5 @@
--- A rule for one node: what it makes of what feeds its ports, or why it makes nothing (VTK User's Guide, "The visualization pipeline").
+-- A rule for one node: what it makes of what feeds its ports, or why it makes nothing (VTK User's
+-- Guide, "The visualization pipeline").
 use Rattle.std.specs.Prelude.{◌≡◌, List, Option, Result}
 use Rattle.viz_network.specs.declared.node.Node.{Node}
 use Rattle.viz_network.specs.declared.fault.Cause.{Cause}
@@ -13,4 +14,5 @@ NodeRule X = Node → Inputs X → Result X Cause → Type 0
 
 -- a rule has at most one result for each node and inputs
 abbrev pub IsOne : {X : Type 0} → NodeRule X → Type 0
-IsOne {X} rule = (n : Node) (inputs : Inputs X) (a b : Result X Cause) → rule n inputs a → rule n inputs b → a ≡ b
+IsOne {X} rule = (n : Node) (inputs : Inputs X) (a b : Result X Cause) → rule n inputs a
+    → rule n inputs b → a ≡ b

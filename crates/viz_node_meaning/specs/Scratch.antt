@@ -1,4 +1,6 @@
--- Evaluation from scratch: what a node of a network gives, by recursion over all that lies upstream of it (VTK User's Guide, "The visualization pipeline"; docs/FORMATS.md, "What a node gives").
+-- Evaluation from scratch: what a node of a network gives, by recursion over all that lies
+-- upstream of it (VTK User's Guide, "The visualization pipeline"; docs/FORMATS.md, "What a node
+-- gives").
 use Rattle.std.specs.Prelude.{◌≡◌, ℕ, Option, Result, Ok, Err}
 use Rattle.viz_dataset.specs.declared.dataset.Dataset.{Dataset}
 use Rattle.viz_network.specs.declared.fault.Fault.{Fault}
@@ -16,7 +18,8 @@ abbrev pub IsBehind : Result Information Fault → Option Tree → Result Datase
 IsBehind (Err fault) t r = r ≡ Err fault
 IsBehind (Ok i) t r = IsGiven DataRule t r
 
--- what the node at the foot of a cone gives: the first information fault, or the first data fault, or its dataset
+-- what the node at the foot of a cone gives: the first information fault, or the first data fault,
+-- or its dataset
 abbrev pub IsScratchOf : Option Tree → Result Dataset Fault → Type 0
 IsScratchOf t r = (i : Result Information Fault) × IsGiven InformationRule t i × IsBehind i t r
 

@@ -26,8 +26,8 @@ pub fn scratch_is_one()
     rules_are_one();
 }
 
-/// Where a node has equal stamps in the networks of a history and of a longer one, it gives the same
-/// in both.
+/// Where a node has equal stamps in the networks of a history and of a longer one, it gives the
+/// same in both.
 pub fn equal_stamps_give_one()
     ensures { EqualStampsGiveOne }
 {

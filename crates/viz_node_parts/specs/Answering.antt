@@ -67,8 +67,8 @@ pub record IsGivenBy (cone : Option Tree) (made : Divided) : Type 0 where
 abbrev pub IsGivenAnywhere : Divided → Type 0
 IsGivenAnywhere made = (cone : Option Tree) × IsGivenBy cone made
 
--- what a kind asks for beside: sections of sheets of names of one level each, a merge of all that it
--- is made of, and a file that its node reads in a network
+-- what a kind asks for beside: sections of sheets of names of one level each, a merge of all that
+-- it is made of, and a file that its node reads in a network
 abbrev pub Suits : Settings → Inputs Divided → Divided → Type 0
 Suits (settings.File array unit) inputs made = IsGivenAnywhere made
 Suits (settings.Contour count levels) inputs made = IsLeveledAt (fed_at 1 inputs)

@@ -1,5 +1,6 @@
 -- What nodes upstream give, in a table by the places of their steps.
-use Rattle.std.specs.Prelude.{◌≡◌, ℕ, List, slice_get, slice_index_or, Option, None, Some, Result, Ok, Err}
+use Rattle.std.specs.Prelude.{◌≡◌, ℕ, List, slice_get, slice_index_or, Option, None, Some, Result}
+use Rattle.std.specs.Prelude.{Ok, Err}
 use Rattle.viz_network.specs.declared.fault.Fault.{Fault}
 
 -- what each step gives; nothing where it isn't asked for, or was given up

@@ -45,7 +45,8 @@ fn of_read(stop: ReadStop) -> OwnStop
 ///
 /// # Errors
 ///
-/// `Cause` exactly where there is no file, or it has a fault; want of memory may come in place of it.
+/// `Cause` exactly where there is no file, or it has a fault; want of memory may come in place of
+/// it.
 pub fn file_dataset(
     alloc: Global,
     file: &Option<Shared<Bytes>>,

@@ -6,7 +6,8 @@ ghost use Rattle.viz_dataset.specs.declared.dataset.Dataset.TheVariants.{Image a
 ghost use Rattle.viz_legacy_read.specs.Reading.{IsSound};
 ghost use Rattle.viz_extent.specs.Extent.{bounds_of};
 ghost use Rattle.viz_extent.specs.Parts.{rate_of, IsRate};
-ghost use Rattle.viz_meaning.specs.ImageFilters.{crop_of, sample_of, threshold_of, smooth_of, arith_of};
+ghost use Rattle.viz_meaning.specs.ImageFilters.{crop_of, sample_of, threshold_of, smooth_of};
+ghost use Rattle.viz_meaning.specs.ImageFilters.{arith_of};
 ghost use Rattle.viz_node_meaning.specs.Data.{op_with, radius_with};
 ghost use Rattle.viz_node_meaning.specs.Information.{cropped, thinned};
 ghost use Rattle.viz_node_rules.specs.Makes.{Makes};
@@ -83,7 +84,8 @@ pub fn threshold_input(
     hi: &i64,
     input: Option<&Shared<Dataset>>,
 ) -> Result<Dataset, OwnStop>
-    ensures value { Makes (IsFromOne (λ g. Ok g) (threshold_of lo.now hi.now) (option_copied input.entry))
+    ensures value { Makes (IsFromOne (λ g. Ok g) (threshold_of lo.now hi.now)
+        (option_copied input.entry))
         result }
     ensures sound { IfOk result IsSound }
 {
@@ -97,7 +99,8 @@ pub fn smooth_input(
     radius: u32,
     input: Option<&Shared<Dataset>>,
 ) -> Result<Dataset, OwnStop>
-    ensures value { Makes (IsFromOne (λ g. Ok g) (smooth_of (radius_with radius)) (option_copied input.entry))
+    ensures value { Makes (IsFromOne (λ g. Ok g) (smooth_of (radius_with radius))
+        (option_copied input.entry))
         result }
     ensures sound { IfOk result IsSound }
 {
@@ -113,7 +116,8 @@ pub fn arith_inputs(
     first: Option<&Shared<Dataset>>,
     second: Option<&Shared<Dataset>>,
 ) -> Result<Dataset, OwnStop>
-    ensures value { Makes (IsFromTwo (arith_of (op_with op)) (option_copied first.entry) (option_copied second.entry))
+    ensures value { Makes (IsFromTwo (arith_of (op_with op)) (option_copied first.entry)
+        (option_copied second.entry))
         result }
     ensures sound { IfOk result IsSound }
 {

@@ -4,7 +4,10 @@ ghost use Rattle.std.specs.Prelude.{◌≡◌};
 ghost use Rattle.viz_dataset.specs.Images.{vector_of, IsImage};
 ghost use Rattle.viz_extent.specs.Extent.{bounds_of};
 ghost use Rattle.viz_extent.specs.Parts.{rate_of, IsRate};
-ghost use Rattle.viz_node_meaning.specs.Information.{information_of, information_in, grid_of, lengths_of, is_short, cropped, thinned, longer, longer_step, shared_grid, same_lengths, same_extent};
+ghost use Rattle.viz_node_meaning.specs.Information.{information_of, information_in, grid_of};
+ghost use Rattle.viz_node_meaning.specs.Information.{lengths_of, is_short, cropped, thinned};
+ghost use Rattle.viz_node_meaning.specs.Information.{longer, longer_step, shared_grid};
+ghost use Rattle.viz_node_meaning.specs.Information.{same_lengths, same_extent};
 
 use viz_dataset::{Dataset, Image, Info};
 use viz_extent::Extent;

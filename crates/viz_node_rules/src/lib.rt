@@ -1,10 +1,11 @@
 //! What one node of a network makes of what feeds its ports: of what is known of the datasets
 //! there, and of the datasets themselves.
 //!
-//! Contract: `own_information` and `own_dataset` give just what the rules of `viz_node_meaning` say,
-//! or the node's own fault; `file_dataset` and the calls for parameters, which nodes on parts share,
-//! what the same rules say of a file and of each parameter. `specs/Makes.antt` leaves want of memory free, `specs/Places.antt` says
-//! what a table has of a port, and `specs/Steps/` has the words of private contracts.
+//! Contract: `own_information` and `own_dataset` give just what the rules of `viz_node_meaning`
+//! say, or the node's own fault; `file_dataset` and the calls for parameters, which nodes on parts
+//! share, what the same rules say of a file and of each parameter. `specs/Makes.antt` leaves want
+//! of memory free, `specs/Places.antt` says what a table has of a port, and `specs/Steps/` has the
+//! words of private contracts.
 #![tactic(auto)]
 
 mod contours;

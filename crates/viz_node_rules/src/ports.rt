@@ -2,7 +2,8 @@
 
 ghost use Rattle.std.specs.Prelude.{◌≡◌};
 ghost use Rattle.std.specs.List.{list_any};
-ghost use Rattle.viz_node_meaning.specs.Information.{either_in, grid_in, is_fed, is_image, mesh_in, meshes_at, meshes_from};
+ghost use Rattle.viz_node_meaning.specs.Information.{either_in, grid_in, is_fed, is_image};
+ghost use Rattle.viz_node_meaning.specs.Information.{mesh_in, meshes_at, meshes_from};
 
 use viz_network::Cause;
 use viz_node_meaning::{Grid, Information};

@@ -1,4 +1,5 @@
--- What a run did to the outside: calls of a port, files, and the line put (docs/DEFINITIONS.md, "The account of a run").
+-- What a run did to the outside: calls of a port, files, and the line put (docs/DEFINITIONS.md,
+-- "The account of a run").
 use Rattle.std.specs.Prelude.{◌≡◌, ℕ, List, [], ◌∷◌, ◌⊎◌, Ok}
 use Rattle.viz_base.specs.declared.port.Port as port
 use Rattle.viz_base.specs.declared.out.Out as out
@@ -22,7 +23,8 @@ use Rattle.viz_once.specs.Report.{telling_of}
 
 -- ---- a port
 
--- what a command did at its port: no call that was answered; a read; or a read of these bytes, and a write of this text
+-- what a command did at its port: no call that was answered; a read; or a read of these bytes, and
+-- a write of this text
 pub data Deed : Type 0 where
   Nothing : Deed
   Asked : ReadAnswer → Deed
@@ -32,7 +34,8 @@ pub data Deed : Type 0 where
 abbrev pub calls_of : Command → Deed → List Call
 calls_of c Nothing = []
 calls_of c (Asked answer) = Read c.input answer ∷ []
-calls_of c (Answered bytes text answer) = Read c.input (read.Given bytes) ∷ Write c.output text answer ∷ []
+calls_of c (Answered bytes text answer) = Read c.input
+    (read.Given bytes) ∷ Write c.output text answer ∷ []
 
 -- ---- outcomes
 
@@ -46,12 +49,14 @@ EndsUnwritten c (read.Given bytes) o = (o ≡ outcome.Memory) ⊎ Refuses c (rea
 EndsUnwritten c (read.TooLong taken) o = Refuses c (read.TooLong taken) o
 EndsUnwritten c read.Failed o = o ≡ outcome.Fault call.Read
 
--- the outcome of a command that wrote this text, by what the write answered: the text is the file that the fixed history of the bytes
--- gives, and its numbers are told where it was written
+-- the outcome of a command that wrote this text, by what the write answered: the text is the file
+-- that the fixed history of the bytes gives, and its numbers are told where it was written
 abbrev pub EndsWritten : Command → List ℕ → List ℕ → WriteAnswer → Outcome → Type 0
 EndsWritten c bytes text write.Written o =
-    (cells points : ℕ) × IsMadeFor c.filter bytes text cells points × (o ≡ outcome.Written cells points)
-EndsWritten c bytes text write.Failed o = IsFileFor c.filter bytes (Ok text) × (o ≡ outcome.Fault call.Write)
+    (cells points : ℕ) × IsMadeFor c.filter bytes text cells points
+    × (o ≡ outcome.Written cells points)
+EndsWritten c bytes text write.Failed o = IsFileFor c.filter bytes (Ok text)
+    × (o ≡ outcome.Fault call.Write)
 
 -- the outcome of a command that did this
 abbrev pub IsOutcomeOf : Command → Deed → Outcome → Type 0
@@ -63,7 +68,8 @@ IsOutcomeOf c (Answered bytes text answer) o = EndsWritten c bytes text answer o
 abbrev pub IsServed : {P : Type 0} → port.Ghosts P → Command → Outcome → P → P → Type 0
 IsServed m c o old new = (deed : Deed) × IsOutcomeOf c deed o × IsCalled m (calls_of c deed) old new
 
--- the first port served a command, and all other ports are as before; where there is none nothing is done
+-- the first port served a command, and all other ports are as before; where there is none nothing
+-- is done
 abbrev pub Serves : {P : Type 0} → port.Ghosts P → Command → Outcome → List P → List P → Type 0
 Serves m c o [] new = (o ≡ outcome.NoPort) × (new ≡ [])
 Serves m c o (p ∷ ps) [] = ⊥
@@ -71,7 +77,8 @@ Serves m c o (p ∷ ps) (q ∷ qs) = IsServed m c o p q × (qs ≡ ps)
 
 -- ---- a run
 
--- what a run was: an outcome of its command, what was done at the ports, and the line put with the status
+-- what a run was: an outcome of its command, what was done at the ports, and the line put with the
+-- status
 pub record IsRun {P O : Type 0} (ports : port.Ghosts P) (output : out.Ghosts O) (c : Command)
     (old new : List P) (before after : O) (ended : Status) : Type 0 where
   pub found : Outcome

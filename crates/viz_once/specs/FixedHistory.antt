@@ -1,5 +1,7 @@
--- The fixed history of a command of one file: a source, and the filter behind it (docs/DEFINITIONS.md, "The fixed history of one file").
-use Rattle.std.specs.Prelude.{◌≡◌, ℕ, ℤ, pos, int_le, Bool, true, ◌&&◌, List, [], ◌∷◌, replicate, codes, Result, Ok}
+-- The fixed history of a command of one file: a source, and the filter behind it
+-- (docs/DEFINITIONS.md, "The fixed history of one file").
+use Rattle.std.specs.Prelude.{◌≡◌, ℕ, ℤ, pos, int_le, Bool, true, ◌&&◌, List, [], ◌∷◌, replicate}
+use Rattle.std.specs.Prelude.{codes, Result, Ok}
 use Rattle.viz_entries.specs.declared.entry.Entry.{Entry}
 use Rattle.viz_entries.specs.History.{entry, network_of}
 use Rattle.viz_kinds.specs.declared.kind.Kind.{Kind}
@@ -53,7 +55,8 @@ HasNumbers (Contour level) = fits_i64 level ≡ true
 -- the source and its file, the filter's node behind it, and the filter's numbers, by the first pass
 abbrev pub history_of : Filter → List ℕ → List Entry
 history_of filter bytes =
-    entry 0 1 (Add kind.File source) ∷ entry 0 2 (Load source bytes) ∷ entry 0 3 (Add (kind_of filter) op)
+    entry 0 1 (Add kind.File source) ∷ entry 0 2 (Load source bytes) ∷ entry 0 3
+    (Add (kind_of filter) op)
     ∷ entry 0 4 (Connect source op 1) ∷ entry 0 5 (Set op (param_of filter) (value_of filter)) ∷ []
 
 -- the network of the fixed history

@@ -7,8 +7,10 @@ use Rattle.viz_once.specs.FixedHistory.{HasNumbers, history_of}
 
 -- the numbers of the filter that words tell are of 64 bits
 abbrev pub WordsHaveNumbers : Type 0
-WordsHaveNumbers = (words : List (List ℕ)) (c : Command) → once_of words ≡ Some c → HasNumbers c.filter
+WordsHaveNumbers = (words : List (List ℕ)) (c : Command) → once_of words ≡ Some c
+    → HasNumbers c.filter
 
 -- each edit of the fixed history is accepted
 abbrev pub HistoriesAreLegal : Type 0
-HistoriesAreLegal = (filter : Filter) (bytes : List ℕ) → HasNumbers filter → IsLegal (history_of filter bytes)
+HistoriesAreLegal = (filter : Filter) (bytes : List ℕ) → HasNumbers filter
+    → IsLegal (history_of filter bytes)

@@ -1,4 +1,5 @@
--- What a run of a command of one file promises of its status, its line, its calls and the files (docs/FORMATS.md, "Report").
+-- What a run of a command of one file promises of its status, its line, its calls and the files
+-- (docs/FORMATS.md, "Report").
 use Rattle.std.specs.Prelude.{◌≡◌, ℕ, List, [], ◌∷◌, ◌++◌, ◌⊎◌, Ok, IsTrue}
 use Rattle.viz_base.specs.Faults.{Rose}
 use Rattle.viz_base.specs.declared.port.Port as port
@@ -25,23 +26,31 @@ abbrev pub FirstDid : {P : Type 0} → port.Ghosts P → Command → Deed → Li
 FirstDid m c deed old new = FirstOnly (IsCalled m (calls_of c deed)) old new
 
 -- the first port was asked for the input alone, and answered so
-abbrev pub FirstAnswered : {P : Type 0} → port.Ghosts P → Command → ReadAnswer → List P → List P → Type 0
+abbrev pub FirstAnswered : {P : Type 0} → port.Ghosts P → Command → ReadAnswer → List P → List P
+    → Type 0
 FirstAnswered m c answer old new = FirstOnly (HasAnswered m c.input answer) old new
 
 -- ---- of the statuses
 
 -- a run that answers Script: there is no port
-abbrev pub IsScript : {P O : Type 0} → port.Ghosts P → out.Ghosts O → List P → List P → O → O → Type 0
-IsScript m o old new before after = (old ≡ []) × (new ≡ []) × PutsOrBreaks o no_port_line before after
+abbrev pub IsScript : {P O : Type 0} → port.Ghosts P → out.Ghosts O → List P → List P → O → O
+    → Type 0
+IsScript m o old new before after = (old ≡ []) × (new ≡ [])
+    × PutsOrBreaks o no_port_line before after
 
--- a run that answers Done read some bytes, wrote the file that their fixed history gives, and told its numbers
-abbrev pub IsDone : {P O : Type 0} → port.Ghosts P → out.Ghosts O → Command → List P → List P → O → O → Type 0
+-- a run that answers Done read some bytes, wrote the file that their fixed history gives, and told
+-- its numbers
+abbrev pub IsDone : {P O : Type 0} → port.Ghosts P → out.Ghosts O → Command → List P → List P → O
+    → O → Type 0
 IsDone m o c old new before after =
     (bytes text : List ℕ) × (cells points : ℕ) × IsMadeFor c.filter bytes text cells points
-    × FirstDid m c (Answered bytes text Written) old new × GainsLine o (file_line cells points) before after
+    × FirstDid m c (Answered bytes text Written) old new
+    × GainsLine o (file_line cells points) before after
 
--- a run that answers Refused read its input and did nothing else; a reason for it holds, and was told
-abbrev pub IsRefused : {P O : Type 0} → port.Ghosts P → out.Ghosts O → Command → List P → List P → O → O → Type 0
+-- a run that answers Refused read its input and did nothing else; a reason for it holds, and was
+-- told
+abbrev pub IsRefused : {P O : Type 0} → port.Ghosts P → out.Ghosts O → Command → List P → List P
+    → O → O → Type 0
 IsRefused m o c old new before after =
     (answer : ReadAnswer) × (why : Reason) × IsReason c.filter answer why
     × FirstDid m c (Asked answer) old new × GainsLine o (refused_line why) before after
@@ -52,12 +61,14 @@ EndsRefused m why old new ended =
     ((ended ≡ status.Refused) × GainsLine m (refused_line why) old new)
     ⊎ (((ended ≡ status.Fault) × Rose (m.faults old) (m.faults new)) ⊎ (ended ≡ status.Memory))
 
--- where there is no port, that is told; and where the read of the input was answered so, and nothing else was called, a reason for a
--- refusal is told
-pub record TellsRefusals {P O : Type 0} (m : port.Ghosts P) (o : out.Ghosts O) (c : Command) (old new : List P)
+-- where there is no port, that is told; and where the read of the input was answered so, and
+-- nothing else was called, a reason for a refusal is told
+pub record TellsRefusals {P O : Type 0} (m : port.Ghosts P) (o : out.Ghosts O) (c : Command)
+    (old new : List P)
     (before after : O) (ended : Status) : Type 0 where
   pub no_port : old ≡ [] → EndsInScript o no_port_line before after ended
-  pub reasons : (answer : ReadAnswer) (why : Reason) → IsReason c.filter answer why → IsTrue m.tells_calls
+  pub reasons : (answer : ReadAnswer) (why : Reason) → IsReason c.filter answer why
+      → IsTrue m.tells_calls
       → FirstAnswered m c answer old new → EndsRefused o why before after ended
 
 -- the line of a failed call
@@ -72,7 +83,8 @@ WritesFile c (Answered bytes text answer) = IsFileFor c.filter bytes (Ok text)
 WritesFile c deed = Unit {0}
 
 -- a run that answers Fault: a call of the first port failed, and that was told; or the put failed
-abbrev pub IsFault : {P O : Type 0} → port.Ghosts P → out.Ghosts O → Command → List P → List P → O → O → Type 0
+abbrev pub IsFault : {P O : Type 0} → port.Ghosts P → out.Ghosts O → Command → List P → List P → O
+    → O → Type 0
 IsFault m o c old new before after =
     ((deed : Deed) × HasFailed (calls_of c deed) × WritesFile c deed × FirstDid m c deed old new
     × GainsLine o (fault_line deed) before after)

@@ -9,12 +9,15 @@ use Rattle.viz_report.specs.declared.line.Reason.TheVariants as reason
 use Rattle.viz_once.specs.declared.command.Filter.{Filter}
 use Rattle.viz_once.specs.FixedHistory.{network_for, IsFileFor}
 
--- the filter's node has no file in the network of the fixed history, for this fault of the node of this name
-pub record IsFaultFor (filter : Filter) (bytes : List ℕ) (fault : Fault) (name : List ℕ) : Type 0 where
+-- the filter's node has no file in the network of the fixed history, for this fault of the node of
+-- this name
+pub record IsFaultFor (filter : Filter) (bytes : List ℕ) (fault : Fault)
+    (name : List ℕ) : Type 0 where
   pub file : IsFileFor filter bytes (Err fault)
   pub named : name_of (network_for filter bytes) fault.node.0 ≡ Some name
 
--- when a command is refused for a reason, by what its read answered: the file is too long to be loaded, or the filter's node has no file
+-- when a command is refused for a reason, by what its read answered: the file is too long to be
+-- loaded, or the filter's node has no file
 abbrev pub IsReason : Filter → ReadAnswer → Reason → Type 0
 IsReason filter (read.TooLong taken) why = why ≡ reason.TooLong
 IsReason filter (read.Given bytes) (reason.Fault fault name) = IsFaultFor filter bytes fault name

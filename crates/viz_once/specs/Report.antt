@@ -13,7 +13,8 @@ use Rattle.viz_once.specs.declared.outcome.Outcome.TheVariants as outcome
 
 -- a file was written
 unfoldable pub file_line : ℕ → ℕ → List ℕ
-file_line cells points = codes "file cells " ++ decimal cells ++ codes " points " ++ decimal points ++ codes "\n"
+file_line cells points = codes "file cells " ++ decimal cells ++ codes " points " ++ decimal points
+    ++ codes "\n"
 
 -- the command is refused, in the words that a report has for it
 unfoldable pub refused_line : Reason → List ℕ

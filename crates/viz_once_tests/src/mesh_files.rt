@@ -20,9 +20,9 @@ LOOKUP_TABLE default
 
 pub const GRID_REPORT: &str = "file cells 2 points 3\n";
 
-// Its contour at 1, where all points but the first are inside. The ends 01, 02 and 03 are the second
-// point itself, a half and a third of the way: the tetrahedron has the triangle (02, 01, 03), and
-// the triangle has the line (02, 01).
+// Its contour at 1, where all points but the first are inside. The ends 01, 02 and 03 are the
+// second point itself, a half and a third of the way: the tetrahedron has the triangle (02, 01,
+// 03), and the triangle has the line (02, 01).
 pub const GRID_CONTOUR: &str = "# vtk DataFile Version 3.0
 vizrun fixed 10^-3
 ASCII
@@ -112,8 +112,8 @@ LOOKUP_TABLE default
 
 pub const POLYLINE_REPORT: &str = "file cells 2 points 2\n";
 
-// Its contour at 1: two thirds of the way along the first line, at -1/3, -1/3 and 2/3, and one third
-// along the second. The vertex has none.
+// Its contour at 1: two thirds of the way along the first line, at -1/3, -1/3 and 2/3, and one
+// third along the second. The vertex has none.
 pub const POLYLINE_CONTOUR: &str = "# vtk DataFile Version 3.0
 vizrun fixed 10^-3
 ASCII

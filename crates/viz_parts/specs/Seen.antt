@@ -1,8 +1,11 @@
--- What a piece sees of a whole: which cells it has, and how far each is from its own ones (VTK User's Guide, "Streaming").
-use Rattle.std.specs.Prelude.{◌≡◌, ◌↔◌, ℕ, ◌+◌, ◌<◌, ◌≤◌, Bool, true, Option, Some, None, List, [], ◌∷◌, map, Contains}
+-- What a piece sees of a whole: which cells it has, and how far each is from its own ones (VTK
+-- User's Guide, "Streaming").
+use Rattle.std.specs.Prelude.{◌≡◌, ◌↔◌, ℕ, ◌+◌, ◌<◌, ◌≤◌, Bool, true, Option, Some, None, List, []}
+use Rattle.std.specs.Prelude.{◌∷◌, map, Contains}
 use Rattle.std.specs.List.{flat_map}
 
--- a cell of the whole, by its names: whether it is the piece's own, and its ghost level where the piece has it
+-- a cell of the whole, by its names: whether it is the piece's own, and its ghost level where the
+-- piece has it
 pub record Seen : Type 0 where
   pub cell : List (List ℕ)
   pub own : Bool
@@ -17,12 +20,13 @@ abbrev pub IsUpTo : ℕ → Option ℕ → Type 0
 IsUpTo most (Some l) = l ≤ most
 IsUpTo most None = ⊥
 
--- the rule of a piece with so many ghost levels: just its own cells have level 0, no level is greater,
--- and what meets a cell of a level before the last is there, at most one level further
+-- the rule of a piece with so many ghost levels: just its own cells have level 0, no level is
+-- greater, and what meets a cell of a level before the last is there, at most one level further
 pub record AreSeen (ghosts : ℕ) (seen : List Seen) : Type 0 where
   pub own : (s : Seen) → Contains seen s → (s.level ≡ Some 0) ↔ (s.own ≡ true)
   pub most : (s : Seen) (l : ℕ) → Contains seen s → s.level ≡ Some l → l ≤ ghosts
-  pub near : (s t : Seen) (l : ℕ) → Contains seen s → Contains seen t → s.level ≡ Some l → l < ghosts
+  pub near : (s t : Seen) (l : ℕ) → Contains seen s → Contains seen t → s.level ≡ Some l
+      → l < ghosts
       → Meet s.cell t.cell → IsUpTo (l + 1) t.level
 
 -- a cell that meets one, and is there one level before
@@ -32,7 +36,8 @@ pub record SeenBefore (seen : List Seen) (s : Seen) (l : ℕ) : Type 0 where
   pub level : other.level ≡ Some l
   pub meet : Meet s.cell other.cell
 
--- each ghost cell meets one of the level before: with the rule, levels are the least numbers of steps
+-- each ghost cell meets one of the level before: with the rule, levels are the least numbers of
+-- steps
 abbrev pub AreSteps : List Seen → Type 0
 AreSteps seen = (s : Seen) (l : ℕ) → Contains seen s → s.level ≡ Some (l + 1) → SeenBefore seen s l
 

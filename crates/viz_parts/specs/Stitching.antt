@@ -1,9 +1,11 @@
 -- All parts of a dataset, and what they are put together (VTK User's Guide, "Streaming").
-use Rattle.std.specs.Prelude.{◌≡◌, ℕ, ◌<◌, ◌==◌, if◌then◌else◌, List, [], ◌∷◌, length, flat_map, All, option_to_list, slice_index_or}
+use Rattle.std.specs.Prelude.{◌≡◌, ℕ, ◌<◌, ◌==◌, if◌then◌else◌, List, [], ◌∷◌, length, flat_map}
+use Rattle.std.specs.Prelude.{All, option_to_list, slice_index_or}
 use Rattle.std.specs.List.{AllZip, range_with_len}
 use Rattle.viz_dataset.specs.Images.{ImageData}
 use Rattle.viz_dataset.specs.declared.dataset.Dataset.{Dataset}
-use Rattle.viz_dataset.specs.declared.dataset.Dataset.TheVariants.{Image as WholeImage, Mesh as WholeMesh}
+use Rattle.viz_dataset.specs.declared.dataset.Dataset.TheVariants.{Image as WholeImage}
+use Rattle.viz_dataset.specs.declared.dataset.Dataset.TheVariants.{Mesh as WholeMesh}
 use Rattle.viz_extent.specs.Extent.{Bounds}
 use Rattle.viz_extent.specs.Slabs.{slab_of}
 use Rattle.viz_sheet.specs.Sheet.{SheetData, KeepPoints}
@@ -32,7 +34,8 @@ pub record AreSlabsOf (whole : ImageData) (parts : List Part) : Type 0 where
   pub some : 0 < slabs
   pub each : AllZip (IsImageBlock whole) (slabs_in slabs whole.extent) parts
 
--- all pieces of a mesh by a division that shares it out, in turn, with any number of ghost levels each
+-- all pieces of a mesh by a division that shares it out, in turn, with any number of ghost levels
+-- each
 pub record ArePiecesOf (sheets : List SheetData) (parts : List Part) : Type 0 where
   pub division : Division
   pub ghosts : ℕ → ℕ

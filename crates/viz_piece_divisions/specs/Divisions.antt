@@ -1,11 +1,13 @@
--- How what a filter makes of a mesh is shared out: the own cells of a piece are those that come from own cells (VTK User's Guide, "Streaming").
+-- How what a filter makes of a mesh is shared out: the own cells of a piece are those that come
+-- from own cells (VTK User's Guide, "Streaming").
 use Rattle.std.specs.Prelude.{ℤ, Bool, List, [], ◌∷◌, map}
 use Rattle.std.specs.List.{flat_map}
 use Rattle.viz_fraction.specs.declared.forms.Form.{Form}
 use Rattle.viz_parts.specs.Parts.{PartSheetData}
 use Rattle.viz_parts.specs.Pieces.{Division}
 use Rattle.viz_sheet.specs.Sheet.{SheetData}
-use Rattle.viz_piece_filters.specs.Filters.{handed_boundary, handed_section, kept_selected, section_part}
+use Rattle.viz_piece_filters.specs.Filters.{handed_boundary, handed_section, kept_selected}
+use Rattle.viz_piece_filters.specs.Filters.{section_part}
 
 -- the own positions of a piece in each sheet of a mesh
 abbrev pub Owns : Type 0

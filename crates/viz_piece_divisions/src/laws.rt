@@ -1,8 +1,11 @@
 //! Laws of filters on pieces of meshes. A function that calls one may rest on it.
 
 ghost use Rattle.viz_piece_divisions.specs.Narrow.{MeshIsNarrow, PiecesAreNarrow};
-ghost use Rattle.viz_piece_divisions.specs.Pieces.{AppendedPieces, BoundariesOfPieces, PartsFit, SectionsOfPieces, SelectionsOfPieces};
-ghost use Rattle.viz_piece_divisions.specs.Shares.{AppendedShareOut, BoundariesShareOut, SectionsShareOut, SelectionsShareOut, TurnSharesOut};
+ghost use Rattle.viz_piece_divisions.specs.Pieces.{AppendedPieces, BoundariesOfPieces, PartsFit};
+ghost use Rattle.viz_piece_divisions.specs.Pieces.{SectionsOfPieces, SelectionsOfPieces};
+ghost use Rattle.viz_piece_divisions.specs.Shares.{AppendedShareOut, BoundariesShareOut};
+ghost use Rattle.viz_piece_divisions.specs.Shares.{SectionsShareOut, SelectionsShareOut};
+ghost use Rattle.viz_piece_divisions.specs.Shares.{TurnSharesOut};
 
 /// What a filter makes of a piece of a mesh is a piece of what it makes of the mesh.
 pub fn pieces_go_to_pieces()

@@ -1,7 +1,9 @@
 //! Laws of filters on parts. A function that calls one may rest on it.
 
-ghost use Rattle.viz_piece_filters.specs.Chains.{BoundariesChain, PartsHaveLevels, SectionsChain, SelectionsChain, SelectionsHandOn, TrimmedChain};
-ghost use Rattle.viz_piece_filters.specs.Filters.{BoundariesKeepParts, SectionsKeepParts, SelectionsKeepParts, TrimmedKeepParts};
+ghost use Rattle.viz_piece_filters.specs.Chains.{BoundariesChain, PartsHaveLevels, SectionsChain};
+ghost use Rattle.viz_piece_filters.specs.Chains.{SelectionsChain, SelectionsHandOn, TrimmedChain};
+ghost use Rattle.viz_piece_filters.specs.Filters.{BoundariesKeepParts, SectionsKeepParts};
+ghost use Rattle.viz_piece_filters.specs.Filters.{SelectionsKeepParts, TrimmedKeepParts};
 ghost use Rattle.viz_piece_filters.specs.Growth.{PartsGrow, PartsStart};
 ghost use Rattle.viz_piece_filters.specs.Made.{MadeKeepParts};
 ghost use Rattle.viz_piece_filters.specs.Owns.{OwnsHandOn, SharesAreAll};

@@ -1,7 +1,12 @@
 //! Laws of layers. A function that calls one may rest on it.
-ghost use Rattle.viz_piece_layers.specs.Layers.{GoesByLayers, LayersAreEven, LayersAreRange, LayersArePart, LeavesLieBetween, LevelsAreSteps, MeetNear, PlanesHaveLayers, TouchAbove, TouchBelow};
-ghost use Rattle.viz_piece_layers.specs.Pieces.{EachOwnsSome, OwnsAreAll, PiecesAreParts, PiecesAreRanges, PiecesGoBySteps};
-ghost use Rattle.viz_piece_layers.specs.Sheets.{PiecesStitch, SheetOwnsAreAll, ShiftedIsSheet, TetrahedraPartsArePartOf};
+ghost use Rattle.viz_piece_layers.specs.Layers.{GoesByLayers, LayersAreEven, LayersAreRange};
+ghost use Rattle.viz_piece_layers.specs.Layers.{LayersArePart, LeavesLieBetween, LevelsAreSteps};
+ghost use Rattle.viz_piece_layers.specs.Layers.{MeetNear, PlanesHaveLayers, TouchAbove};
+ghost use Rattle.viz_piece_layers.specs.Layers.{TouchBelow};
+ghost use Rattle.viz_piece_layers.specs.Pieces.{EachOwnsSome, OwnsAreAll, PiecesAreParts};
+ghost use Rattle.viz_piece_layers.specs.Pieces.{PiecesAreRanges, PiecesGoBySteps};
+ghost use Rattle.viz_piece_layers.specs.Sheets.{PiecesStitch, SheetOwnsAreAll, ShiftedIsSheet};
+ghost use Rattle.viz_piece_layers.specs.Sheets.{TetrahedraPartsArePartOf};
 
 use viz_kuhn::{corners_are_the_cubes, edges_are_steps};
 use viz_meaning::tetrahedra_are_a_sheet;

@@ -1,5 +1,6 @@
 //! A plain slow program: whether a part is a piece of what is made of a whole. It goes by the
-//! definition alone: cells by names, own cells by what they are made of, levels by the rule of steps.
+//! definition alone: cells by names, own cells by what they are made of, levels by the rule of
+//! steps.
 
 use std::alloc::{AllocError, Global};
 use viz_parts::{Part, PartSheet};

@@ -1,7 +1,9 @@
--- Parts cut from parts: what is kept for one request serves another that it covers (VTK User's Guide, "Streaming").
+-- Parts cut from parts: what is kept for one request serves another that it covers (VTK User's
+-- Guide, "Streaming").
 use Rattle.std.specs.Prelude.{Bool, ℕ, ◌≡◌, ◌⊎◌, ◌<◌, ◌≤◌, List}
 use Rattle.viz_dataset.specs.declared.dataset.Dataset.{Dataset}
-use Rattle.viz_dataset.specs.declared.dataset.Dataset.TheVariants.{Image as WholeImage, Mesh as WholeMesh}
+use Rattle.viz_dataset.specs.declared.dataset.Dataset.TheVariants.{Image as WholeImage}
+use Rattle.viz_dataset.specs.declared.dataset.Dataset.TheVariants.{Mesh as WholeMesh}
 use Rattle.viz_parts.specs.Pieces.{Division, IsAnswer, IsSheetPart, in_turn}
 use Rattle.viz_parts.specs.Parts.{PartSheetData}
 use Rattle.viz_parts.specs.Seen.{AreSteps}
@@ -31,7 +33,8 @@ abbrev pub IsInTurn : List SheetData → Division → Request → Type 0
 IsInTurn sheets division (Block block) = ⊥
 IsInTurn sheets division (Piece p n ghosts) = division p n ≡ in_turn sheets p n
 
--- a division lets a kept piece be restricted to a wanted one: it is the same, or both are cells in turn, as in a file and in a merge
+-- a division lets a kept piece be restricted to a wanted one: it is the same, or both are cells in
+-- turn, as in a file and in a merge
 abbrev pub LetsRestrict : Dataset → Division → Request → Request → Type 0
 LetsRestrict (WholeImage whole) division kept wanted = Unit {0}
 LetsRestrict (WholeMesh sheets) division kept wanted =
@@ -44,6 +47,7 @@ pub record IsRestriction (kept wanted : Request) (part restricted : Part) : Type
       → IsAnswer whole division kept part → IsAnswer whole division wanted restricted
 
 -- a part of a sheet whose ghost levels are the least numbers of steps from its own cells
-pub record IsGrownPart (whole : SheetData) (own : List Bool) (ghosts : ℕ) (part : PartSheetData) : Type 0 where
+pub record IsGrownPart (whole : SheetData) (own : List Bool) (ghosts : ℕ)
+    (part : PartSheetData) : Type 0 where
   pub part_is : IsSheetPart whole own ghosts part
   pub steps : AreSteps part_is.part_is.seen

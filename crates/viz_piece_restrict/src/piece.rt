@@ -14,7 +14,8 @@ use viz_sheet::Sheet;
 /// The piece of a sheet whose own cells are marked, with the cells around them up to so many steps,
 /// a step going between cells that share a name.
 ///
-/// Each ghost level takes two passes over the cells; growth ends with the first level that has none.
+/// Each ghost level takes two passes over the cells; growth ends with the first level that has
+/// none.
 pub fn piece_of(
     alloc: Global,
     sheet: &Sheet,

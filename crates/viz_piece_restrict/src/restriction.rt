@@ -2,7 +2,8 @@
 
 ghost use Rattle.std.specs.Prelude.{◌≡◌, ◌<◌, ◌↔◌, IfOk, IsTrue};
 ghost use Rattle.viz_parts.specs.Pieces.{Covers};
-ghost use Rattle.viz_piece_restrict.specs.Restricting.{IsRestriction, IsOneOfMany, IsSamePiece, IsSomeAnswer};
+ghost use Rattle.viz_piece_restrict.specs.Restricting.{IsRestriction, IsOneOfMany, IsSamePiece};
+ghost use Rattle.viz_piece_restrict.specs.Restricting.{IsSomeAnswer};
 
 use crate::mesh::{pieces_in_turn, trimmed_parts};
 use std::alloc::{AllocError, Global};

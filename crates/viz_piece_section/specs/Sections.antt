@@ -1,4 +1,5 @@
--- The sections of an image in pieces: each piece owns the cells in its own tetrahedra (VTK User's Guide, "Streaming").
+-- The sections of an image in pieces: each piece owns the cells in its own tetrahedra (VTK User's
+-- Guide, "Streaming").
 use Rattle.std.specs.Prelude.{◌≡◌, ℕ, ◌<◌, Bool, List, [], ◌∷◌, map}
 use Rattle.viz_dataset.specs.Images.{ImageData, IsImage}
 use Rattle.viz_dataset.specs.declared.dataset.Dataset.TheVariants as dataset
@@ -19,8 +20,8 @@ use Rattle.viz_piece_tets.specs.Tets.{tets_part}
 abbrev pub own_section : Form → ImageData → ℕ → ℕ → List Bool
 own_section f image p n = handed_section f (tetrahedra_sheet image) (own_tets n image.extent p)
 
--- a piece of the section of a whole, made of an image on a block of whole planes: the section of its
--- tetrahedra, each cell with the level of the one that it is in
+-- a piece of the section of a whole, made of an image on a block of whole planes: the section of
+-- its tetrahedra, each cell with the level of the one that it is in
 abbrev pub section_piece : Form → ℕ → ℕ → Bounds → ImageData → PartSheetData
 section_piece f p n whole block = section_part f (tets_part p n whole block)
 
@@ -42,8 +43,11 @@ SectionsShareOut =
     (forms : List Form) (whole : ImageData) (n : ℕ) → IsImage whole → 0 < n
     → SharesOut (sections_by_layers forms whole) (sections_of forms (tetrahedra_sheet whole ∷ [])) n
 
--- of whatever image on the whole the block is that which the piece asks for, the part answers for the
--- piece of its sections
-pub record AnswersSections (forms : List Form) (p n ghosts : ℕ) (whole : Bounds) (block : ImageData) (part : Part) : Type 0 where
-  pub each : (image : ImageData) → image.extent ≡ whole → IsBlockOf image (asked p n ghosts whole) block
-      → IsAnswer (dataset.Mesh (sections_of forms (tetrahedra_sheet image ∷ []))) (sections_by_layers forms image) (Piece p n ghosts) part
+-- of whatever image on the whole the block is that which the piece asks for, the part answers for
+-- the piece of its sections
+pub record AnswersSections (forms : List Form) (p n ghosts : ℕ) (whole : Bounds)
+    (block : ImageData) (part : Part) : Type 0 where
+  pub each : (image : ImageData) → image.extent ≡ whole
+      → IsBlockOf image (asked p n ghosts whole) block
+      → IsAnswer (dataset.Mesh (sections_of forms (tetrahedra_sheet image ∷ [])))
+      (sections_by_layers forms image) (Piece p n ghosts) part

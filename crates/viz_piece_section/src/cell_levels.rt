@@ -1,6 +1,7 @@
 //! The level of each cell of a section, by the layer of cubes that it lies in.
 
-ghost use Rattle.std.specs.Prelude.{◌≡◌, ◌-◌, ◌^◌, ◌<◌, ◌≤◌, [], All, IfOk, length, map, min, slice_index_or};
+ghost use Rattle.std.specs.Prelude.{◌≡◌, ◌-◌, ◌^◌, ◌<◌, ◌≤◌, [], All, IfOk, length, map, min};
+ghost use Rattle.std.specs.Prelude.{slice_index_or};
 ghost use Rattle.std.specs.List.{flat_map};
 ghost use Rattle.viz_piece_layers.specs.Layers.{plane_of};
 ghost use Rattle.viz_piece_section.specs.Steps.Leaves.{cell_level, least_leaf, least_of};

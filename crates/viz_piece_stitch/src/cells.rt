@@ -1,6 +1,7 @@
 //! The own cells of all parts, by ranks among all names.
 
-ghost use Rattle.std.specs.Prelude.{◌≡◌, ◌<◌, ◌≤◌, ◌++◌, ◌∷◌, [], if◌then◌else◌, All, IfOk, length, map};
+ghost use Rattle.std.specs.Prelude.{◌≡◌, ◌<◌, ◌≤◌, ◌++◌, ◌∷◌, [], if◌then◌else◌, All, IfOk};
+ghost use Rattle.std.specs.Prelude.{length, map};
 ghost use Rattle.viz_parts.specs.Stitching.{own_items};
 ghost use Rattle.viz_sheet.specs.Arrays.{ranks_in};
 ghost use Rattle.viz_sheet.specs.Steps.Lookup.{looked_up};

@@ -1,6 +1,7 @@
 //! The parts of a mesh, sheet by sheet.
 
-ghost use Rattle.std.specs.Prelude.{◌≡◌, ◌<◌, ◌++◌, ◌∷◌, [], All, IfOk, length, map, replicate, slice_index_or, slice_set};
+ghost use Rattle.std.specs.Prelude.{◌≡◌, ◌<◌, ◌++◌, ◌∷◌, [], All, IfOk, length, map, replicate};
+ghost use Rattle.std.specs.Prelude.{slice_index_or, slice_set};
 ghost use Rattle.viz_piece_stitch.specs.Steps.Columns.{AreColumns, AreLonger, IsMeshOf, sheets_in};
 
 use std::alloc::{AllocError, Global};

@@ -3,7 +3,8 @@
 ghost use Rattle.std.specs.Prelude.{◌≡◌, ◌<◌, ◌-◌, ◌++◌, All, IfOk, flat_map, length, map};
 ghost use Rattle.viz_extent.specs.Extent.{IsExtent};
 ghost use Rattle.viz_parts.specs.Stitching.{AreSlabsOf};
-ghost use Rattle.viz_piece_stitch.specs.Steps.Slabs.{HasKind, IsImageAt, IsPicture, spanned, values_in};
+ghost use Rattle.viz_piece_stitch.specs.Steps.Slabs.{HasKind, IsImageAt, IsPicture, spanned};
+ghost use Rattle.viz_piece_stitch.specs.Steps.Slabs.{values_in};
 ghost use Rattle.viz_piece_stitch.specs.Steps.Wholes.{AreSlabs};
 
 use std::alloc::{AllocError, Global};

@@ -1,8 +1,7 @@
 //! All parts of a dataset put together: slabs of an image, pieces of a mesh with ghost cells.
 //!
-//! Contract: `stitch` of all parts of a dataset is the dataset. Ghost cells are dropped, points of
-//! several pieces stand once, and the only part is taken over as it stands. Definitions: `AreAllOf`
-//! of viz_parts.
+//! Contract: `stitch` of all parts of a dataset is the dataset: ghost cells are dropped, and points
+//! of several pieces stand once. Definitions: `AreAllOf` of viz_parts.
 #![tactic(auto)]
 
 mod cell;

@@ -3,7 +3,8 @@
 ghost use Rattle.std.specs.Prelude.{◌≡◌, ◌<◌, All, IfOk, length, map};
 ghost use Rattle.viz_parts.specs.Stitching.{ArePiecesOf};
 ghost use Rattle.viz_sheet.specs.Sheet.{SheetData, IsSheet};
-ghost use Rattle.viz_piece_stitch.specs.Steps.Columns.{AreJoinedSheets, AreSheets, IsMesh, IsMeshOf, sheets_in};
+ghost use Rattle.viz_piece_stitch.specs.Steps.Columns.{AreJoinedSheets, AreSheets, IsMesh};
+ghost use Rattle.viz_piece_stitch.specs.Steps.Columns.{IsMeshOf, sheets_in};
 ghost use Rattle.viz_piece_stitch.specs.Steps.Wholes.{ArePieces};
 
 use crate::columns::columns_of;

@@ -1,4 +1,5 @@
--- The tetrahedra of an image in pieces: each piece owns those of its own layers of cubes (VTK User's Guide, "Streaming").
+-- The tetrahedra of an image in pieces: each piece owns those of its own layers of cubes (VTK
+-- User's Guide, "Streaming").
 use Rattle.std.specs.Prelude.{◌≡◌, ℕ, ◌<◌, [], ◌∷◌}
 use Rattle.viz_dataset.specs.Images.{ImageData, IsImage}
 use Rattle.viz_dataset.specs.declared.dataset.Dataset.TheVariants as dataset
@@ -13,8 +14,8 @@ use Rattle.viz_piece_layers.specs.Sheets.{shifted_sheet}
 use Rattle.viz_piece_tets.specs.Asked.{asked}
 use Rattle.viz_piece_tets.specs.Layers.{block_levels}
 
--- a piece of the tetrahedra of a whole, made of an image on a block of whole planes: its tetrahedra with
--- the leaves of the whole, and the level of each
+-- a piece of the tetrahedra of a whole, made of an image on a block of whole planes: its
+-- tetrahedra with the leaves of the whole, and the level of each
 abbrev pub tets_part : ℕ → ℕ → Bounds → ImageData → PartSheetData
 tets_part p n whole block = record {
   sheet = shifted_sheet (leaf_shift whole block.extent) (tetrahedra_sheet block);
@@ -39,7 +40,11 @@ LayersShareOut =
     (whole : ImageData) (n : ℕ) → IsImage whole → 0 < n
     → SharesOut (by_layers whole.extent) (tetrahedra_sheet whole ∷ []) n
 
--- of whatever image on the whole the block is that which the piece asks for, the part answers for the piece
-pub record AnswersTets (p n ghosts : ℕ) (whole : Bounds) (block : ImageData) (part : Part) : Type 0 where
-  pub each : (image : ImageData) → image.extent ≡ whole → IsBlockOf image (asked p n ghosts whole) block
-      → IsAnswer (dataset.Mesh (tetrahedra_sheet image ∷ [])) (by_layers whole) (Piece p n ghosts) part
+-- of whatever image on the whole the block is that which the piece asks for, the part answers for
+-- the piece
+pub record AnswersTets (p n ghosts : ℕ) (whole : Bounds) (block : ImageData)
+    (part : Part) : Type 0 where
+  pub each : (image : ImageData) → image.extent ≡ whole
+      → IsBlockOf image (asked p n ghosts whole) block
+      → IsAnswer (dataset.Mesh (tetrahedra_sheet image ∷ [])) (by_layers whole)
+      (Piece p n ghosts) part

@@ -1,6 +1,7 @@
 //! Levels of layers of cubes.
 
-ghost use Rattle.std.specs.Prelude.{◌≡◌, ◌+◌, ◌^◌, ◌<◌, ◌≤◌, ◌++◌, ◌&&◌, IfOk, OnOk, nat_le, replicate};
+ghost use Rattle.std.specs.Prelude.{◌≡◌, ◌+◌, ◌^◌, ◌<◌, ◌≤◌, ◌++◌, ◌&&◌, IfOk, OnOk, nat_le};
+ghost use Rattle.std.specs.Prelude.{replicate};
 ghost use Rattle.viz_extent.specs.Slabs.{first_layer, layer_count, next_layer, share_begin};
 ghost use Rattle.viz_piece_layers.specs.Layers.{distance};
 ghost use Rattle.viz_piece_tets.specs.Layers.{levels_between};

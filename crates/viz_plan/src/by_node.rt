@@ -2,7 +2,8 @@
 
 ghost use Rattle.std.specs.Prelude.{◌≡◌, IfOk, map};
 ghost use Rattle.viz_plan_meaning.specs.Known.{is_stamp};
-ghost use Rattle.viz_plan.specs.ByNode.{entry_of, extent_shown, is_present_entry, present_in, shown_of};
+ghost use Rattle.viz_plan.specs.ByNode.{entry_of, extent_shown, is_present_entry, present_in};
+ghost use Rattle.viz_plan.specs.ByNode.{shown_of};
 
 use crate::told::extent_of;
 use std::alloc::{AllocError, Global};

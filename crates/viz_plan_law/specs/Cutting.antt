@@ -44,8 +44,8 @@ NodePartsAreExact =
     (cone : Option Tree) (request : Request) (part : Part) → IsNodePart cone request part
     → IsExactPart cone request part
 
--- all that cutting a part for a wanted request needs; and what is cut is a part of the node, which it
--- gives from scratch where it gives the part so
+-- all that cutting a part for a wanted request needs; and what is cut is a part of the node, which
+-- it gives from scratch where it gives the part so
 pub record CanBeCut (cone : Option Tree) (kept wanted : Request) (part : Part) : Type 0 where
   pub covers : Covers kept wanted
   pub counted : IsOneOfMany wanted

@@ -5,7 +5,8 @@ ghost use Rattle.viz_network.specs.declared.fault.Fault.{Fault};
 ghost use Rattle.viz_parts.specs.declared.request.Part.{Part};
 ghost use Rattle.viz_parts.specs.declared.request.Request.{Request};
 ghost use Rattle.viz_plan_meaning.specs.Known.{Known};
-ghost use Rattle.viz_plan_meaning.specs.Laws.{IsSound, IsSpoiling, NoFaultHides, OrdersProduce, PlansProduce};
+ghost use Rattle.viz_plan_meaning.specs.Laws.{IsSound, IsSpoiling, NoFaultHides, OrdersProduce};
+ghost use Rattle.viz_plan_meaning.specs.Laws.{PlansProduce};
 
 use viz_requests::serving_is_an_order;
 

@@ -1,11 +1,13 @@
 //! The tasks of a plan with their levels.
 
-ghost use Rattle.std.specs.Prelude.{◌≡◌, ◌+◌, ◌∷◌, [], IfOk, IfSome, OnOk, length, map, max, slice_get};
+ghost use Rattle.std.specs.Prelude.{◌≡◌, ◌+◌, ◌∷◌, [], IfOk, IfSome, OnOk, length, map, max};
+ghost use Rattle.std.specs.Prelude.{slice_get};
 ghost use Rattle.std.specs.List.{All, range_with_len};
 ghost use Rattle.viz_network.specs.declared.steps.Step.{Step};
 ghost use Rattle.viz_network.specs.Step.{nodes_of};
 ghost use Rattle.viz_plan_meaning.specs.Laws.{inputs_of};
-ghost use Rattle.viz_plan_meaning.specs.Levels.{AllUnder, above_first, above_inputs, at_level, needs_of, with_levels};
+ghost use Rattle.viz_plan_meaning.specs.Levels.{AllUnder, above_first, above_inputs, at_level};
+ghost use Rattle.viz_plan_meaning.specs.Levels.{needs_of, with_levels};
 ghost use Rattle.viz_plan_walk.specs.TaskSteps.{AreTasks};
 ghost use Rattle.viz_plan_walk.specs.Walk.{named};
 ghost use Rattle.viz_plan_walk.specs.Finding.{number_of};

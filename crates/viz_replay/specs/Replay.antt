@@ -1,4 +1,5 @@
--- What a run of a journal's prefix did: at the desk and at the first port (docs/DEFINITIONS.md, "The account of a run").
+-- What a run of a journal's prefix did: at the desk and at the first port (docs/DEFINITIONS.md,
+-- "The account of a run").
 use Rattle.std.specs.Prelude.{◌≡◌, ℕ, min, List, [], ◌∷◌, length, take, Option, None, Some, Ok, Err}
 use Rattle.viz_base.specs.declared.port.Port as port
 use Rattle.viz_base.specs.declared.call.Call.{Call}
@@ -27,7 +28,8 @@ network_at n entries = net_of (edits_of (take n entries))
 abbrev pub entries_at : ℕ → List JournalEntry → ℕ
 entries_at n entries = min n (length entries)
 
--- the words of the command: the journal's name, how many entries, the name of the sink, and that of the file
+-- the words of the command: the journal's name, how many entries, the name of the sink, and that
+-- of the file
 pub record Replay : Type 0 where
   pub journal : List ℕ
   pub count : ℕ
@@ -51,24 +53,32 @@ IsRefusal read.Failed line r = ⊥
 
 -- the first port was used for an update of the sink, without a plan, on the network of the
 -- journal's first entries, and no other was
-abbrev pub IsUpdated : {P : Type 0} → port.Ghosts P → Replay → List JournalEntry → Line → List P → List P → Type 0
+abbrev pub IsUpdated : {P : Type 0} → port.Ghosts P → Replay → List JournalEntry → Line → List P
+    → List P → Type 0
 IsUpdated m c entries line old new =
     FirstOnly
-    (Writes m HasNoPlan (network_at c.count entries) (entries_at c.count entries) c.sink c.output line)
+    (Writes m HasNoPlan (network_at c.count entries)
+    (entries_at c.count entries) c.sink c.output line)
     old new
 
--- how a run ended whose read was answered so, and what was done at the ports: they are called only for a journal
-abbrev pub IsEndOfReplay : {P : Type 0} → port.Ghosts P → Replay → Option ReadAnswer → Came → List P → List P → Type 0
+-- how a run ended whose read was answered so, and what was done at the ports: they are called only
+-- for a journal
+abbrev pub IsEndOfReplay : {P : Type 0} → port.Ghosts P → Replay → Option ReadAnswer → Came
+    → List P → List P → Type 0
 IsEndOfReplay m c None came.NoPort old new = (old ≡ []) × (new ≡ [])
 IsEndOfReplay m c None came.Memory old new = new ≡ old
 IsEndOfReplay m c (Some read.Failed) came.Unread old new = new ≡ old
-IsEndOfReplay m c (Some answer) (came.Refused line r) old new = IsRefusal answer line r × (new ≡ old)
+IsEndOfReplay m c (Some answer) (came.Refused line r) old new = IsRefusal answer line r
+    × (new ≡ old)
 IsEndOfReplay m c (Some (read.Given bytes)) came.Memory old new = new ≡ old
 IsEndOfReplay m c (Some (read.Given bytes)) (came.Updated line) old new =
-    (entries : List JournalEntry) × (journal_read bytes ≡ Ok entries) × IsUpdated m c entries line old new
+    (entries : List JournalEntry) × (journal_read bytes ≡ Ok entries)
+    × IsUpdated m c entries line old new
 IsEndOfReplay m c answer ended old new = ⊥
 
 -- a run over a desk and ports; where there is no port the desk isn't used
-abbrev pub IsReplayRun : {P : Type 0} → port.Ghosts P → Replay → Came → P → P → List P → List P → Type 0
+abbrev pub IsReplayRun : {P : Type 0} → port.Ghosts P → Replay → Came → P → P → List P → List P
+    → Type 0
 IsReplayRun m c ended desk new_desk old new =
-    (answer : Option ReadAnswer) × IsEndOfReplay m c answer ended old new × IsCalled m (asked c.journal answer) desk new_desk
+    (answer : Option ReadAnswer) × IsEndOfReplay m c answer ended old new
+    × IsCalled m (asked c.journal answer) desk new_desk

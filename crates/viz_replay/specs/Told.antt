@@ -16,11 +16,13 @@ use Rattle.viz_replay.specs.declared.came.Came.TheVariants as came
 -- a file was written, of the network of so many entries
 unfoldable pub file_line : ℕ → ℕ → ℕ → List ℕ
 file_line at cells points =
-    codes "file at " ++ decimal at ++ codes " cells " ++ decimal cells ++ codes " points " ++ decimal points ++ codes "\n"
+    codes "file at " ++ decimal at ++ codes " cells " ++ decimal cells ++ codes " points "
+    ++ decimal points ++ codes "\n"
 
 -- the sink has no file in the network of so many entries
 unfoldable pub refused_line : Reason → ℕ → List ℕ
-refused_line reason at = codes "refused " ++ reason_text reason ++ codes " at " ++ decimal at ++ codes "\n"
+refused_line reason at = codes "refused " ++ reason_text reason ++ codes " at " ++ decimal at
+    ++ codes "\n"
 
 -- the line of an update; lines of other commands aren't told
 abbrev pub update_line : Line → List ℕ

@@ -1,7 +1,8 @@
 //! The line that a run puts, and its status (docs/FORMATS.md, "Report").
 
 ghost use Rattle.std.specs.Prelude.{◌≡◌, IfOk, IsErr, IsTrue};
-ghost use Rattle.viz_replay.specs.Told.{file_line, refused_line, update_line, update_status, is_made_line, telling_of};
+ghost use Rattle.viz_replay.specs.Told.{file_line, refused_line, update_line, update_status};
+ghost use Rattle.viz_replay.specs.Told.{is_made_line, telling_of};
 ghost use Rattle.viz_told.specs.Told.{bytes_of};
 
 use crate::came::Came;

@@ -27,7 +27,8 @@ pub fn run_scratch<P: Port, O: Out>(
     out: &mut O,
 ) -> Status
     // What the run was: how it ended, and the line put of it.
-    ensures account { (came : End) × IsReplayRun P.Port (replay_of command.now) came desk.old desk.new
+    ensures account { (came : End) × IsReplayRun P.Port
+        (replay_of command.now) came desk.old desk.new
         ports.old.items ports.new.items × IsTold O.Out (telling_of came) result out.old out.new }
 
     // What follows of it for each status.

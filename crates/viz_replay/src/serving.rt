@@ -61,7 +61,8 @@ fn serve_entries<P: Port>(
 
 /// Reads the journal from the desk, and updates the sink on the network of its first entries.
 fn serve_over<P: Port>(alloc: Global, command: &Replay<'_>, desk: &mut P, ports: &mut [P]) -> Came
-    ensures { IsReplayRun P.Port (replay_of command.now) result desk.old desk.new ports.old ports.new }
+    ensures { IsReplayRun P.Port
+        (replay_of command.now) result desk.old desk.new ports.old ports.new }
 {
     let bytes = match desk.read(alloc, command.journal) {
         Ok(bytes) => bytes,

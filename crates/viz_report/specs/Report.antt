@@ -1,5 +1,6 @@
 -- The rows of a report, and their text (docs/FORMATS.md, "Report").
-use Rattle.std.specs.Prelude.{◌≡◌, ℕ, zero, suc, ◌+◌, List, [], ◌∷◌, ◌++◌, length, map, flat_map, All, codes}
+use Rattle.std.specs.Prelude.{◌≡◌, ℕ, zero, suc, ◌+◌, List, [], ◌∷◌, ◌++◌, length, map, flat_map}
+use Rattle.std.specs.Prelude.{All, codes}
 use Rattle.std.specs.Fmt.{decimal}
 use Rattle.viz_report.specs.declared.line.Line.{Line}
 use Rattle.viz_report.specs.declared.line.Line.TheVariants as line
@@ -20,7 +21,8 @@ at_text n = and_number (codes " at ") n
 
 -- the numbers of a written file
 abbrev pub numbers_text : ℕ → ℕ → ℕ → List ℕ
-numbers_text cells points ran = and_number (codes " cells ") cells ++ and_number (codes " points ") points ++ and_number (codes " ran ") ran
+numbers_text cells points ran = and_number (codes " cells ") cells
+    ++ and_number (codes " points ") points ++ and_number (codes " ran ") ran
 
 -- the numbers of an audit
 abbrev pub counts_text : ℕ → ℕ → ℕ → ℕ → List ℕ
@@ -65,11 +67,13 @@ rows_text rows = flat_map row_text rows
 -- the rows of lines of an actor, the first of which has this number among its lines
 abbrev pub rows_from : ℕ → ℕ → List Line → List Row
 rows_from actor count [] = []
-rows_from actor count (l ∷ ls) = record { actor = actor; count = count; line = l } ∷ rows_from actor (count + 1) ls
+rows_from actor count
+    (l ∷ ls) = record { actor = actor; count = count; line = l } ∷ rows_from actor (count + 1) ls
 
 -- the rows of actors, from this one on, in one phase; the first line of each has a number
 abbrev pub phase_rows : ℕ → List ℕ → List (List Line) → List Row
-phase_rows actor (count ∷ counts) (ls ∷ lines) = rows_from actor count ls ++ phase_rows (actor + 1) counts lines
+phase_rows actor (count ∷ counts) (ls ∷ lines) = rows_from actor count ls
+    ++ phase_rows (actor + 1) counts lines
 phase_rows actor counts lines = []
 
 -- the numbers of the actors' first lines in the next phase
@@ -93,9 +97,11 @@ later_phases ((ls ∷ phases) ∷ actors) = phases ∷ later_phases actors
 abbrev pub phases_rows : ℕ → List ℕ → List (List (List Line)) → List Row
 phases_rows zero counts lines = []
 phases_rows (suc phases) counts lines =
-    phase_rows 1 counts (first_phase lines) ++ phases_rows phases (next_counts counts (first_phase lines)) (later_phases lines)
+    phase_rows 1 counts (first_phase lines) ++ phases_rows phases
+    (next_counts counts (first_phase lines)) (later_phases lines)
 
--- the rows of lines that are given by actor and phase: by phase, then by actor, then in the order of the script
+-- the rows of lines that are given by actor and phase: by phase, then by actor, then in the order
+-- of the script
 abbrev pub report_rows : ℕ → List (List (List Line)) → List Row
 report_rows phases lines = phases_rows phases (map (λ actor. 1) lines) lines
 
@@ -107,7 +113,9 @@ report phases lines = rows_text (report_rows phases lines)
 abbrev pub HasNoLines : List (List Line) → Type 0
 HasNoLines phases = flat_map (λ ls. ls) phases ≡ []
 
--- where all other actors have no lines, the rows are the first one's lines through all phases, numbered from 1
+-- where all other actors have no lines, the rows are the first one's lines through all phases,
+-- numbered from 1
 abbrev pub OneActorIsInOrder : Type 0
-OneActorIsInOrder = (phases : List (List Line)) (others : List (List (List Line))) → All HasNoLines others
+OneActorIsInOrder = (phases : List (List Line)) (others : List (List (List Line)))
+    → All HasNoLines others
     → report_rows (length phases) (phases ∷ others) ≡ rows_from 1 1 (flat_map (λ ls. ls) phases)

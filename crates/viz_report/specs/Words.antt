@@ -67,4 +67,5 @@ reason_text (reason.Edit r) = refusal_text r
 reason_text reason.Full = codes "Full"
 reason_text reason.TooLong = codes "TooLong"
 reason_text reason.Unknown = codes "Unknown"
-reason_text (reason.Fault fault node) = codes "fault:" ++ node ++ codes ":" ++ cause_text fault.cause
+reason_text (reason.Fault fault node) = codes "fault:" ++ node ++ codes ":"
+    ++ cause_text fault.cause

@@ -14,8 +14,8 @@ pub enum Reason {
     TooLong,
     /// No node has the name of an update or an audit.
     Unknown,
-    /// The node of an update has no file, or that of an audit no surface, for this fault of the node
-    /// of this name.
+    /// The node of an update has no file, or that of an audit no surface, for this fault of the
+    /// node of this name.
     Fault { fault: Fault, node: Word },
 }
 
@@ -34,8 +34,9 @@ pub enum Line {
         points: u64,
         ran: u64,
     },
-    /// The surface of a node was audited: how many sides its triangles have, how many of them lie in
-    /// two triangles, how many in one, and how many of these on the boundary of the image's grid.
+    /// The surface of a node was audited: how many sides its triangles have, how many of them lie
+    /// in two triangles, how many in one, and how many of these on the boundary of the image's
+    /// grid.
     Audit {
         at: u32,
         sides: u64,

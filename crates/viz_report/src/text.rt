@@ -1,7 +1,8 @@
 //! The text of rows.
 
 ghost use Rattle.std.specs.Prelude.{◌≡◌, ◌++◌, IfOk, OnOk};
-ghost use Rattle.viz_report.specs.Report.{and_number, heading, at_text, counts_text, numbers_text, behind, word_of, row_text, rows_text};
+ghost use Rattle.viz_report.specs.Report.{and_number, heading, at_text, counts_text, numbers_text};
+ghost use Rattle.viz_report.specs.Report.{behind, word_of, row_text, rows_text};
 
 use crate::line::{Line, Row};
 use crate::words::put_reason;

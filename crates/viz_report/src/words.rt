@@ -2,7 +2,8 @@
 
 ghost use Rattle.std.specs.Prelude.{◌≡◌, ◌++◌, OnOk, codes};
 ghost use Rattle.std.specs.Fmt.{decimal, signed_decimal};
-ghost use Rattle.viz_report.specs.Words.{refusal_text, numbered, kind_text, file_text, cause_text, reason_text};
+ghost use Rattle.viz_report.specs.Words.{refusal_text, numbered, kind_text, file_text, cause_text};
+ghost use Rattle.viz_report.specs.Words.{reason_text};
 ghost use Rattle.viz_report.specs.Steps.Plain.{IsPlainKind, IsPlainCause};
 
 use crate::line::Reason;

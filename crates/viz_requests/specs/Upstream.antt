@@ -1,4 +1,5 @@
--- What a node makes for a request, and what it asks its inputs for (VTK User's Guide, the executive: the request pass, and "Streaming").
+-- What a node makes for a request, and what it asks its inputs for (VTK User's Guide, the
+-- executive: the request pass, and "Streaming").
 use Rattle.std.specs.Prelude.{ℕ, ◌+◌, ◌<◌, ◌^◌, min, max, Option, None, Some}
 use Rattle.std.specs.Option.{option_map_or}
 use Rattle.viz_extent.specs.Extent.{Bounds}
@@ -40,7 +41,8 @@ all_of None = Piece 0 1 0
 
 -- what a filter makes of an image of this extent: an image of another extent, or a mesh
 abbrev pub own_extent : Settings → Bounds → Option Bounds
-own_extent (settings.Crop x0 x1 y0 y1 z0 z1) whole = Some (common whole (record { x0 = x0; x1 = x1; y0 = y0; y1 = y1; z0 = z0; z1 = z1 }))
+own_extent (settings.Crop x0 x1 y0 y1 z0 z1) whole = Some
+    (common whole (record { x0 = x0; x1 = x1; y0 = y0; y1 = y1; z0 = z0; z1 = z1 }))
 own_extent (settings.Sample x y z) whole = Some (sampled (sample_rate x y z) whole)
 own_extent settings.Tets whole = None
 own_extent (settings.Contour count levels) whole = None
@@ -69,9 +71,11 @@ abbrev pub grown_request : ℕ → Option Bounds → Request → Request
 grown_request by (Some whole) (Block block) = Block (grown by whole block)
 grown_request by _ request = request
 
--- the planes of a piece's layers and of its ghost levels, of a piece without layers the lowest plane
+-- the planes of a piece's layers and of its ghost levels, of a piece without layers the lowest
+-- plane
 abbrev pub layers_block : ℕ → ℕ → ℕ → Bounds → Bounds
-layers_block p n ghosts whole = option_map_or (λ b. b) (layers_of p n ghosts whole) (planes 0 0 whole)
+layers_block p n ghosts whole = option_map_or (λ b. b) (layers_of p n ghosts whole)
+    (planes 0 0 whole)
 
 -- what a section or the tetrahedra of an image are made of; of a mesh the same piece
 abbrev pub layers_request : Option Bounds → Request → Request
@@ -121,5 +125,6 @@ CanAsk _ whole request = Fits whole request
 
 -- what fits the dataset that a node makes can be asked of its inputs
 abbrev pub FittingCanBeAsked : Type 0
-FittingCanBeAsked = (settings : Settings) (whole : Option Bounds) (request : Request) → Fits (extent_made settings whole) request → HasRoom request
+FittingCanBeAsked = (settings : Settings) (whole : Option Bounds) (request : Request)
+    → Fits (extent_made settings whole) request → HasRoom request
     → CanAsk settings whole request

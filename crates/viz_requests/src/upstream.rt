@@ -2,7 +2,9 @@
 
 ghost use Rattle.std.specs.Prelude.{◌≡◌, ◌<◌, ◌↔◌, IsTrue, IsSome, IfSome, None};
 ghost use Rattle.viz_extent.specs.Parts.{rate_of, IsRate};
-ghost use Rattle.viz_requests.specs.Upstream.{CanAsk, Fits, FittingCanBeAsked, HasRoom, IsSampled, all_of, asked, grown_request, layers_request, mean_radius, more_ghosts, spread_request, widened};
+ghost use Rattle.viz_requests.specs.Upstream.{CanAsk, Fits, FittingCanBeAsked, HasRoom, IsSampled};
+ghost use Rattle.viz_requests.specs.Upstream.{all_of, asked, grown_request, layers_request};
+ghost use Rattle.viz_requests.specs.Upstream.{mean_radius, more_ghosts, spread_request, widened};
 
 use crate::extents::{grown_block, layers_block, sample_rate, spread_block};
 use viz_extent::Extent;

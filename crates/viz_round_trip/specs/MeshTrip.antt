@@ -1,5 +1,6 @@
 -- A mesh as it is read again (docs/FORMATS.md, "Written meshes").
-use Rattle.std.specs.Prelude.{ℕ, ◌^◌, ◌≤◌, ℤ, pos, ◌*ℤ◌, Bool, List, [], ◌∷◌, ◌++◌, length, map, All, Some, None, if◌then◌else◌}
+use Rattle.std.specs.Prelude.{ℕ, ◌^◌, ◌≤◌, ℤ, pos, ◌*ℤ◌, Bool, List, [], ◌∷◌, ◌++◌, length, map}
+use Rattle.std.specs.Prelude.{All, Some, None, if◌then◌else◌}
 use Rattle.std.specs.List.{flat_map}
 use Rattle.viz_fraction.specs.Points.{Point, numbers, reduced}
 use Rattle.viz_fraction.specs.Decimals.{fixed_of}
@@ -22,7 +23,11 @@ pub record AreWritable (digits : ℕ) (sheets : List SheetData) : Type 0 where
 
 -- points as a file has them: three whole numbers for each
 abbrev pub points_in_file : ℕ → List Point → FilePoints
-points_in_file digits points = record { count = length points; coordinates = record { kind = I64; items = flat_map (coordinates digits) points } }
+points_in_file digits points =
+    record {
+      count = length points;
+      coordinates = record { kind = I64; items = flat_map (coordinates digits) points };
+    }
 
 -- their scalars as a file has them
 abbrev pub scalars_in_file : List Point → Numbers
@@ -39,14 +44,18 @@ in_order cells = if has_tetrahedra cells then cells else by_kinds cells
 -- the mesh of what is written, by the rule of files
 abbrev pub read_of : ℕ → List SheetData → List SheetData
 read_of digits sheets =
-    mesh_of digits (points_in_file digits (points_of sheets)) (Some (scalars_in_file (points_of sheets))) (in_order (cells_of sheets))
+    mesh_of digits (points_in_file digits (points_of sheets))
+    (Some (scalars_in_file (points_of sheets))) (in_order (cells_of sheets))
 
--- a point as it is written: each coordinate rounded down at so many places, and the scalar rounded down
+-- a point as it is written: each coordinate rounded down at so many places, and the scalar rounded
+-- down
 abbrev pub rounded : ℕ → Point → Point
 rounded digits p =
-    reduced (numbers (fixed_of p.x p.w digits) (fixed_of p.y p.w digits) (fixed_of p.z p.w digits) (scalar p *ℤ pos (10 ^ digits)) (pos (10 ^ digits)))
+    reduced (numbers (fixed_of p.x p.w digits) (fixed_of p.y p.w digits) (fixed_of p.z p.w digits)
+    (scalar p *ℤ pos (10 ^ digits)) (pos (10 ^ digits)))
 
--- the same, point by point and cell by cell: one sheet, whose leaves are the indices that were written
+-- the same, point by point and cell by cell: one sheet, whose leaves are the indices that were
+-- written
 abbrev pub written_again : ℕ → List SheetData → List SheetData
 written_again digits sheets =
     record {

@@ -1,4 +1,5 @@
--- An image as it is read again: its points stand where they stood (docs/FORMATS.md, "Written files").
+-- An image as it is read again: its points stand where they stood (docs/FORMATS.md, "Written
+-- files").
 use Rattle.std.specs.Prelude.{◌≡◌}
 use Rattle.viz_extent.specs.Extent.{Bounds, size_x, size_y, size_z}
 use Rattle.viz_dataset.specs.Images.{ImageData, corner}
@@ -10,7 +11,13 @@ from_zero b = whole_of (size_x b) (size_y b) (size_z b)
 
 -- the same points and numbers, counted from index 0
 abbrev pub moved : ImageData → ImageData
-moved i = record { extent = from_zero i.extent; origin = corner i; spacing = i.spacing; values = i.values }
+moved i =
+    record {
+      extent = from_zero i.extent;
+      origin = corner i;
+      spacing = i.spacing;
+      values = i.values;
+    }
 
 -- the lower bound of each axis is index 0
 pub record BeginsAtZero (b : Bounds) : Type 0 where

@@ -6,4 +6,5 @@ use Rattle.viz_scratch.specs.Written.{IsFileOf}
 
 -- a node of a network has one file, or one fault
 abbrev pub FilesAreOne : Type 0
-FilesAreOne = (net : Network) (id : ℕ) (a b : Result (List ℕ) Fault) → IsFileOf net id a → IsFileOf net id b → a ≡ b
+FilesAreOne = (net : Network) (id : ℕ) (a b : Result (List ℕ) Fault) → IsFileOf net id a
+    → IsFileOf net id b → a ≡ b

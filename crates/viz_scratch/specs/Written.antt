@@ -1,4 +1,5 @@
--- The written file of a node: the text of what it gives from scratch (docs/FORMATS.md, "Written files" and "Written meshes").
+-- The written file of a node: the text of what it gives from scratch (docs/FORMATS.md, "Written
+-- files" and "Written meshes").
 use Rattle.std.specs.Prelude.{◌≡◌, ℕ, Bool, false, List, Option, None, Some, Result, Ok, Err}
 use Rattle.viz_dataset.specs.Images.{IsOrigin, corner}
 use Rattle.viz_dataset.specs.declared.dataset.Dataset.{Dataset}
@@ -44,7 +45,8 @@ abbrev pub HasFewCounts : Dataset → Type 0
 HasFewCounts (Image i) = Unit {0}
 HasFewCounts (Mesh sheets) = FitCounts sheets
 
--- the numbers of the text fit: those of an image where its lowest corner lies within the limits of an origin
+-- the numbers of the text fit: those of an image where its lowest corner lies within the limits of
+-- an origin
 abbrev pub HasFitNumbers : Style → Dataset → Type 0
 HasFitNumbers style (Image i) = IsOrigin (corner i)
 HasFitNumbers style (Mesh sheets) = FitNumbers style.digits sheets
@@ -72,7 +74,8 @@ style_of (Some t) = style_with t.0.settings
 
 -- the file of a node: the text of its dataset, or the fault of it or of its writing
 abbrev pub IsFileOf : Network → ℕ → Result (List ℕ) Fault → Type 0
-IsFileOf net id r = (s : Result Dataset Fault) × IsScratch net id s × IsTextBehind (style_of (cone_of net id)) id s r
+IsFileOf net id r = (s : Result Dataset Fault) × IsScratch net id s
+    × IsTextBehind (style_of (cone_of net id)) id s r
 
 -- a node gives a dataset of so many cells and points
 pub record HasCounts (net : Network) (id cells points : ℕ) : Type 0 where

@@ -74,7 +74,8 @@ pub fn data_pass(
     requires count { length last.now ≡ length steps.now }
     requires readers { AreReaders steps.now last.now }
     ensures { IfOk result (λ table.
-        IsTable DataRule IsSound (is_read last.now) net.now steps.now (length steps.now) table.items) }
+        IsTable DataRule IsSound (is_read last.now) net.now steps.now
+        (length steps.now) table.items) }
 {
     let mut table = Vec::with_capacity(alloc, steps.len())?;
     for (k, step) in steps.iter().enumerate() {

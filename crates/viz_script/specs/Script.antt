@@ -1,5 +1,8 @@
--- The steps of a script, or the first refusal of its first line that has one (docs/FORMATS.md, "Scripts").
-use Rattle.std.specs.Prelude.{◌≡◌, ℕ, ℤ, pos, ◌+◌, Bool, ◌&&◌, ◌||◌, ◌==◌, nat_lt, int_le, unsigned_abs, List, [], ◌∷◌, map, length, codes, Option, None, Some, Result, Ok, Err, if◌then◌else◌}
+-- The steps of a script, or the first refusal of its first line that has one (docs/FORMATS.md,
+-- "Scripts").
+use Rattle.std.specs.Prelude.{◌≡◌, ℕ, ℤ, pos, ◌+◌, Bool, ◌&&◌, ◌||◌, ◌==◌, nat_lt, int_le}
+use Rattle.std.specs.Prelude.{unsigned_abs, List, [], ◌∷◌, map, length, codes, Option, None, Some}
+use Rattle.std.specs.Prelude.{Result, Ok, Err, if◌then◌else◌}
 use Rattle.viz_kinds.specs.Values.{is_text}
 use Rattle.viz_words.specs.declared.refusal.ScriptRefusal.{ScriptRefusal}
 use Rattle.viz_words.specs.declared.refusal.ScriptRefusal.TheVariants as refusal
@@ -51,7 +54,8 @@ phase_in (word ∷ words) = Err refusal.Arity
 
 -- what a line says behind the number of an actor
 abbrev pub actor_in : ℤ → ℕ → List (List ℕ) → Result Line ScriptRefusal
-actor_in actor actors words = verb_of words >>= λ verb. guard (is_actor actor actors) refusal.ActorRange >>= λ in_range.
+actor_in actor actors words = verb_of words >>= λ verb. guard
+    (is_actor actor actors) refusal.ActorRange >>= λ in_range.
     due words >>= λ rest. order_in verb rest.1 >>= λ order. Ok (asks (unsigned_abs actor) order)
 
 -- the same, where the word is a number
@@ -62,11 +66,13 @@ number_in_front (Some actor) actors words = actor_in actor actors words
 -- what the words of a line say
 abbrev pub words_in : ℕ → List (List ℕ) → Result Line ScriptRefusal
 words_in actors [] = Ok silent
-words_in actors (word ∷ words) = if is_text word (codes "phase") then phase_in words else number_in_front (number_of word) actors words
+words_in actors (word ∷ words) = if is_text word (codes "phase") then phase_in words
+    else number_in_front (number_of word) actors words
 
 -- what a line says, or its first refusal
 abbrev pub line_in : ℕ → List ℕ → Result Line ScriptRefusal
-line_in actors line = if is_skipped line then Ok silent else (guard (is_plain line) refusal.Word >>= λ plain. words_in actors (words_of line))
+line_in actors line = if is_skipped line then Ok silent
+    else (guard (is_plain line) refusal.Word >>= λ plain. words_in actors (words_of line))
 
 -- a line and what is wrong with it
 abbrev pub Stop : Type 0
@@ -78,16 +84,20 @@ with_step step (Ok steps) = Ok (step ∷ steps)
 with_step step (Err stop) = Err stop
 
 -- the steps of a line of this number and phase, and of those behind it in the phase that it leaves
-abbrev pub told : ℕ → ℕ → (ℕ → Result (List Stepped) Stop) → Result Line ScriptRefusal → Result (List Stepped) Stop
+abbrev pub told : ℕ → ℕ → (ℕ → Result (List Stepped) Stop) → Result Line ScriptRefusal
+    → Result (List Stepped) Stop
 told line phase next (Err refusal) = Err (line, refusal)
 told line phase next (Ok silent) = next phase
-told line phase next (Ok begins_phase) = if phase == phase_limit then Err (line, refusal.Phase) else next (phase + 1)
-told line phase next (Ok (asks actor order)) = with_step (record { phase = phase; actor = actor; line = line; asked = order }) (next phase)
+told line phase next (Ok begins_phase) = if phase == phase_limit then Err (line, refusal.Phase)
+    else next (phase + 1)
+told line phase next (Ok (asks actor order)) = with_step
+    (record { phase = phase; actor = actor; line = line; asked = order }) (next phase)
 
 -- the steps of the lines, the first of which has this number and stands in this phase
 abbrev pub steps_from : ℕ → ℕ → ℕ → List (List ℕ) → Result (List Stepped) Stop
 steps_from actors line phase [] = Ok []
-steps_from actors line phase (text ∷ texts) = told line phase (λ p. steps_from actors (line + 1) p texts) (line_in actors text)
+steps_from actors line phase (text ∷ texts) = told line phase
+    (λ p. steps_from actors (line + 1) p texts) (line_in actors text)
 
 -- more bytes or lines than a script has
 abbrev pub is_too_long : List ℕ → Bool
@@ -95,7 +105,8 @@ is_too_long bytes = nat_lt byte_limit (length bytes) || nat_lt line_limit (lengt
 
 -- the steps of a script with so many actors
 abbrev pub script_of : ℕ → List ℕ → Result (List Stepped) Stop
-script_of actors bytes = if is_too_long bytes then Err (0, refusal.TooLong) else steps_from actors 1 1 (lines_of bytes)
+script_of actors bytes = if is_too_long bytes then Err (0, refusal.TooLong)
+    else steps_from actors 1 1 (lines_of bytes)
 
 -- the script that the definition gives, or the refusal that it gives, unless memory ran out
 abbrev pub Reads : Result Script ScriptStop → Result (List Stepped) Stop → Type 0

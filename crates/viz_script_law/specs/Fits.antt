@@ -1,5 +1,6 @@
 -- Lines that a script can have (docs/FORMATS.md, "Scripts").
-use Rattle.std.specs.Prelude.{◌≡◌, ℕ, ℤ, pos, ◌-◌, ◌<◌, ◌≤◌, Bool, true, false, List, take, drop, replicate, length, count_by, Option, None, Some}
+use Rattle.std.specs.Prelude.{◌≡◌, ℕ, ℤ, pos, ◌-◌, ◌<◌, ◌≤◌, Bool, true, false, List, take, drop}
+use Rattle.std.specs.Prelude.{replicate, length, count_by, Option, None, Some}
 use Rattle.std.specs.List.{AllByRecursion}
 use Rattle.viz_kinds.specs.declared.param.Param.{Param}
 use Rattle.viz_kinds.specs.declared.param.Param.TheVariants as param

@@ -1,5 +1,6 @@
 -- Which bytes spell a token, a line, and the lines of a script (docs/FORMATS.md, "Scripts").
-use Rattle.std.specs.Prelude.{◌≡◌, ◌<◌, ◌⊎◌, ℕ, true, false, ◌==◌, List, [], ◌∷◌, ◌++◌, length, Some, if◌then◌else◌}
+use Rattle.std.specs.Prelude.{◌≡◌, ◌<◌, ◌⊎◌, ℕ, true, false, ◌==◌, List, [], ◌∷◌, ◌++◌, length}
+use Rattle.std.specs.Prelude.{Some, if◌then◌else◌}
 use Rattle.std.specs.List.{list_all}
 use Rattle.viz_lex.specs.Words.{HasNoNewline, IsNextLine}
 use Rattle.viz_words.specs.Words.{is_gap, begins_word, begins_hash}
@@ -43,7 +44,8 @@ without_return [] = []
 without_return (b ∷ []) = if b == 13 then [] else b ∷ []
 without_return (b ∷ c ∷ cs) = b ∷ without_return (c ∷ cs)
 
--- the bytes are the line, with its newline, and what is behind it; a carriage return there is dropped
+-- the bytes are the line, with its newline, and what is behind it; a carriage return there is
+-- dropped
 pub record IsEnded (line : List ℕ) (behind : List ℕ → Type 0) (bytes : List ℕ) : Type 0 where
   pub raw : List ℕ
   pub rest : List ℕ

@@ -1,4 +1,5 @@
--- The words of a line, numbers apart from all others, and their plain spelling (docs/FORMATS.md, "Scripts").
+-- The words of a line, numbers apart from all others, and their plain spelling (docs/FORMATS.md,
+-- "Scripts").
 use Rattle.std.specs.Prelude.{ℕ, ℤ, pos, List, [], ◌∷◌, ◌++◌, map, take, flat_map, codes}
 use Rattle.std.specs.Fmt.{signed_decimal}
 use Rattle.viz_kinds.specs.declared.param.Value.{Value}
@@ -28,10 +29,13 @@ value_tokens (Text text) = exact text ∷ []
 
 -- the tokens of an edit; a script's load is a command of its own
 abbrev pub edit_tokens : Edit → List Token
-edit_tokens (edits.Add kind node) = first_token command.Add ∷ exact (kind_word kind) ∷ exact node ∷ []
+edit_tokens (edits.Add kind node) = first_token command.Add ∷ exact
+    (kind_word kind) ∷ exact node ∷ []
 edit_tokens (edits.Remove node) = first_token command.Remove ∷ exact node ∷ []
-edit_tokens (edits.Connect from to port) = first_token command.Connect ∷ exact from ∷ exact to ∷ number (pos port) ∷ []
-edit_tokens (edits.Disconnect to port) = first_token command.Disconnect ∷ exact to ∷ number (pos port) ∷ []
+edit_tokens (edits.Connect from to port) =
+    first_token command.Connect ∷ exact from ∷ exact to ∷ number (pos port) ∷ []
+edit_tokens (edits.Disconnect to port) = first_token command.Disconnect ∷ exact to ∷ number
+    (pos port) ∷ []
 edit_tokens (edits.Set node param value) =
     first_token command.Set ∷ exact node ∷ exact (param_word param) ∷ value_tokens value
 edit_tokens (edits.Load node file) = []
@@ -41,7 +45,8 @@ abbrev pub command_tokens : Asked → List Token
 command_tokens (edit e) = edit_tokens e
 command_tokens (load node file) = first_token command.Load ∷ exact node ∷ exact file ∷ []
 command_tokens (update node file pieces workers) =
-    first_token command.Update ∷ exact node ∷ exact file ∷ number (pos pieces) ∷ number (pos workers) ∷ []
+    first_token command.Update ∷ exact node ∷ exact file ∷ number (pos pieces) ∷ number
+    (pos workers) ∷ []
 command_tokens (audit node pieces workers) =
     first_token command.Audit ∷ exact node ∷ number (pos pieces) ∷ number (pos workers) ∷ []
 

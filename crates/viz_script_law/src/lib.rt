@@ -1,10 +1,10 @@
 //! Laws over scripts: their grammar, and that what is so spelled is read as what it says.
 //!
 //! Contract: bytes that spell lines which a script can have are read as the steps of these lines,
-//! nothing else is read, and the bytes spell no other lines. Definitions: `specs/Script.antt`, which
-//! is built of the tokens of a line (`specs/Tokens.antt`), their spelling (`specs/Spelling.antt`),
-//! what fits (`specs/Fits.antt`) and what is said (`specs/Says.antt`), and knows no reader; the rules
-//! are those of docs/FORMATS.md, "Scripts".
+//! nothing else is read, and the bytes spell no other lines. Definitions: `specs/Script.antt`,
+//! which is built of the tokens of a line (`specs/Tokens.antt`), their spelling
+//! (`specs/Spelling.antt`), what fits (`specs/Fits.antt`) and what is said (`specs/Says.antt`),
+//! and knows no reader; the rules are those of docs/FORMATS.md, "Scripts".
 #![tactic(auto)]
 
 mod laws;

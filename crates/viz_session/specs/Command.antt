@@ -1,5 +1,6 @@
 -- The words of a command (docs/FORMATS.md, "Words of a command").
-use Rattle.std.specs.Prelude.{ℕ, List, [], ◌∷◌, codes, Option, None, Some, Result, Ok, Err, option_map, option_and_then, if◌then◌else◌}
+use Rattle.std.specs.Prelude.{ℕ, List, [], ◌∷◌, codes, Option, None, Some, Result, Ok, Err}
+use Rattle.std.specs.Prelude.{option_map, option_and_then, if◌then◌else◌}
 use Rattle.std.specs.Str.{bytes_eq}
 use Rattle.viz_once.specs.Command.{Command as OneFile, file_name_of, once_of}
 use Rattle.viz_words.specs.declared.refusal.ScriptRefusal.{ScriptRefusal}
@@ -9,8 +10,8 @@ use Rattle.viz_make.specs.Make.{Make as Making}
 use Rattle.viz_make.specs.Size.{volume_extent}
 use Rattle.viz_replay.specs.Replay.{Replay}
 
--- a command: one file to be read, filtered and written; a script with the name of its journal; the prefix of a journal; or a volume to
--- be made
+-- a command: one file to be read, filtered and written; a script with the name of its journal; the
+-- prefix of a journal; or a volume to be made
 pub data Command : Type 0 where
   Once : OneFile → Command
   Script : List ℕ → List ℕ → Command
@@ -24,7 +25,8 @@ given (Err refusal) = None
 
 -- SCRIPT JOURNAL
 unfoldable pub script_of : List (List ℕ) → Option Command
-script_of (script ∷ journal ∷ []) = option_and_then (λ s. option_map (λ j. Script s j) (file_name_of journal)) (file_name_of script)
+script_of (script ∷ journal ∷ []) = option_and_then
+    (λ s. option_map (λ j. Script s j) (file_name_of journal)) (file_name_of script)
 script_of words = None
 
 -- JOURNAL N SINK OUT, where N is at most 65,536
@@ -44,9 +46,11 @@ size_in word = given (natural_in 1 262144 word)
 
 -- NUMBER NX NY NZ OUT
 unfoldable pub make_of : List (List ℕ) → Option Command
-make_of (number ∷ x ∷ y ∷ z ∷ output ∷ []) = option_and_then (λ n. option_and_then (λ a. option_and_then (λ b. option_and_then (λ c.
+make_of (number ∷ x ∷ y ∷ z ∷ output ∷ []) = option_and_then
+    (λ n. option_and_then (λ a. option_and_then (λ b. option_and_then (λ c.
     option_and_then (λ e. option_map (λ o. Make (record { number = n; extent = e; output = o }))
-    (file_name_of output)) (volume_extent a b c)) (size_in z)) (size_in y)) (size_in x)) (given (natural_in 0 2147483647 number))
+    (file_name_of output)) (volume_extent a b c)) (size_in z)) (size_in y)) (size_in x))
+    (given (natural_in 0 2147483647 number))
 make_of words = None
 
 -- the command that all words are

@@ -39,11 +39,13 @@ command_view (words.Make made) = Make (make_of made)
 abbrev pub usage_told : Telling
 usage_told = record { text = usage_line; status = status.Usage; is_made = false }
 
-module _ {P O : Type 0} (m : port.Ghosts P) (o : out.Ghosts O) (desk new_desk : P) (old new : List P) (before after : O) where
+module _ {P O : Type 0} (m : port.Ghosts P) (o : out.Ghosts O) (desk new_desk : P)
+    (old new : List P) (before after : O) where
   -- what a run was: the account of its command, and what was put of it. The command of one file and
   -- that of a volume use no desk; where the words are no command nothing is used
   abbrev pub IsRun : Option Command → Status → Type 0
-  IsRun (Some (Once c)) ended = once_account.IsRun m o c old new before after ended × (new_desk ≡ desk)
+  IsRun (Some (Once c)) ended = once_account.IsRun m o c old new before after ended
+      × (new_desk ≡ desk)
   IsRun (Some (Script script journal)) ended =
       (ran : Ran) × deeds.IsScriptRun m script journal ran desk new_desk old new
       × IsTold o (script_told.telling_of ran) ended before after
@@ -68,24 +70,30 @@ module _ {P O : Type 0} (m : port.Ghosts P) (o : out.Ghosts O) (desk new_desk : 
   abbrev pub IsRefused : Option Command → Type 0
   IsRefused (Some (Once c)) = once_promises.IsRefused m o c old new before after
   IsRefused (Some (Script script journal)) =
-      script_promises.IsReported m o script journal status.Refused desk new_desk old new before after
+      script_promises.IsReported m o script journal status.Refused desk new_desk old new before
+      after
   IsRefused (Some (Scratch c)) = replay_promises.IsRefused m o c desk new_desk old new before after
   IsRefused (Some (Make c)) = ⊥
   IsRefused None = ⊥
 
-  -- where a reason for a refusal holds, of a file, a script or a journal, or there is no port, it is told
+  -- where a reason for a refusal holds, of a file, a script or a journal, or there is no port, it
+  -- is told
   abbrev pub Refuses : Option Command → Status → Type 0
   Refuses (Some (Once c)) ended = once_promises.TellsRefusals m o c old new before after ended
   Refuses (Some (Script script journal)) ended =
       script_promises.TellsRefusals m o script desk new_desk old new before after ended
-  Refuses (Some (Scratch c)) ended = replay_promises.TellsRefusals m o c desk new_desk old new before after ended
+  Refuses (Some
+      (Scratch c)) ended = replay_promises.TellsRefusals m o c desk new_desk old new before after
+      ended
   Refuses (Some (Make c)) ended = make_promises.TellsRefusals o old before after ended
   Refuses None ended = Unit {0}
 
   -- a run that answers Script: the script or journal is refused, or there is no port
   abbrev pub IsScript : Option Command → Type 0
   IsScript (Some (Once c)) = once_promises.IsScript m o old new before after
-  IsScript (Some (Script script journal)) = script_promises.IsScriptRefused m o script journal desk new_desk old new before after
+  IsScript (Some
+      (Script script journal)) = script_promises.IsScriptRefused m o script journal desk new_desk
+      old new before after
   IsScript (Some (Scratch c)) = replay_promises.IsScript m o c desk new_desk old new before after
   IsScript (Some (Make c)) = make_promises.IsScript m o old new before after
   IsScript None = ⊥
@@ -102,15 +110,17 @@ module _ {P O : Type 0} (m : port.Ghosts P) (o : out.Ghosts O) (desk new_desk : 
 
   -- a run that answers Memory
   abbrev pub IsCutOff : Option Command → Type 0
-  IsCutOff (Some (Script script journal)) = script_promises.IsCutOff m script journal desk new_desk old new
+  IsCutOff (Some
+      (Script script journal)) = script_promises.IsCutOff m script journal desk new_desk old new
   IsCutOff (Some c) = Unit {0}
   IsCutOff None = ⊥
 
-  -- of a script a port whose actor has no command is as before; of other commands all ports but the first are, and where they use
-  -- no desk the desk is; where the words are no command all is
+  -- of a script a port whose actor has no command is as before; of other commands all ports but
+  -- the first are, and where they use no desk the desk is; where the words are no command all is
   abbrev pub OthersStay : Option Command → Type 0
   OthersStay (Some (Once c)) = ports.OthersStay old new × (new_desk ≡ desk)
-  OthersStay (Some (Script script journal)) = script_promises.IdleStay m script journal desk new_desk old new
+  OthersStay (Some
+      (Script script journal)) = script_promises.IdleStay m script journal desk new_desk old new
   OthersStay (Some (Scratch c)) = ports.OthersStay old new
   OthersStay (Some (Make c)) = ports.OthersStay old new × (new_desk ≡ desk)
   OthersStay None = (new ≡ old) × (new_desk ≡ desk)

@@ -4,7 +4,8 @@ ghost use Rattle.std.specs.Prelude.{◌≡◌, ◌⊎◌, ◌↔◌, None};
 ghost use Rattle.viz_base.specs.Faults.{Rose, one_more};
 ghost use Rattle.viz_actor.specs.Promises.{SomeRose};
 ghost use Rattle.viz_session.specs.Command.{command_of};
-ghost use Rattle.viz_session.specs.Runs.{IsRun, IsDone, IsRefused, IsScript, IsFault, IsCutOff, OthersStay, Refuses};
+ghost use Rattle.viz_session.specs.Runs.{IsRun, IsDone, IsRefused, IsScript, IsFault, IsCutOff};
+ghost use Rattle.viz_session.specs.Runs.{OthersStay, Refuses};
 ghost use Rattle.viz_told.specs.Lines.{usage_line};
 ghost use Rattle.viz_told.specs.Puts.{PutsLine};
 

@@ -4,7 +4,8 @@ use Rattle.viz_fraction.specs.Points.{Point}
 use Rattle.viz_sheet.specs.declared.leaves.Leaves.{Leaves}
 use Rattle.viz_sheet.specs.declared.leaves.Leaves.TheVariants.{One, Two, Four, Eight}
 use Rattle.viz_sheet.specs.declared.ranks.Ranks.{Ranks}
-use Rattle.viz_sheet.specs.declared.ranks.Ranks.TheVariants.{Vertices, Lines, Triangles, Tetrahedra, Any}
+use Rattle.viz_sheet.specs.declared.ranks.Ranks.TheVariants.{Vertices, Lines, Triangles}
+use Rattle.viz_sheet.specs.declared.ranks.Ranks.TheVariants.{Tetrahedra, Any}
 use Rattle.viz_sheet.specs.declared.places.Places.{Places}
 use Rattle.viz_sheet.specs.declared.places.Places.TheVariants.{Small, Wide}
 

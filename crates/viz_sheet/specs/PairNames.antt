@@ -19,16 +19,19 @@ pub record IsPair (count : ℕ) (pair : List ℕ) : Type 0 where
 -- the name of a pair of ranks: the leaves of the first, then those of the second
 abbrev pub pair_name : List (List ℕ) → List ℕ → List ℕ
 pair_name names pair =
-    slice_index_or names (slice_index_or pair 0 0) [] ++ slice_index_or names (slice_index_or pair 1 0) []
+    slice_index_or names (slice_index_or pair 0 0) []
+    ++ slice_index_or names (slice_index_or pair 1 0) []
 
 -- two pairs of ranks compare as the names that they make
 abbrev pub PairsCompareAsNames : Type 0
 PairsCompareAsNames =
-    (size : ℕ) (names : List (List ℕ)) (p q : List ℕ) → AreNames size names → IsPair (length names) p → IsPair (length names) q
+    (size : ℕ) (names : List (List ℕ)) (p q : List ℕ) → AreNames size names
+    → IsPair (length names) p → IsPair (length names) q
     → slice_cmp nat_cmp (pair_name names p) (pair_name names q) ≡ slice_cmp nat_cmp p q
 
 -- names of pairs that ascend ascend
 abbrev pub PairsAscendAsNames : Type 0
 PairsAscendAsNames =
-    (size : ℕ) (names : List (List ℕ)) (pairs : List (List ℕ)) → AreNames size names → All (IsPair (length names)) pairs
+    (size : ℕ) (names : List (List ℕ)) (pairs : List (List ℕ)) → AreNames size names
+    → All (IsPair (length names)) pairs
     → IsStrictlySortedBy (slice_cmp nat_cmp) pairs → AreAscending (map (pair_name names) pairs)

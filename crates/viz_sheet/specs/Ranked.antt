@@ -1,5 +1,6 @@
 -- Cells by ranks: how many names come before each of a cell's names.
-use Rattle.std.specs.Prelude.{◌≡◌, ℕ, ◌<◌, ◌≤◌, ◌^◌, List, [], ◌∷◌, length, map, All, Contains, slice_index_or, count_by}
+use Rattle.std.specs.Prelude.{◌≡◌, ℕ, ◌<◌, ◌≤◌, ◌^◌, List, [], ◌∷◌, length, map, All, Contains}
+use Rattle.std.specs.Prelude.{slice_index_or, count_by}
 use Rattle.std.specs.List.{flat_map, range_with_len}
 use Rattle.std.specs.Cmp.Lexicographic.{slice_cmp}
 use Rattle.std.specs.Ordering.{nat_cmp, is_lt}
@@ -30,7 +31,8 @@ pub record IsCell (count : ℕ) (cell : List ℕ) : Type 0 where
   pub apart : AreApart cell
 
 -- names that ascend, a point for each, and cells of them; a name may have no cell
-pub record AreCells (names : List (List ℕ)) (points : List Point) (cells : List (List ℕ)) : Type 0 where
+pub record AreCells (names : List (List ℕ)) (points : List Point)
+    (cells : List (List ℕ)) : Type 0 where
   pub ascending : AreAscending names
   pub matched : length points ≡ length names
   pub few : length names ≤ 2 ^ 32
@@ -41,7 +43,8 @@ abbrev pub AreUsed : ℕ → List (List ℕ) → Type 0
 AreUsed count cells = (r : ℕ) → r < count → Contains (flat_map (λ cell. cell) cells) r
 
 -- the rule of a sheet by ranks: cells of names, and no name without a cell
-pub record AreRanks (names : List (List ℕ)) (points : List Point) (cells : List (List ℕ)) : Type 0 where
+pub record AreRanks (names : List (List ℕ)) (points : List Point)
+    (cells : List (List ℕ)) : Type 0 where
   pub rule : AreCells names points cells
   pub used : AreUsed (length names) cells
 

@@ -1,12 +1,15 @@
--- Sheets: cells by the names of their points, where VTK has point ids (VTK User's Guide, "Simple legacy formats").
-use Rattle.std.specs.Prelude.{◌≡◌, ◌≢◌, ◌↔◌, ℕ, ◌<◌, ◌≤◌, ◌==◌, if◌then◌else◌, List, [], ◌∷◌, length, All, Contains, slice_index_or}
+-- Sheets: cells by the names of their points, where VTK has point ids (VTK User's Guide, "Simple
+-- legacy formats").
+use Rattle.std.specs.Prelude.{◌≡◌, ◌≢◌, ◌↔◌, ℕ, ◌<◌, ◌≤◌, ◌==◌, if◌then◌else◌, List, [], ◌∷◌}
+use Rattle.std.specs.Prelude.{length, All, Contains, slice_index_or}
 use Rattle.std.specs.List.{flat_map}
 use Rattle.std.specs.List.Sorted.{IsStrictlySortedBy}
 use Rattle.std.specs.Cmp.Lexicographic.{slice_cmp}
 use Rattle.std.specs.Ordering.{nat_cmp}
 use Rattle.viz_fraction.specs.Points.{Point}
 
--- what is seen of a sheet: names, the point of each, and cells by the names of their points; a name is the list of its leaves
+-- what is seen of a sheet: names, the point of each, and cells by the names of their points; a
+-- name is the list of its leaves
 pub record SheetData : Type 0 where
   pub names : List (List ℕ)
   pub points : List Point
@@ -36,7 +39,8 @@ pub record IsSheet (s : SheetData) : Type 0 where
 
 -- sheets with equal cells have equal names
 abbrev pub CellsDetermineNames : Type 0
-CellsDetermineNames = (s t : SheetData) → IsSheet s → IsSheet t → s.cells ≡ t.cells → s.names ≡ t.names
+CellsDetermineNames = (s t : SheetData) → IsSheet s → IsSheet t → s.cells ≡ t.cells
+    → s.names ≡ t.names
 
 -- each of the names is one of the others, and has the point that it has there
 abbrev pub KeepPoints : List (List ℕ) → List Point → List (List ℕ) → List Point → Type 0
@@ -45,10 +49,13 @@ KeepPoints names points others places =
     → (r : ℕ) × (r < length others) × (slice_index_or names k [] ≡ slice_index_or others r [])
     × (slice_index_or points k d ≡ slice_index_or places r d)
 
--- how many names a cell may have, whose names have so many leaves: 4 of one leaf, and one fewer at each level
+-- how many names a cell may have, whose names have so many leaves: 4 of one leaf, and one fewer at
+-- each level
 abbrev pub most_names : ℕ → ℕ
-most_names leaves = if leaves == 1 then 4 else (if leaves == 2 then 3 else (if leaves == 4 then 2 else 1))
+most_names leaves = if leaves == 1 then 4 else
+    (if leaves == 2 then 3 else (if leaves == 4 then 2 else 1))
 
--- a sheet fits: its cells are so small that sections of it, one after the other, end before names have more than 8 leaves
+-- a sheet fits: its cells are so small that sections of it, one after the other, end before names
+-- have more than 8 leaves
 pub record IsFit (s : SheetData) : Type 0 where
   pub each : All (λ cell. All (λ n. length cell ≤ most_names (length n)) cell) s.cells

@@ -1,5 +1,7 @@
--- The audit of a surface: how many sides it has, in two triangles, in one, and in one on the boundary (Doi and Koide 1991).
-use Rattle.std.specs.Prelude.{◌≡◌, ℕ, ◌+◌, ◌==◌, ◌&&◌, Bool, List, map, length, count_by, if◌then◌else◌}
+-- The audit of a surface: how many sides it has, in two triangles, in one, and in one on the
+-- boundary (Doi and Koide 1991).
+use Rattle.std.specs.Prelude.{◌≡◌, ℕ, ◌+◌, ◌==◌, ◌&&◌, Bool, List, map, length, count_by}
+use Rattle.std.specs.Prelude.{if◌then◌else◌}
 use Rattle.std.specs.List.{flat_map}
 use Rattle.std.specs.Set.{unique_keys}
 use Rattle.viz_extent.specs.Extent.{Bounds}
@@ -44,9 +46,11 @@ count_lone cells = count_by (is_lone cells) (sides_in cells)
 abbrev pub count_border : Bounds → List (List Edge) → ℕ
 count_border b cells = count_by (is_border b cells) (sides_in cells)
 
--- every side of a section lies in two triangles or is a border side, and every lone one is a border side
+-- every side of a section lies in two triangles or is a border side, and every lone one is a
+-- border side
 abbrev pub AuditsAgree : Type 0
 AuditsAgree =
     (b : Bounds) (inside : List Bool)
     → let cells = grid_cells b inside in
-    (count_sides cells ≡ count_two cells + count_border b cells) × (count_lone cells ≡ count_border b cells)
+    (count_sides cells ≡ count_two cells + count_border b cells)
+    × (count_lone cells ≡ count_border b cells)

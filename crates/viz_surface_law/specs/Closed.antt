@@ -1,4 +1,5 @@
--- Surfaces that are closed up to the boundary of a grid: no side ends one inside the grid (Doi and Koide 1991).
+-- Surfaces that are closed up to the boundary of a grid: no side ends one inside the grid (Doi and
+-- Koide 1991).
 use Rattle.std.specs.Prelude.{◌≡◌, ◌⊎◌, ◌↔◌, ℕ, ◌<◌, ◌&&◌, Bool, IsTrue, List, count_by}
 use Rattle.std.specs.List.{list_any}
 use Rattle.viz_extent.specs.Extent.{Bounds}
@@ -23,7 +24,8 @@ LiesInTwo cells s = (run_through cells s ≡ 1) × (run_through cells (turned s)
 abbrev pub LiesInOne : List (List Edge) → Side → Type 0
 LiesInOne cells s = (run_through cells s ≡ 1) × (run_through cells (turned s) ≡ 0)
 
--- each side of a triangle lies in two triangles, or in one, and in one just where its facet lies on the boundary
+-- each side of a triangle lies in two triangles, or in one, and in one just where its facet lies
+-- on the boundary
 abbrev pub IsClosedUpToBoundary : Bounds → List (List Edge) → Type 0
 IsClosedUpToBoundary b cells =
     (s : Side) → 0 < run_through cells s

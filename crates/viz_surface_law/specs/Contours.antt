@@ -1,4 +1,5 @@
--- The contour of an image, and that it is closed up to the boundary of the grid (Doi and Koide 1991).
+-- The contour of an image, and that it is closed up to the boundary of the grid (Doi and Koide
+-- 1991).
 use Rattle.std.specs.Prelude.{◌≡◌, ◌+◌, ℤ, List}
 use Rattle.viz_fraction.specs.Forms.{contour_form}
 use Rattle.viz_dataset.specs.Images.{ImageData, IsImage}
@@ -21,7 +22,8 @@ triangles_of level image = by_edges (contour_of level image).cells
 -- an audit takes the contour of each image, at each level
 abbrev pub ContoursAreSurfaces : Type 0
 ContoursAreSurfaces =
-    (level : ℤ) (image : ImageData) → IsImage image → IsSurface image.extent (contour_of level image)
+    (level : ℤ) (image : ImageData) → IsImage image
+    → IsSurface image.extent (contour_of level image)
 
 -- it is closed up to the boundary
 abbrev pub ContoursAreClosed : Type 0

@@ -1,4 +1,5 @@
--- The section of an image by a linear form, so by a level or a plane, and that it is closed up to the boundary of the grid (Doi and Koide 1991).
+-- The section of an image by a linear form, so by a level or a plane, and that it is closed up to
+-- the boundary of the grid (Doi and Koide 1991).
 use Rattle.std.specs.Prelude.{◌≡◌, ◌+◌, Bool, List, map}
 use Rattle.viz_fraction.specs.declared.forms.Form.{Form}
 use Rattle.viz_dataset.specs.Images.{ImageData}
@@ -26,7 +27,8 @@ form_triangles f image = by_edges (form_section f image).cells
 -- they are those of the grid, by which points are inside
 abbrev pub FormSectionsAreOfGrid : Type 0
 FormSectionsAreOfGrid =
-    (f : Form) (image : ImageData) → form_triangles f image ≡ grid_cells image.extent (insides_of f image)
+    (f : Form) (image : ImageData) → form_triangles f image
+    ≡ grid_cells image.extent (insides_of f image)
 
 -- an audit takes the section of each image, by each form
 abbrev pub FormSectionsAreSurfaces : Type 0

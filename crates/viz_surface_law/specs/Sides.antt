@@ -1,4 +1,5 @@
--- Sides of triangles between edges of a grid, and the facet in which a side lies (Doi and Koide 1991).
+-- Sides of triangles between edges of a grid, and the facet in which a side lies (Doi and Koide
+-- 1991).
 use Rattle.std.specs.Prelude.{ℕ, ◌==◌, ◌&&◌, ◌||◌, Bool, List, [], ◌∷◌}
 use Rattle.viz_grid_section.specs.Edges.{Edge}
 
@@ -28,10 +29,12 @@ same_edge m n = (m.low == n.low) && (m.high == n.high)
 abbrev pub same_side : Side → Side → Bool
 same_side s t = same_edge s.tail t.tail && same_edge s.head t.head
 
--- whether the edges of a side share a leaf: then it lies in the facet of their three leaves, and else inside a tetrahedron
+-- whether the edges of a side share a leaf: then it lies in the facet of their three leaves, and
+-- else inside a tetrahedron
 abbrev pub shares : Side → Bool
 shares s =
-    (s.tail.low == s.head.low) || ((s.tail.low == s.head.high) || ((s.tail.high == s.head.low) || (s.tail.high == s.head.high)))
+    (s.tail.low == s.head.low) || ((s.tail.low == s.head.high)
+    || ((s.tail.high == s.head.low) || (s.tail.high == s.head.high)))
 
 -- the leaves of both edges: those of the facet, where the edges share one
 abbrev pub facet_of : Side → List ℕ

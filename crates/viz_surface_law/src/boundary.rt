@@ -26,7 +26,8 @@ pub(crate) fn is_at_border(sheet: &Sheet, whole: &Extent, side: u64) -> bool
 fn lies_on_boundary(whole: &Extent, tail: &[u32], head: &[u32]) -> bool
     requires tail { IsEdgeName (count_of whole.now) tail.now }
     requires head { IsEdgeName (count_of whole.now) head.now }
-    ensures value { result ≡ on_boundary whole.now (side (edge_named tail.now) (edge_named head.now)) }
+    ensures value { result ≡ on_boundary whole.now
+        (side (edge_named tail.now) (edge_named head.now)) }
 {
     let (a, b, c, d) = (tail[0], tail[1], head[0], head[1]);
     if is_one_of(c, a, b) {

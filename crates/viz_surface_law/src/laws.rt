@@ -1,11 +1,14 @@
-//! Laws of the facets of a grid and of the sides of a section. A function that calls one may rest on
-//! it.
+//! Laws of the facets of a grid and of the sides of a section. A function that calls one may rest
+//! on it.
 
 ghost use Rattle.viz_surface_law.specs.Audit.{AuditsAgree};
 ghost use Rattle.viz_surface_law.specs.Closed.{SectionsAreClosed};
-ghost use Rattle.viz_surface_law.specs.Contours.{ContourSidesAddUp, ContoursAreClosed, ContoursAreSurfaces, LoneSidesAreBorders};
+ghost use Rattle.viz_surface_law.specs.Contours.{ContourSidesAddUp, ContoursAreClosed};
+ghost use Rattle.viz_surface_law.specs.Contours.{ContoursAreSurfaces, LoneSidesAreBorders};
 ghost use Rattle.viz_surface_law.specs.Facets.{FacetsAreShared};
-ghost use Rattle.viz_surface_law.specs.FormSections.{FormSectionsAreClosed, FormSectionsAreOfGrid, FormSectionsAreSurfaces, FormSidesAddUp, LoneFormSidesAreBorders};
+ghost use Rattle.viz_surface_law.specs.FormSections.{FormSectionsAreClosed, FormSectionsAreOfGrid};
+ghost use Rattle.viz_surface_law.specs.FormSections.{FormSectionsAreSurfaces, FormSidesAddUp};
+ghost use Rattle.viz_surface_law.specs.FormSections.{LoneFormSidesAreBorders};
 
 /// A facet inside the grid lies in exactly two tetrahedra, one on the boundary in exactly one.
 pub fn facets_are_shared()

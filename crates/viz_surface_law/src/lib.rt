@@ -1,10 +1,12 @@
-//! The surface law: a section of a grid is closed up to the boundary, and an audit counts its sides.
+//! The surface law: a section of a grid is closed up to the boundary, and an audit counts its
+//! sides.
 //!
-//! Contract: a facet of a tetrahedron lies in two tetrahedra, or in one, and in one exactly where it
-//! lies on the boundary; whichever points are inside, each side of a triangle of the section lies in
-//! two triangles that run through it in opposite directions, or in one, and in one exactly where its
-//! facet lies on the boundary; `audit` counts the sides of any sheet of triangles between edges.
-//! Definitions: `specs/Facets.antt`, `specs/Sides.antt`, `specs/Closed.antt`, `specs/Audit.antt`,
+//! Contract: a facet of a tetrahedron lies in two tetrahedra, or in one, and in one exactly where
+//! it lies on the boundary; whichever points are inside, each side of a triangle of the section
+//! lies in two triangles that run through it in opposite directions, or in one, and in one exactly
+//! where its facet lies on the boundary; `audit` counts the sides of any sheet of triangles
+//! between edges. Definitions: `specs/Facets.antt`, `specs/Sides.antt`, `specs/Closed.antt`,
+//! `specs/Audit.antt`,
 //! `specs/Surfaces.antt`, `specs/FormSections.antt` and `specs/Contours.antt`.
 #![tactic(auto)]
 

@@ -1,8 +1,10 @@
 //! One pass over sorted keys of sides.
 
-ghost use Rattle.std.specs.Prelude.{◌≡◌, ◌+◌, ◌-◌, ◌/◌, ◌%◌, ◌<◌, ◌≤◌, ◌^◌, ℕ, List, [], ◌∷◌, All, length};
+ghost use Rattle.std.specs.Prelude.{◌≡◌, ◌+◌, ◌-◌, ◌/◌, ◌%◌, ◌<◌, ◌≤◌, ◌^◌, ℕ, List, [], ◌∷◌, All};
+ghost use Rattle.std.specs.Prelude.{length};
 ghost use Rattle.viz_extent.specs.Extent.{count_of};
-ghost use Rattle.viz_surface_law.specs.Steps.Keys.{Ascend, any_side, half, in_one, in_two, passing, tallied};
+ghost use Rattle.viz_surface_law.specs.Steps.Keys.{Ascend, any_side, half, in_one, in_two};
+ghost use Rattle.viz_surface_law.specs.Steps.Keys.{passing, tallied};
 ghost use Rattle.viz_surface_law.specs.Steps.Ranked.{HasRanks, in_border};
 ghost use Rattle.viz_surface_law.specs.Surfaces.{IsEdgeName};
 

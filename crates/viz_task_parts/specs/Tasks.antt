@@ -74,8 +74,8 @@ PartsArePassed =
     → IsPlaced net sink → HaveOwnPorts net → head_of (ways_to net sink) ≡ Some reached
     → IsExactPart (cone_of net reached) request part → IsExactPart (cone_of net sink) request part
 
--- what a node gives from scratch the node gives that requests to it reach: a writer gives what feeds
--- it
+-- what a node gives from scratch the node gives that requests to it reach: a writer gives what
+-- feeds it
 abbrev pub DatasetsArePassed : Type 0
 DatasetsArePassed =
     (net : Network) (sink reached : ℕ) (whole : Dataset)

@@ -3,7 +3,8 @@
 ghost use Rattle.std.specs.Prelude.{◌≡◌, ◌<◌, ◌≤◌, ◌++◌, IfOk, OnOk};
 ghost use Rattle.std.specs.List.{flat_map};
 ghost use Rattle.viz_kuhn.specs.Corners.{corner};
-ghost use Rattle.viz_kuhn.specs.Cubes.{HasCube, HasNext, leaf_of, lowest_in_layer, lowest_in_row, six_at, tetrahedra_of};
+ghost use Rattle.viz_kuhn.specs.Cubes.{HasCube, HasNext, leaf_of, lowest_in_layer, lowest_in_row};
+ghost use Rattle.viz_kuhn.specs.Cubes.{six_at, tetrahedra_of};
 ghost use Rattle.viz_kuhn.specs.Places.{place, place_of};
 
 use std::alloc::{AllocError, Global};

@@ -1,4 +1,5 @@
--- The lines that are the same each time, and that more than one command puts (docs/FORMATS.md, "Report").
+-- The lines that are the same each time, and that more than one command puts (docs/FORMATS.md,
+-- "Report").
 use Rattle.std.specs.Prelude.{ℕ, List, codes}
 
 -- the words are no command

@@ -1,4 +1,5 @@
--- What a run did of which only the first of all ports is used (docs/DEFINITIONS.md, "How a run is told").
+-- What a run did of which only the first of all ports is used (docs/DEFINITIONS.md, "How a run is
+-- told").
 use Rattle.std.specs.Prelude.{◌≡◌, List, [], ◌∷◌}
 use Rattle.viz_base.specs.Faults.{Rose}
 use Rattle.viz_base.specs.declared.port.Port as port

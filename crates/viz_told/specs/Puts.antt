@@ -12,7 +12,8 @@ GainsLine m line old new = IsTrue m.tells_text → m.text new ≡ m.text old ++ 
 
 -- first bytes of the line were put, and the count of faults rose
 abbrev pub IsBroken : {O : Type 0} → out.Ghosts O → List ℕ → O → O → Type 0
-IsBroken m line old new = Rose (m.faults old) (m.faults new) × AppendsPrefix (m.text old) line (m.text new)
+IsBroken m line old new = Rose (m.faults old) (m.faults new)
+    × AppendsPrefix (m.text old) line (m.text new)
 
 -- nothing was put, since the put wasn't answered for want of memory
 abbrev pub IsUnanswered : {O : Type 0} → out.Ghosts O → O → O → Type 0
@@ -20,12 +21,15 @@ IsUnanswered m old new = (m.text new ≡ m.text old) × (m.answered new ≡ m.an
 
 -- the line was put, where the text is told, unless the put failed or memory ran out at it
 abbrev pub PutsLine : {O : Type 0} → out.Ghosts O → List ℕ → O → O → Type 0
-PutsLine m line old new = IsTrue m.tells_text → (m.text new ≡ m.text old ++ line) ⊎ (IsBroken m line old new ⊎ IsUnanswered m old new)
+PutsLine m line old new = IsTrue m.tells_text → (m.text new ≡ m.text old ++ line)
+    ⊎ (IsBroken m line old new ⊎ IsUnanswered m old new)
 
 -- the line was put, where the text is told, unless the put failed
 abbrev pub PutsOrBreaks : {O : Type 0} → out.Ghosts O → List ℕ → O → O → Type 0
-PutsOrBreaks m line old new = IsTrue m.tells_text → (m.text new ≡ m.text old ++ line) ⊎ IsBroken m line old new
+PutsOrBreaks m line old new = IsTrue m.tells_text → (m.text new ≡ m.text old ++ line)
+    ⊎ IsBroken m line old new
 
 -- the status where there is nothing to serve: Script, with this line, or Memory
 abbrev pub EndsInScript : {O : Type 0} → out.Ghosts O → List ℕ → O → O → Status → Type 0
-EndsInScript m line old new ended = ((ended ≡ status.Script) × PutsOrBreaks m line old new) ⊎ (ended ≡ status.Memory)
+EndsInScript m line old new ended = ((ended ≡ status.Script) × PutsOrBreaks m line old new)
+    ⊎ (ended ≡ status.Memory)

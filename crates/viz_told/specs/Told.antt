@@ -16,7 +16,8 @@ abbrev pub bytes_of : Text → List ℕ
 bytes_of (text.Fixed bytes) = bytes.now
 bytes_of (text.Made bytes) = bytes
 
--- what is told of an outcome: its text, the status where the whole text is put, and whether the text takes memory
+-- what is told of an outcome: its text, the status where the whole text is put, and whether the
+-- text takes memory
 pub record Telling : Type 0 where
   pub text : List ℕ
   pub status : Status
@@ -55,7 +56,8 @@ TextAfter put (Err writing.Failed) old new = AppendsPrefix old put new
 TextAfter put (Err writing.Memory) old new = new ≡ old
 
 -- a text was put once, with this answer
-pub record IsPut {O : Type 0} (m : out.Ghosts O) (put : List ℕ) (answer : Result (Unit {0}) WriteRefusal) (old new : O) : Type 0 where
+pub record IsPut {O : Type 0} (m : out.Ghosts O) (put : List ℕ)
+    (answer : Result (Unit {0}) WriteRefusal) (old new : O) : Type 0 where
   pub text_after : IsTrue m.tells_text → TextAfter put answer (m.text old) (m.text new)
   pub cause : answer ≡ Err writing.Failed → Rose (m.faults old) (m.faults new)
   pub later : m.faults old ≤ m.faults new
@@ -65,8 +67,11 @@ pub record IsPut {O : Type 0} (m : out.Ghosts O) (put : List ℕ) (answer : Resu
 -- this text was put once, and the status belongs to it
 abbrev pub IsToldAs : {O : Type 0} → out.Ghosts O → Telling → Status → O → O → Type 0
 IsToldAs m t ended old new =
-    (answer : Result (Unit {0}) WriteRefusal) × (ended ≡ status_after t.status answer) × IsPut m t.text answer old new
+    (answer : Result (Unit {0}) WriteRefusal) × (ended ≡ status_after t.status answer)
+    × IsPut m t.text answer old new
 
--- an outcome was told; or want of memory in its place, where memory ran out at the making of its text
+-- an outcome was told; or want of memory in its place, where memory ran out at the making of its
+-- text
 abbrev pub IsTold : {O : Type 0} → out.Ghosts O → Telling → Status → O → O → Type 0
-IsTold m t ended old new = IsToldAs m t ended old new ⊎ (IsTrue t.is_made × IsToldAs m memory_told ended old new)
+IsTold m t ended old new = IsToldAs m t ended old new
+    ⊎ (IsTrue t.is_made × IsToldAs m memory_told ended old new)

@@ -1,8 +1,9 @@
 //! How a run is told: by one text, which is put once, and by the status that belongs to it.
 //!
-//! Contract: `tell` puts the text of an outcome, or that memory ran out at its making, and answers the
-//! status by what the put answered. Definitions: `specs/Told.antt` and the files that it names; what a
-//! run did at a port stands in `specs/Calls.antt`. The rules are those of docs/FORMATS.md, "Report".
+//! Contract: `tell` puts the text of an outcome, or that memory ran out at its making, and answers
+//! the status by what the put answered. Definitions: `specs/Told.antt` and the files that it
+//! names; what a run did at a port stands in `specs/Calls.antt`. The rules are those of
+//! docs/FORMATS.md, "Report".
 #![tactic(auto)]
 
 mod lines;

@@ -1,7 +1,9 @@
-//! The lines that are the same each time, and that more than one command puts (docs/FORMATS.md, "Report").
+//! The lines that are the same each time, and that more than one command puts (docs/FORMATS.md,
+//! "Report").
 
 ghost use Rattle.std.specs.Prelude.{◌≡◌};
-ghost use Rattle.viz_told.specs.Lines.{usage_line, no_port_line, read_fault_line, write_fault_line, memory_line};
+ghost use Rattle.viz_told.specs.Lines.{usage_line, no_port_line, read_fault_line};
+ghost use Rattle.viz_told.specs.Lines.{write_fault_line, memory_line};
 
 /// The words are no command.
 #[tactic(auto, unfolding(crate::specs::Lines::usage_line))]

@@ -2,7 +2,8 @@
 
 ghost use Rattle.std.specs.Prelude.{◌≡◌, Result};
 ghost use Rattle.viz_base.specs.declared.refusal.WriteRefusal.{WriteRefusal as Refusal};
-ghost use Rattle.viz_told.specs.Told.{IsPut, IsTold, bytes_of, status_at_fault, status_at_memory, status_after};
+ghost use Rattle.viz_told.specs.Told.{IsPut, IsTold, bytes_of, status_at_fault, status_at_memory};
+ghost use Rattle.viz_told.specs.Told.{status_after};
 
 use crate::lines::memory_line;
 use crate::status::Status;

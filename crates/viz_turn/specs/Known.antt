@@ -32,11 +32,13 @@ module _ {E : Type 0} where
 
   -- the same pass, which knows this tale
   abbrev pub at_seen : Known E → List E → Known E
-  at_seen p tale = record { turn = p.turn; number = p.number; ended = p.ended; born = p.born; seen = tale }
+  at_seen p tale =
+      record { turn = p.turn; number = p.number; ended = p.ended; born = p.born; seen = tale }
 
   -- the pass from which the number n was split off
   abbrev pub elder : ℕ → Known E → Known E
-  elder n p = record { turn = p.turn; number = p.number; ended = p.ended; born = n ∷ p.born; seen = p.seen }
+  elder n p =
+      record { turn = p.turn; number = p.number; ended = p.ended; born = n ∷ p.born; seen = p.seen }
 
   -- the pass that was split off with the number n
   abbrev pub younger : ℕ → Known E → Known E

@@ -1,11 +1,13 @@
 //! The rule, and the kinds of atomic step under it. These types are for the proofs alone.
 //!
 //! The words are 0, the number of entries; 1, the next ticket; 2, the ticket that is served; and
-//! 3, the next number of a pass. The one slot has the state. An exchange of what lies in a slot that
-//! is out with a seat is a plain read and write, and no step.
+//! 3, the next number of a pass. The one slot has the state. An exchange of what lies in a slot
+//! that is out with a seat is a plain read and write, and no step.
 
 ghost use Rattle.viz_turn.specs.Steps.Rule.{IsRuled};
-ghost use Rattle.viz_turn.specs.Steps.Kinds.{first_view, spent_view, elder_view, younger_view, joined, numbered, learned, drew, passed, rested, appended, looked};
+ghost use Rattle.viz_turn.specs.Steps.Kinds.{first_view, spent_view, elder_view, younger_view};
+ghost use Rattle.viz_turn.specs.Steps.Kinds.{joined, numbered, learned, drew, passed, rested};
+ghost use Rattle.viz_turn.specs.Steps.Kinds.{appended, looked};
 
 use crate::story::{Picks, Story};
 use crate::view::View;

@@ -1,4 +1,5 @@
-//! The steps that are tried until they succeed, and how a thread waits between two tries; the step of
+//! The steps that are tried until they succeed, and how a thread waits between two tries; the step
+//! of
 //! `append`, and the end of the table.
 
 ghost use Rattle.std.specs.Prelude.{◌≡◌, ◌+◌, ◌<◌, ◌≤◌, ◌^◌, ◌%◌, length};

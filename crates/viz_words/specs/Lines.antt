@@ -1,5 +1,6 @@
 -- The lines of a script (docs/FORMATS.md, "Scripts").
-use Rattle.std.specs.Prelude.{ℕ, suc, Bool, false, ◌&&◌, ◌||◌, ◌==◌, nat_le, List, [], ◌∷◌, Option, None, Some, option_map, if◌then◌else◌}
+use Rattle.std.specs.Prelude.{ℕ, suc, Bool, false, ◌&&◌, ◌||◌, ◌==◌, nat_le, List, [], ◌∷◌, Option}
+use Rattle.std.specs.Prelude.{None, Some, option_map, if◌then◌else◌}
 use Rattle.std.specs.List.{list_all}
 
 -- the place of the first newline
@@ -17,10 +18,12 @@ abbrev pub in_front : ℕ → List (List ℕ) → List (List ℕ)
 in_front b [] = (b ∷ []) ∷ []
 in_front b (part ∷ parts) = (b ∷ part) ∷ parts
 
--- the lines without their newlines, which the last may lack; a carriage return before a newline is dropped
+-- the lines without their newlines, which the last may lack; a carriage return before a newline is
+-- dropped
 abbrev pub lines_of : List ℕ → List (List ℕ)
 lines_of [] = []
-lines_of (b ∷ bs) = if b == 10 then [] ∷ lines_of bs else (if b == 13 && begins_newline bs then lines_of bs else in_front b (lines_of bs))
+lines_of (b ∷ bs) = if b == 10 then [] ∷ lines_of bs
+    else (if b == 13 && begins_newline bs then lines_of bs else in_front b (lines_of bs))
 
 -- a tab, or a byte from space to ~
 abbrev pub is_plain_byte : ℕ → Bool

@@ -1,5 +1,6 @@
 -- Names of nodes, files and arrays (docs/FORMATS.md, "Names").
-use Rattle.std.specs.Prelude.{ℕ, Bool, false, ◌&&◌, ◌||◌, ◌==◌, nat_le, List, [], ◌∷◌, Result, Ok, Err, if◌then◌else◌}
+use Rattle.std.specs.Prelude.{ℕ, Bool, false, ◌&&◌, ◌||◌, ◌==◌, nat_le, List, [], ◌∷◌, Result, Ok}
+use Rattle.std.specs.Prelude.{Err, if◌then◌else◌}
 use Rattle.std.specs.List.{list_all}
 use Rattle.viz_base.specs.Names.{is_name}
 use Rattle.viz_words.specs.declared.refusal.ScriptRefusal.{ScriptRefusal}
@@ -7,7 +8,8 @@ use Rattle.viz_words.specs.declared.refusal.ScriptRefusal.TheVariants.{Name}
 
 -- a letter, a digit or _
 abbrev pub is_node_byte : ℕ → Bool
-is_node_byte b = nat_le 48 b && nat_le b 57 || nat_le 65 b && nat_le b 90 || b == 95 || nat_le 97 b && nat_le b 122
+is_node_byte b = nat_le 48 b && nat_le b 57 || nat_le 65 b && nat_le b 90 || b == 95 || nat_le 97 b
+    && nat_le b 122
 
 -- the same, or - or .
 abbrev pub is_file_byte : ℕ → Bool

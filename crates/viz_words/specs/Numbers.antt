@@ -1,5 +1,8 @@
--- Numbers of scripts: an optional minus sign and one or more digits, within 64 bits (docs/FORMATS.md, "Scripts").
-use Rattle.std.specs.Prelude.{ℕ, ℤ, pos, neg_ℤ, int_le, unsigned_abs, ◌&&◌, ◌==◌, List, [], ◌∷◌, Option, Some, None, option_map, ok_or, Result, Ok, Err, if◌then◌else◌}
+-- Numbers of scripts: an optional minus sign and one or more digits, within 64 bits
+-- (docs/FORMATS.md, "Scripts").
+use Rattle.std.specs.Prelude.{ℕ, ℤ, pos, neg_ℤ, int_le, unsigned_abs, ◌&&◌, ◌==◌, List, [], ◌∷◌}
+use Rattle.std.specs.Prelude.{Option, Some, None, option_map, ok_or, Result, Ok, Err}
+use Rattle.std.specs.Prelude.{if◌then◌else◌}
 use Rattle.viz_lex.specs.Numbers.{natural_of}
 use Rattle.viz_kinds.specs.Values.{first_number, last_number}
 use Rattle.viz_words.specs.declared.refusal.ScriptRefusal.{ScriptRefusal}
@@ -14,7 +17,8 @@ within (Some n) = if int_le first_number n && int_le n last_number then Some n e
 -- the number of a word
 abbrev pub number_of : List ℕ → Option ℤ
 number_of [] = None
-number_of (b ∷ bs) = within (if b == 45 then option_map (λ n. neg_ℤ (pos n)) (natural_of bs) else option_map (λ n. pos n) (natural_of (b ∷ bs)))
+number_of (b ∷ bs) = within (if b == 45 then option_map (λ n. neg_ℤ (pos n)) (natural_of bs)
+    else option_map (λ n. pos n) (natural_of (b ∷ bs)))
 
 -- a number that is due
 abbrev pub number_in : List ℕ → Result ℤ ScriptRefusal

@@ -17,4 +17,5 @@ refusal_word refusal.Edit = codes "Edit"
 
 -- the line of a script or journal that is refused
 unfoldable pub refused_script : ℕ → ScriptRefusal → List ℕ
-refused_script line r = codes "script line " ++ decimal line ++ codes " " ++ refusal_word r ++ codes "\n"
+refused_script line r = codes "script line " ++ decimal line ++ codes " " ++ refusal_word r
+    ++ codes "\n"

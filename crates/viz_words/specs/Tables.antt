@@ -59,16 +59,20 @@ param_word param.Release = codes "release"
 
 -- the commands
 abbrev pub commands : List Command
-commands = command.Add ∷ command.Remove ∷ command.Connect ∷ command.Disconnect ∷ command.Set ∷ command.Load ∷ command.Update ∷ command.Audit ∷ []
+commands = command.Add ∷ command.Remove ∷ command.Connect ∷ command.Disconnect ∷ command.Set
+    ∷ command.Load ∷ command.Update ∷ command.Audit ∷ []
 
 -- the kinds
 abbrev pub kinds : List Kind
-kinds = kind.File ∷ kind.Crop ∷ kind.Sample ∷ kind.Threshold ∷ kind.Smooth ∷ kind.Arith ∷ kind.Tets ∷ kind.Select ∷ kind.Contour
+kinds =
+    kind.File ∷ kind.Crop ∷ kind.Sample ∷ kind.Threshold ∷ kind.Smooth ∷ kind.Arith ∷ kind.Tets
+    ∷ kind.Select ∷ kind.Contour
     ∷ kind.Cut ∷ kind.Append ∷ kind.Boundary ∷ kind.Merge ∷ kind.Writer ∷ []
 
 -- the parameters
 abbrev pub params : List Param
-params = param.Array ∷ param.Unit ∷ param.Bounds ∷ param.Rate ∷ param.Range ∷ param.Radius ∷ param.Op ∷ param.Mode ∷ param.Levels ∷ param.Plane ∷ param.Style ∷ param.Digits
+params = param.Array ∷ param.Unit ∷ param.Bounds ∷ param.Rate ∷ param.Range ∷ param.Radius
+    ∷ param.Op ∷ param.Mode ∷ param.Levels ∷ param.Plane ∷ param.Style ∷ param.Digits
     ∷ param.Release ∷ []
 
 -- the command, the kind and the parameter of a word

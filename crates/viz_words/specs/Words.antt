@@ -1,5 +1,6 @@
 -- The words of a line (docs/FORMATS.md, "Scripts").
-use Rattle.std.specs.Prelude.{ℕ, Bool, true, false, not, ◌||◌, ◌==◌, List, [], ◌∷◌, ◌++◌, flat_map, if◌then◌else◌}
+use Rattle.std.specs.Prelude.{ℕ, Bool, true, false, not, ◌||◌, ◌==◌, List, [], ◌∷◌, ◌++◌, flat_map}
+use Rattle.std.specs.Prelude.{if◌then◌else◌}
 use Rattle.viz_words.specs.Lines.{in_front}
 
 -- space and tab
@@ -14,7 +15,8 @@ begins_word (b ∷ bs) = not (is_gap b)
 -- the longest parts without a space or a tab
 abbrev pub words_of : List ℕ → List (List ℕ)
 words_of [] = []
-words_of (b ∷ bs) = if is_gap b then words_of bs else (if begins_word bs then in_front b (words_of bs) else (b ∷ []) ∷ words_of bs)
+words_of (b ∷ bs) = if is_gap b then words_of bs
+    else (if begins_word bs then in_front b (words_of bs) else (b ∷ []) ∷ words_of bs)
 
 -- the byte # stands in front
 abbrev pub begins_hash : List ℕ → Bool

@@ -2,7 +2,8 @@
 
 ghost use Rattle.std.specs.Prelude.{◌≡◌};
 ghost use Rattle.viz_words.specs.Words.{words_of};
-ghost use Rattle.viz_words.specs.Edits.{add_in, remove_in, connect_in, disconnect_in, value_set_in, edit_in};
+ghost use Rattle.viz_words.specs.Edits.{add_in, remove_in, connect_in, disconnect_in};
+ghost use Rattle.viz_words.specs.Edits.{value_set_in, edit_in};
 
 use crate::arity::{one, three, two};
 use crate::command::Verb;

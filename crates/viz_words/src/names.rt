@@ -3,7 +3,8 @@
 ghost use Rattle.std.specs.Prelude.{◌≡◌, ◌&&◌};
 ghost use Rattle.std.specs.List.{list_all};
 ghost use Rattle.viz_base.specs.Names.{is_name, IsName};
-ghost use Rattle.viz_words.specs.Names.{is_node_byte, is_file_byte, is_array_byte, begins_name, is_node_name, is_file_name, is_array_name, named_in};
+ghost use Rattle.viz_words.specs.Names.{is_node_byte, is_file_byte, is_array_byte, begins_name};
+ghost use Rattle.viz_words.specs.Names.{is_node_name, is_file_name, is_array_name, named_in};
 
 use crate::refusal::ScriptRefusal;
 use viz_base::Word;

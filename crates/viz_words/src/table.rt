@@ -1,7 +1,8 @@
 //! The words of commands, kinds and parameters.
 
 ghost use Rattle.std.specs.Prelude.{◌≡◌};
-ghost use Rattle.viz_words.specs.Tables.{command_word, kind_word, param_word, command_named, kind_named, param_named};
+ghost use Rattle.viz_words.specs.Tables.{command_word, kind_word, param_word, command_named};
+ghost use Rattle.viz_words.specs.Tables.{kind_named, param_named};
 
 use crate::command::Command;
 use viz_kinds::{Kind, Param};

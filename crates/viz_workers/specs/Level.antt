@@ -1,4 +1,5 @@
--- A level of tasks with its items, a rule of our own. Tasks have numbers, and those of a level follow each other.
+-- A level of tasks with its items, a rule of our own. Tasks have numbers, and those of a level
+-- follow each other.
 use Rattle.std.specs.Prelude.{ℕ, ◌+◌, ◌<◌, ◌≤◌, List, length, slice_index_or}
 
 -- each of as many tasks, from the first on, is one of these

@@ -18,12 +18,14 @@ use Rattle.viz_account.specs.declared.surface.Counted.{Counted}
 
 -- the node gives an image of this extent, or no image
 abbrev pub GivesImage : Network → ℕ → Option Bounds → Type 0
-GivesImage net id (Some whole) = (image : ImageData) × IsImage image × IsScratch net id (Ok (Image image)) × (whole ≡ image.extent)
+GivesImage net id (Some whole) = (image : ImageData) × IsImage image
+    × IsScratch net id (Ok (Image image)) × (whole ≡ image.extent)
 GivesImage net id None = (image : ImageData) → IsScratch net id (Ok (Image image)) → ⊥
 
 -- the node stands on an image of this extent, or on none
 abbrev pub IsGround : Network → ℕ → Option Bounds → Type 0
-IsGround net id (Some whole) = (image : ImageData) × IsImage image × StandsOn (cone_of net id) image × (whole ≡ image.extent)
+IsGround net id (Some whole) = (image : ImageData) × IsImage image
+    × StandsOn (cone_of net id) image × (whole ≡ image.extent)
 IsGround net id None = (image : ImageData) → StandsOn (cone_of net id) image → ⊥
 
 -- the numbers of both together

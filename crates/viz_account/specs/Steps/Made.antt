@@ -1,5 +1,6 @@
 -- What is made of a node for its file. Only private contracts speak of it.
-use Rattle.std.specs.Prelude.{◌≡◌, ℕ, ◌++◌, List, [], ◌∷◌, Option, None, Some, Result, Ok, Err, IsTrue}
+use Rattle.std.specs.Prelude.{◌≡◌, ℕ, ◌++◌, List, [], ◌∷◌, Option, None, Some, Result, Ok, Err}
+use Rattle.std.specs.Prelude.{IsTrue}
 use Rattle.viz_base.specs.declared.call.Call.TheVariants.{Write}
 use Rattle.viz_base.specs.declared.call.WriteAnswer.TheVariants as write
 use Rattle.viz_base.specs.declared.port.Port as port
@@ -30,12 +31,14 @@ Makes net id (Err stop.Memory) = Unit {0}
 abbrev pub IsMissing : Network → List ℕ → Missing → Type 0
 IsMissing net node missing.Unknown = named net node ≡ None
 IsMissing net node (missing.Fault fault name) =
-    ((x : Node) × (named net node ≡ Some x) × IsFileOf net x.id.0 (Err fault)) × (name_of net fault.node.0 ≡ Some name)
+    ((x : Node) × (named net node ≡ Some x) × IsFileOf net x.id.0 (Err fault))
+    × (name_of net fault.node.0 ≡ Some name)
 IsMissing net node missing.Memory = Unit {0}
 
 -- why a node that stopped so gives nothing
 abbrev pub IsStop : Network → Stop → Missing → Type 0
-IsStop net (stop.Fault fault) (missing.Fault f name) = (f ≡ fault) × (name_of net fault.node.0 ≡ Some name)
+IsStop net (stop.Fault fault) (missing.Fault f name) = (f ≡ fault)
+    × (name_of net fault.node.0 ≡ Some name)
 IsStop net s missing.Memory = Unit {0}
 IsStop net s m = ⊥
 

@@ -1,10 +1,12 @@
 -- What is known of the parts before, as the readers keep it (docs/FORMATS.md, "Attribute parts").
-use Rattle.std.specs.Prelude.{Bool, false, not, ◌&&◌, ◌||◌, List, fold, Option, Some, None, if◌then◌else◌}
+use Rattle.std.specs.Prelude.{Bool, false, not, ◌&&◌, ◌||◌, List, fold, Option, Some, None}
+use Rattle.std.specs.Prelude.{if◌then◌else◌}
 use Rattle.viz_column.specs.Numbers.{Numbers}
 use Rattle.viz_attr.specs.declared.parts.Association.{Association}
 use Rattle.viz_attr.specs.Picks.{Given, Head, Part, Begins, Holds, fits_pick}
 
--- the association that was begun last, whether an array fitted the pick, and the numbers of the first that did
+-- the association that was begun last, whether an array fitted the pick, and the numbers of the
+-- first that did
 pub record Known : Type 0 where
   pub association : Option Association
   pub found : Bool
@@ -16,7 +18,9 @@ start = record { association = None; found = false; picked = None }
 
 -- with one part more
 abbrev pub with_part : Given → Known → Part → Known
-with_part g k (Begins association) = record { association = Some association; found = k.found; picked = k.picked }
+with_part g k
+    (Begins association) =
+    record { association = Some association; found = k.found; picked = k.picked }
 with_part g k (Holds head column) = record {
   association = k.association;
   found = k.found || fits_pick g head;

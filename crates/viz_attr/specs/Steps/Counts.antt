@@ -1,6 +1,8 @@
--- The readers of types and counts, which proofs compare with the rules (docs/FORMATS.md, "Attribute parts").
+-- The readers of types and counts, which proofs compare with the rules (docs/FORMATS.md,
+-- "Attribute parts").
 use Rattle.std.specs.Prelude.{ℕ, ◌^◌, Bool, not, ◌&&◌, Result, Ok, unsigned_abs, if◌then◌else◌}
-use Rattle.viz_lex.specs.declared.fault.FileKind.TheVariants.{Keyword, Count, FloatArray, TooMany, Unsupported}
+use Rattle.viz_lex.specs.declared.fault.FileKind.TheVariants.{Keyword, Count, FloatArray, TooMany}
+use Rattle.viz_lex.specs.declared.fault.FileKind.TheVariants.{Unsupported}
 use Rattle.viz_lex.specs.declared.fault.FileFault.{FileFault}
 use Rattle.viz_lex.specs.Reading.{Reading, ◌>>=◌}
 use Rattle.viz_lex.specs.Steps.{guard, has, due_word, due_number, is_beside}

@@ -1,5 +1,6 @@
 -- The readers of values, which proofs compare with the rules (docs/FORMATS.md, "Attribute parts").
-use Rattle.std.specs.Prelude.{ℕ, ℤ, zero, suc, ◌-◌, ◌*◌, Bool, true, false, List, Option, Some, None, Result, Ok, if◌then◌else◌}
+use Rattle.std.specs.Prelude.{ℕ, ℤ, zero, suc, ◌-◌, ◌*◌, Bool, true, false, List, Option, Some}
+use Rattle.std.specs.Prelude.{None, Result, Ok, if◌then◌else◌}
 use Rattle.viz_column.specs.declared.kind.Kind8.{Kind8}
 use Rattle.viz_column.specs.Kinds.{fits}
 use Rattle.viz_column.specs.Numbers.{Numbers}
@@ -45,7 +46,8 @@ column_at kind components tuples r = do
   Ok (record { kind = kind; items = numbers.0 }, numbers.1)
 
 -- values in ASCII
-unfoldable pub text_values_at : Bool → Stored → ℕ → ℕ → Reading → Result (Option Numbers × Reading) FileFault
+unfoldable pub text_values_at : Bool → Stored → ℕ → ℕ → Reading
+    → Result (Option Numbers × Reading) FileFault
 text_values_at true stored tuples components r = do
   column ← column_at (kind_of stored) components tuples r
   Ok (Some column.0, column.1)
@@ -58,12 +60,15 @@ unfoldable pub line_bytes_at : ℕ → Reading → Result (List ℕ × Reading) 
 line_bytes_at n r = line_end_at r >>= λ ended. bytes_at n ended.1
 
 -- values in BINARY
-unfoldable pub block_values_at : Bool → Stored → ℕ → ℕ → Reading → Result (Option Numbers × Reading) FileFault
+unfoldable pub block_values_at : Bool → Stored → ℕ → ℕ → Reading
+    → Result (Option Numbers × Reading) FileFault
 block_values_at picked stored tuples components r = do
   bytes ← line_bytes_at (tuples * components * bytes_of stored) r
   Ok (block_numbers picked stored tuples components bytes.0, bytes.1)
 
 -- values
-unfoldable pub values_at : Bool → Bool → Stored → ℕ → ℕ → Reading → Result (Option Numbers × Reading) FileFault
+unfoldable pub values_at : Bool → Bool → Stored → ℕ → ℕ → Reading
+    → Result (Option Numbers × Reading) FileFault
 values_at binary picked stored tuples components r =
-    if binary then block_values_at picked stored tuples components r else text_values_at picked stored tuples components r
+    if binary then block_values_at picked stored tuples components r
+    else text_values_at picked stored tuples components r

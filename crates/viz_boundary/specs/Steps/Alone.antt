@@ -1,5 +1,6 @@
 -- Keys whose set no other key has, and marks at their indices.
-use Rattle.std.specs.Prelude.{◌≡◌, ◌≢◌, ℕ, ◌+◌, ◌-◌, ◌/◌, ◌%◌, ◌<◌, ◌≤◌, ◌^◌, ◌==◌, Bool, true, false, List, length, slice_index_or, count_by}
+use Rattle.std.specs.Prelude.{◌≡◌, ◌≢◌, ℕ, ◌+◌, ◌-◌, ◌/◌, ◌%◌, ◌<◌, ◌≤◌, ◌^◌, ◌==◌, Bool, true}
+use Rattle.std.specs.Prelude.{false, List, length, slice_index_or, count_by}
 
 -- the set of a key
 abbrev pub set_of : ℕ → ℕ
@@ -25,8 +26,10 @@ pub record AreIndexed (keys : List ℕ) : Type 0 where
 -- of the first so many keys, just the indices of those that are alone are marked
 pub record AreMarked (keys : List ℕ) (count : ℕ) (marks : List Bool) : Type 0 where
   pub size : length marks ≡ length keys
-  pub set : (k : ℕ) → k < count → is_alone keys k ≡ true → slice_index_or marks (index_of (slice_index_or keys k 0)) false ≡ true
-  pub only : (j : ℕ) → slice_index_or marks j false ≡ true → (k : ℕ) × (k < count) × (index_of (slice_index_or keys k 0) ≡ j) × (is_alone keys k ≡ true)
+  pub set : (k : ℕ) → k < count → is_alone keys k ≡ true
+      → slice_index_or marks (index_of (slice_index_or keys k 0)) false ≡ true
+  pub only : (j : ℕ) → slice_index_or marks j false ≡ true → (k : ℕ) × (k < count)
+      × (index_of (slice_index_or keys k 0) ≡ j) × (is_alone keys k ≡ true)
 
 -- each index of a key is below their number
 pub record HaveIndices (keys : List ℕ) : Type 0 where
@@ -43,4 +46,5 @@ pub record Begins (keys : List ℕ) (at : ℕ) : Type 0 where
 
 -- the key behind a place has another set
 pub record Ends (keys : List ℕ) (at : ℕ) : Type 0 where
-  pub other : at + 1 < length keys → set_of (slice_index_or keys (at + 1) 0) ≢ set_of (slice_index_or keys at 0)
+  pub other : at + 1 < length keys → set_of (slice_index_or keys (at + 1) 0) ≢ set_of
+      (slice_index_or keys at 0)

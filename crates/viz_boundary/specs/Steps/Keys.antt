@@ -1,4 +1,5 @@
--- Facets by ranks as numbers: a number for the set of its ranks, and behind it where the facet stands.
+-- Facets by ranks as numbers: a number for the set of its ranks, and behind it where the facet
+-- stands.
 use Rattle.std.specs.Prelude.{ℕ, ◌+◌, ◌*◌, ◌^◌, nat_lt, List, [], ◌∷◌, if◌then◌else◌}
 
 -- a rank put in front of the first greater one

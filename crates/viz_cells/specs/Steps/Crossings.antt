@@ -1,5 +1,6 @@
 -- The crossings of keys, as the code of a section finds them.
-use Rattle.std.specs.Prelude.{◌≡◌, ◌≢◌, ℕ, ◌<◌, ℤ, pos, ◌≤ℤ◌, ◌<ℤ◌, List, length, slice_index_or, int_le, if◌then◌else◌}
+use Rattle.std.specs.Prelude.{◌≡◌, ◌≢◌, ℕ, ◌<◌, ℤ, pos, ◌≤ℤ◌, ◌<ℤ◌, List, length, slice_index_or}
+use Rattle.std.specs.Prelude.{int_le, if◌then◌else◌}
 use Rattle.viz_fraction.specs.declared.forms.Form.{Form}
 use Rattle.viz_fraction.specs.Points.{Point, IsNarrow}
 use Rattle.viz_fraction.specs.Forms.{value_of}
@@ -17,15 +18,18 @@ point_at points r = slice_index_or points r zero_point
 pub record IsCutKey (f : Form) (points : List Point) (key : ℕ) : Type 0 where
   pub rises : low_of key < high_of key
   pub below : high_of key < length points
-  pub apart : is_inside_at f (point_at points (low_of key)) ≢ is_inside_at f (point_at points (high_of key))
+  pub apart : is_inside_at f (point_at points (low_of key)) ≢ is_inside_at f
+      (point_at points (high_of key))
 
 -- the crossing of a key
 unfoldable pub key_crossing : Form → List Point → ℕ → Point
-key_crossing f points key = edge_crossing f (point_at points (low_of key)) (point_at points (high_of key))
+key_crossing f points key = edge_crossing f (point_at points (low_of key))
+    (point_at points (high_of key))
 
 -- that crossing isn't wide
 abbrev pub IsNarrowKey : Form → List Point → ℕ → Type 0
-IsNarrowKey f points key = IsNarrowEdge f (point_at points (low_of key)) (point_at points (high_of key))
+IsNarrowKey f points key = IsNarrowEdge f (point_at points (low_of key))
+    (point_at points (high_of key))
 
 -- an end has a point, and the form's value there
 pub record IsEnd (f : Form) (p : Point) (e : End) : Type 0 where
@@ -35,7 +39,8 @@ pub record IsEnd (f : Form) (p : Point) (e : End) : Type 0 where
 
 -- the crossing between two ends, whichever is inside, by their values
 abbrev pub either_crossing : ℤ → Point → ℤ → Point → Point
-either_crossing la a lb b = if int_le (pos 0) la then crossing_of la a lb b else crossing_of lb b la a
+either_crossing la a lb b = if int_le (pos 0) la then crossing_of la a lb b
+    else crossing_of lb b la a
 
 -- that crossing isn't wide
 pub record IsNarrowEither (la : ℤ) (a : Point) (lb : ℤ) (b : Point) : Type 0 where

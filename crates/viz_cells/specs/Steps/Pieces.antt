@@ -1,5 +1,6 @@
 -- The cells of a section by the keys of their ends, and how a `Case` holds them.
-use Rattle.std.specs.Prelude.{ℕ, ◌==◌, Bool, false, List, [], ◌∷◌, length, map, take, slice_index, slice_index_or, if◌then◌else◌}
+use Rattle.std.specs.Prelude.{ℕ, ◌==◌, Bool, false, List, [], ◌∷◌, length, map, take, slice_index}
+use Rattle.std.specs.Prelude.{slice_index_or, if◌then◌else◌}
 use Rattle.std.specs.List.{flat_map}
 use Rattle.viz_fraction.specs.declared.case_table.Case.{Case}
 use Rattle.viz_fraction.specs.CaseRows.{End}
@@ -25,16 +26,19 @@ pieces_of inside cells = flat_map (keys_in inside) cells
 
 -- the key of an end of a `Case`
 abbrev pub number_key : List ℕ → List ℕ → ℕ
-number_key cell end = key_of (slice_index cell (slice_index end 0)) (slice_index cell (slice_index end 1))
+number_key cell end = key_of (slice_index cell (slice_index end 0))
+    (slice_index cell (slice_index end 1))
 
 -- the first so many of three ends
 abbrev pub held_from : List ℕ → ℕ → List ℕ → List ℕ → List ℕ → List ℕ
-held_from cell size p q r = take size (number_key cell p ∷ number_key cell q ∷ number_key cell r ∷ [])
+held_from cell size p q r = take size
+    (number_key cell p ∷ number_key cell q ∷ number_key cell r ∷ [])
 
 -- the cell of a `Case` from an end on
 abbrev pub held_at : List ℕ → Case → ℕ → ℕ → ℕ → List ℕ
 held_at cell c i j k =
-    held_from cell c.size (slice_index_or c.ends i []) (slice_index_or c.ends j []) (slice_index_or c.ends k [])
+    held_from cell c.size (slice_index_or c.ends i []) (slice_index_or c.ends j [])
+    (slice_index_or c.ends k [])
 
 -- the cells that a `Case` holds
 abbrev pub held : List ℕ → Case → List (List ℕ)

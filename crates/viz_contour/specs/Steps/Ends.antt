@@ -1,4 +1,5 @@
--- An end of an edge, as the code keeps it, and the crossing between two: words of private contracts alone.
+-- An end of an edge, as the code keeps it, and the crossing between two: words of private
+-- contracts alone.
 use Rattle.std.specs.Prelude.{◌≡◌, ℤ, pos, ◌≤ℤ◌, ◌<ℤ◌, int_le, if◌then◌else◌}
 use Rattle.viz_fraction.specs.Points.{Point, IsNarrow}
 use Rattle.viz_fraction.specs.Forms.{contour_form, value_of}
@@ -15,7 +16,8 @@ pub record IsEnd (level : ℤ) (image : ImageData) (e : End) : Type 0 where
 
 -- the crossing between two ends, whichever is inside, by their values
 abbrev pub either_crossing : ℤ → Point → ℤ → Point → Point
-either_crossing la a lb b = if int_le (pos 0) la then crossing_of la a lb b else crossing_of lb b la a
+either_crossing la a lb b = if int_le (pos 0) la then crossing_of la a lb b
+    else crossing_of lb b la a
 
 -- that crossing isn't wide
 pub record IsNarrowEither (la : ℤ) (a : Point) (lb : ℤ) (b : Point) : Type 0 where

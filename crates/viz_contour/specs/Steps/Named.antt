@@ -16,7 +16,8 @@ named_point level image n = edge_point level image (edge_named n)
 
 -- the names are those of cut edges
 pub record AreCutNames (level : ℤ) (image : ImageData) (names : List (List ℕ)) : Type 0 where
-  pub each : All (λ n. IsCutEdge (count_of image.extent) (insides level image.values.items) (edge_named n)) names
+  pub each : All (λ n. IsCutEdge (count_of image.extent) (insides level image.values.items)
+      (edge_named n)) names
 
 -- no crossing on their edges is wide
 pub record AreNarrowNames (level : ℤ) (image : ImageData) (names : List (List ℕ)) : Type 0 where

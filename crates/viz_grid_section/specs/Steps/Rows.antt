@@ -36,14 +36,17 @@ cells_between inside eight = flat_map (cells_in inside) (six_of eight)
 -- the cells in so many cubes along x from a leaf on
 unfoldable pub cells_in_row : List Bool → ℕ → ℕ → ℕ → ℕ → List (List Edge)
 cells_in_row inside row plane across_x first =
-    flat_map (λ i. cells_between inside (eight_from (first + i) row plane)) (range_with_len 0 across_x)
+    flat_map (λ i. cells_between inside (eight_from (first + i) row plane))
+    (range_with_len 0 across_x)
 
 -- the cells in so many rows along y from a leaf on
 unfoldable pub cells_in_layer : List Bool → ℕ → ℕ → ℕ → ℕ → ℕ → List (List Edge)
 cells_in_layer inside row plane across_x across_y first =
-    flat_map (λ j. cells_in_row inside row plane across_x (first + j * row)) (range_with_len 0 across_y)
+    flat_map (λ j. cells_in_row inside row plane across_x (first + j * row))
+    (range_with_len 0 across_y)
 
 -- the cells in so many layers along z from the first leaf on
 unfoldable pub cells_in_layers : List Bool → ℕ → ℕ → ℕ → ℕ → ℕ → List (List Edge)
 cells_in_layers inside row plane across_x across_y across_z =
-    flat_map (λ k. cells_in_layer inside row plane across_x across_y (k * plane)) (range_with_len 0 across_z)
+    flat_map (λ k. cells_in_layer inside row plane across_x across_y (k * plane))
+    (range_with_len 0 across_z)

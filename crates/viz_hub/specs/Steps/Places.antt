@@ -7,7 +7,20 @@ use Rattle.viz_hub.specs.Passes.{PassKnown, with_sent, first_pass}
 
 -- the hub of a pass that isn't there
 abbrev pub nowhere : Identity
-nowhere = record { which = record { words = 0; slots = 0; views_name = 0; atom = 0; block = 0; offset = 0; slot_names = [] }; mark = 0 }
+nowhere =
+    record {
+      which =
+          record {
+            words = 0;
+            slots = 0;
+            views_name = 0;
+            atom = 0;
+            block = 0;
+            offset = 0;
+            slot_names = [];
+          };
+      mark = 0;
+    }
 
 -- what is known of a place
 abbrev pub shown : Place → PassKnown

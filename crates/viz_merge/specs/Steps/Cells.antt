@@ -11,7 +11,8 @@ use Rattle.viz_mesh_meaning.specs.Merge.{firsts, group_of, has_no_repeat}
 abbrev pub left_cells : List ℕ → List (List ℕ) → List (List ℕ)
 left_cells numbers cells = filter has_no_repeat (map (looked_up numbers) cells)
 
--- the cells of a sheet by the numbers at the ranks of their names, without those that repeat a number
+-- the cells of a sheet by the numbers at the ranks of their names, without those that repeat a
+-- number
 abbrev pub left_by_names : List ℕ → SheetData → List (List ℕ)
 left_by_names numbers s = left_cells numbers (map (ranks_of s.names) s.cells)
 

@@ -1,5 +1,7 @@
 -- For each point the first one at its place, by a sort of places with their indices behind them.
-use Rattle.std.specs.Prelude.{◌≡◌, ◌≢◌, ℕ, zero, suc, ◌+◌, ◌^◌, ◌<◌, ◌≤◌, ◌==◌, ℤ, pos, Bool, List, [], ◌∷◌, ◌++◌, length, map, take, slice_index_or, unsigned_abs, if◌then◌else◌}
+use Rattle.std.specs.Prelude.{◌≡◌, ◌≢◌, ℕ, zero, suc, ◌+◌, ◌^◌, ◌<◌, ◌≤◌, ◌==◌, ℤ, pos, Bool, List}
+use Rattle.std.specs.Prelude.{[], ◌∷◌, ◌++◌, length, map, take, slice_index_or, unsigned_abs}
+use Rattle.std.specs.Prelude.{if◌then◌else◌}
 use Rattle.std.specs.List.{range_with_len}
 use Rattle.std.specs.Cmp.Lexicographic.{slice_cmp}
 use Rattle.std.specs.Ordering.{int_cmp, is_eq}
@@ -33,24 +35,31 @@ has_same_place a b = is_eq (slice_cmp int_cmp (place_in a) (place_in b))
 -- the index of the first key of those with one place that stand together, up to a key
 abbrev pub lead_in : List (List ℤ) → ℕ → ℕ
 lead_in keys zero = index_in (key_at keys zero)
-lead_in keys (suc k) = if has_same_place (key_at keys k) (key_at keys (suc k)) then lead_in keys k else index_in (key_at keys (suc k))
+lead_in keys (suc k) = if has_same_place (key_at keys k) (key_at keys (suc k)) then lead_in keys k
+    else index_in (key_at keys (suc k))
 
 -- each index of a key is below the number of keys
 pub record HaveIndices (keys : List (List ℤ)) : Type 0 where
-  pub each : (k : ℕ) → k < length keys → slice_index_or (key_at keys k) 4 (pos 0) ≡ pos (index_in (key_at keys k))
+  pub each : (k : ℕ) → k < length keys → slice_index_or (key_at keys k) 4 (pos 0)
+      ≡ pos (index_in (key_at keys k))
   pub below : (k : ℕ) → k < length keys → index_in (key_at keys k) < length keys
   pub few : length keys < 2 ^ 32
 
--- what was written for the first so many keys: at the index of each, the lead of a key with that index
+-- what was written for the first so many keys: at the index of each, the lead of a key with that
+-- index
 pub record AreWritten (keys : List (List ℤ)) (count : ℕ) (leads : List ℕ) : Type 0 where
   pub size : length leads ≡ length keys
-  pub each : (k : ℕ) → k < count → (m : ℕ) × (m < length keys) × (index_in (key_at keys m) ≡ index_in (key_at keys k)) × (slice_index_or leads (index_in (key_at keys k)) 0 ≡ lead_in keys m)
+  pub each : (k : ℕ) → k < count → (m : ℕ) × (m < length keys)
+      × (index_in (key_at keys m) ≡ index_in (key_at keys k))
+      × (slice_index_or leads (index_in (key_at keys k)) 0 ≡ lead_in keys m)
 
 -- the first of points at the place of one
 pub record IsLead (points : List Point) (j lead : ℕ) : Type 0 where
   pub most : lead ≤ j
-  pub same : (d : Point) → place_of (slice_index_or points lead d) ≡ place_of (slice_index_or points j d)
-  pub first : (i : ℕ) (d : Point) → i < lead → place_of (slice_index_or points i d) ≢ place_of (slice_index_or points j d)
+  pub same : (d : Point) → place_of (slice_index_or points lead d)
+      ≡ place_of (slice_index_or points j d)
+  pub first : (i : ℕ) (d : Point) → i < lead → place_of (slice_index_or points i d) ≢ place_of
+      (slice_index_or points j d)
 
 -- the first point at the place of each
 pub record AreLeads (points : List Point) (leads : List ℕ) : Type 0 where

@@ -1,5 +1,6 @@
 -- What one pass over the sheets writes.
-use Rattle.std.specs.Prelude.{ℕ, ◌+◌, ◌^◌, ◌<◌, ◌==◌, ◌≤◌, ℤ, pos, Bool, List, [], ◌∷◌, ◌++◌, length, All, if◌then◌else◌}
+use Rattle.std.specs.Prelude.{ℕ, ◌+◌, ◌^◌, ◌<◌, ◌==◌, ◌≤◌, ℤ, pos, Bool, List, [], ◌∷◌, ◌++◌}
+use Rattle.std.specs.Prelude.{length, All, if◌then◌else◌}
 use Rattle.std.specs.List.{flat_map}
 use Rattle.std.specs.Fmt.{decimal}
 use Rattle.viz_fraction.specs.Points.{Point}
@@ -42,4 +43,5 @@ type_row binary first cell = row_of binary I32 (type_of (length cell) ∷ [])
 -- the rows of the cells of sheets, with so many points in front
 abbrev pub cell_rows : (ℕ → List ℕ → List ℕ) → ℕ → List CellsData → List ℕ
 cell_rows row first [] = []
-cell_rows row first (s ∷ sheets) = flat_map (row first) s.cells ++ cell_rows row (first + s.points) sheets
+cell_rows row first (s ∷ sheets) = flat_map (row first) s.cells
+    ++ cell_rows row (first + s.points) sheets

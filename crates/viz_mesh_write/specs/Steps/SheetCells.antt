@@ -21,7 +21,8 @@ total_points (s ∷ sheets) = s.points + total_points sheets
 -- the cells by the indices of their points, with so many points in front
 abbrev pub indices_from : ℕ → List CellsData → List (List ℕ)
 indices_from first [] = []
-indices_from first (s ∷ sheets) = map (moved first) s.cells ++ indices_from (first + s.points) sheets
+indices_from first (s ∷ sheets) = map (moved first) s.cells
+    ++ indices_from (first + s.points) sheets
 
 -- how many points all of these have, by what is seen of each
 abbrev pub points_by : {X : Type 0} → (X → CellsData) → List X → ℕ

@@ -43,7 +43,9 @@ size_count t = 2 * t.vertices + 3 * t.lines + 4 * t.triangles + 5 * t.tetrahedra
 
 -- the numbers of each section are at most 2^31 - 1
 abbrev pub SectionsFit : Tally → Type 0
-SectionsFit t = (0 < t.tetrahedra → size_count t < 2 ^ 31) × (t.tetrahedra ≡ 0 → (2 * t.vertices < 2 ^ 31) × (3 * t.lines < 2 ^ 31) × (4 * t.triangles < 2 ^ 31))
+SectionsFit t = (0 < t.tetrahedra → size_count t < 2 ^ 31)
+    × (t.tetrahedra ≡ 0 → (2 * t.vertices < 2 ^ 31) × (3 * t.lines < 2 ^ 31)
+    × (4 * t.triangles < 2 ^ 31))
 
 -- a cell of 1 to 4 points
 pub record IsSized (cell : List ℕ) : Type 0 where

@@ -1,5 +1,6 @@
 -- Flags in words of 64 bits: words of private contracts alone.
-use Rattle.std.specs.Prelude.{◌≡◌, ℕ, ◌+◌, ◌/◌, ◌%◌, Bool, false, cond, List, [], ◌∷◌, map, slice_index_or}
+use Rattle.std.specs.Prelude.{◌≡◌, ℕ, ◌+◌, ◌/◌, ◌%◌, Bool, false, cond, List, [], ◌∷◌, map}
+use Rattle.std.specs.Prelude.{slice_index_or}
 use Rattle.std.specs.Int.{bit_at}
 use Rattle.viz_grid_section.specs.Steps.Rows.{eight_from}
 use Rattle.viz_mixed.specs.Mixed.{is_mixed}
@@ -18,4 +19,5 @@ pub record AreWords (flags : List Bool) (words : List ℕ) : Type 0 where
 
 -- whether the cube with this lowest leaf is mixed, where a row and a plane of points are so long
 abbrev pub mixed_from : List Bool → ℕ → ℕ → ℕ → Bool
-mixed_from flags row plane lowest = is_mixed (map (λ leaf. slice_index_or flags leaf false) (eight_from lowest row plane))
+mixed_from flags row plane lowest = is_mixed (map (λ leaf. slice_index_or flags leaf false)
+    (eight_from lowest row plane))

@@ -1,5 +1,8 @@
--- An order in which each node stands behind what feeds it. Only private contracts and proofs speak of it.
-use Rattle.std.specs.Prelude.{◌≡◌, ℕ, suc, ◌<◌, ◌≤◌, Bool, true, false, not, nat_eq, filter, if◌then◌else◌, ◌⊎◌, List, [], ◌∷◌, ◌++◌, length, slice_get, Option, None, Some}
+-- An order in which each node stands behind what feeds it. Only private contracts and proofs speak
+-- of it.
+use Rattle.std.specs.Prelude.{◌≡◌, ℕ, suc, ◌<◌, ◌≤◌, Bool, true, false, not, nat_eq, filter}
+use Rattle.std.specs.Prelude.{if◌then◌else◌, ◌⊎◌, List, [], ◌∷◌, ◌++◌, length, slice_get, Option}
+use Rattle.std.specs.Prelude.{None, Some}
 use Rattle.std.specs.List.{AllByRecursion}
 use Rattle.std.specs.Option.{option_map}
 use Rattle.viz_base.specs.declared.node.NodeId.{NodeId}
@@ -21,7 +24,8 @@ IsFedFrom front (Some id) = Has front id
 -- behind the front stand nodes of the network, each behind what feeds it
 abbrev pub Stands : Network → List NodeId → List NodeId → Type 0
 Stands net front [] = Unit {0}
-Stands net front (x ∷ xs) = (n : Node) × (node_of net x.0 ≡ Some n) × AllByRecursion (IsFedFrom front) n.inputs × Stands net (front ++ x ∷ []) xs
+Stands net front (x ∷ xs) = (n : Node) × (node_of net x.0 ≡ Some n)
+    × AllByRecursion (IsFedFrom front) n.inputs × Stands net (front ++ x ∷ []) xs
 
 -- an order of all nodes
 pub record IsOrder (net : Network) (order : List NodeId) : Type 0 where
@@ -34,7 +38,8 @@ pub record IsOrder (net : Network) (order : List NodeId) : Type 0 where
 -- whether the first node stands in front of each place of the second
 abbrev pub comes_first : ℕ → ℕ → List NodeId → Bool
 comes_first first second [] = false
-comes_first first second (x ∷ xs) = if nat_eq second x.0 then false else if nat_eq first x.0 then true else comes_first first second xs
+comes_first first second (x ∷ xs) = if nat_eq second x.0 then false else if nat_eq first x.0
+    then true else comes_first first second xs
 
 -- the nodes without a mark, and then those with one
 abbrev pub parted : (NodeId → Bool) → List NodeId → List NodeId
@@ -51,7 +56,8 @@ IsBefore order k (Some id) = (j : ℕ) × (j < k) × (slice_get order j ≡ Some
 
 -- the same order, by places
 pub record IsTale (net : Network) (order : List NodeId) : Type 0 where
-  pub each : (k : ℕ) (x : NodeId) → slice_get order k ≡ Some x → (n : Node) × (node_of net x.0 ≡ Some n) × AllByRecursion (IsBefore order k) n.inputs
+  pub each : (k : ℕ) (x : NodeId) → slice_get order k ≡ Some x → (n : Node)
+      × (node_of net x.0 ≡ Some n) × AllByRecursion (IsBefore order k) n.inputs
   pub short : length order ≤ 256
 
 -- the rank of a node among those of the network

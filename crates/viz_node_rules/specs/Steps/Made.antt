@@ -12,7 +12,8 @@ use Rattle.viz_meaning.specs.Tetrahedra.{tetrahedra_sheet}
 use Rattle.viz_mesh_meaning.specs.Append.{appended}
 use Rattle.viz_meaning.specs.WholeImages.{WholeImage, whole_of}
 use Rattle.viz_network.specs.declared.fault.Cause.{Cause}
-use Rattle.viz_network.specs.declared.fault.Cause.TheVariants.{Unconnected, WrongInput, BadFile, TooWide}
+use Rattle.viz_network.specs.declared.fault.Cause.TheVariants.{Unconnected, WrongInput, BadFile}
+use Rattle.viz_network.specs.declared.fault.Cause.TheVariants.{TooWide}
 use Rattle.viz_node_meaning.specs.declared.information.Grid.{Grid}
 use Rattle.viz_node_rules.specs.declared.stop.OwnStop.{OwnStop}
 use Rattle.viz_node_rules.specs.declared.stop.OwnStop.TheVariants.{Cause as Caused, Memory}
@@ -57,19 +58,23 @@ IsOnGrid (Ok g) w r = IsWhole w r
 IsOnGrid (Err cause) w r = r ≡ Err cause
 
 -- what a filter of images makes of what feeds a port
-abbrev pub IsFromOne : (Grid → Result Grid Cause) → (WholeImage → WholeImage) → Option Dataset → Result Dataset Cause → Type 0
+abbrev pub IsFromOne : (Grid → Result Grid Cause) → (WholeImage → WholeImage) → Option Dataset
+    → Result Dataset Cause → Type 0
 IsFromOne grid filter None r = r ≡ Err (Unconnected 1)
 IsFromOne grid filter (Some (Mesh sheets)) r = r ≡ Err (WrongInput 1)
-IsFromOne grid filter (Some (Image i)) r = IsOnGrid (grid (grid_of i.extent i.origin i.spacing)) (filter (whole_of i)) r
+IsFromOne grid filter (Some (Image i)) r = IsOnGrid (grid (grid_of i.extent i.origin i.spacing))
+    (filter (whole_of i)) r
 
 -- what a filter of two images makes of what feeds its ports
-abbrev pub IsFromTwo : (WholeImage → WholeImage → WholeImage) → Option Dataset → Option Dataset → Result Dataset Cause → Type 0
+abbrev pub IsFromTwo : (WholeImage → WholeImage → WholeImage) → Option Dataset → Option Dataset
+    → Result Dataset Cause → Type 0
 IsFromTwo filter None e r = r ≡ Err (Unconnected 1)
 IsFromTwo filter (Some (Mesh sheets)) e r = r ≡ Err (WrongInput 1)
 IsFromTwo filter (Some (Image a)) None r = r ≡ Err (Unconnected 2)
 IsFromTwo filter (Some (Image a)) (Some (Mesh sheets)) r = r ≡ Err (WrongInput 2)
 IsFromTwo filter (Some (Image a)) (Some (Image b)) r =
-    IsOnGrid (shared_grid (grid_of a.extent a.origin a.spacing) (grid_of b.extent b.origin b.spacing)) (filter (whole_of a) (whole_of b)) r
+    IsOnGrid (shared_grid (grid_of a.extent a.origin a.spacing)
+    (grid_of b.extent b.origin b.spacing)) (filter (whole_of a) (whole_of b)) r
 
 -- what sections by forms make of what feeds a port
 abbrev pub IsContouredBy : List Form → Option Dataset → Result Dataset Cause → Type 0
@@ -87,14 +92,16 @@ AreFromImage (Some (Mesh sheets)) r = r ≡ Err (WrongInput 1)
 AreFromImage (Some (Image i)) r = r ≡ Ok (Mesh (tetrahedra_sheet i ∷ []))
 
 -- what a filter of meshes makes of what feeds a port
-abbrev pub IsFromMesh : (List SheetData → List SheetData) → Option Dataset → Result Dataset Cause → Type 0
+abbrev pub IsFromMesh : (List SheetData → List SheetData) → Option Dataset → Result Dataset Cause
+    → Type 0
 IsFromMesh filter None r = r ≡ Err (Unconnected 1)
 IsFromMesh filter (Some (Image i)) r = r ≡ Err (WrongInput 1)
 IsFromMesh filter (Some (Mesh sheets)) r = r ≡ Ok (Mesh (filter sheets))
 
 -- what joining makes of what feeds the ports
 abbrev pub IsJoined : Inputs Dataset → Result Dataset Cause → Type 0
-IsJoined inputs r = IsMadeWith (meshes_at (all_information inputs)) (λ made. made ≡ Ok (Mesh (appended (meshes_in inputs)))) r
+IsJoined inputs r = IsMadeWith (meshes_at (all_information inputs))
+    (λ made. made ≡ Ok (Mesh (appended (meshes_in inputs)))) r
 
 -- what a writer passes on of what feeds its port
 abbrev pub IsPassed : Option Dataset → Result Dataset Cause → Type 0

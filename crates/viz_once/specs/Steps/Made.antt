@@ -8,7 +8,8 @@ use Rattle.viz_once.specs.FixedHistory.{IsMadeFor}
 use Rattle.viz_once.specs.Reasons.{IsFaultFor}
 use Rattle.viz_once.specs.Steps.Nodes.{name_at}
 
--- the file of the filter's node with its numbers, or the fault for which it has none, unless memory ran out
+-- the file of the filter's node with its numbers, or the fault for which it has none, unless
+-- memory ran out
 abbrev pub Makes : Filter → List ℕ → Result Made Stop → Type 0
 Makes filter bytes (Ok made) = IsMadeFor filter bytes made.text made.cells made.points
 Makes filter bytes (Err (stop.Fault fault)) = IsFaultFor filter bytes fault (name_at fault.node.0)

@@ -1,5 +1,6 @@
 -- The two nodes of the fixed history. Only private contracts and proofs speak of them.
-use Rattle.std.specs.Prelude.{ℕ, zero, suc, pos, nat_eq, false, if◌then◌else◌, List, [], ◌∷◌, replicate, None, Some}
+use Rattle.std.specs.Prelude.{ℕ, zero, suc, pos, nat_eq, false, if◌then◌else◌, List, [], ◌∷◌}
+use Rattle.std.specs.Prelude.{replicate, None, Some}
 use Rattle.viz_base.specs.declared.node.NodeId.{NodeId}
 use Rattle.viz_base.specs.declared.node.Pick.TheVariants.{First}
 use Rattle.viz_kinds.specs.declared.settings.Settings.{Settings}

@@ -18,7 +18,8 @@ pub record IsKeptSheet (s : SheetData) (keeps : List Bool) (made : SheetData) : 
 pub record ArePieces (p n ghosts count : ℕ) (parts cuts : List PartSheetData) : Type 0 where
   pub size : length cuts ≡ count
   pub each : (k : ℕ) (d : PartSheetData) → k < count
-      → IsSheetPart (slice_index_or parts k d).sheet (own_share p n (length (slice_index_or parts k d).sheet.cells)) ghosts
+      → IsSheetPart (slice_index_or parts k d).sheet
+      (own_share p n (length (slice_index_or parts k d).sheet.cells)) ghosts
       (slice_index_or cuts k d)
 
 -- a sheet as a part, all of its cells own

@@ -1,5 +1,6 @@
 -- Where each step is read last. Only private contracts and proofs speak of it.
-use Rattle.std.specs.Prelude.{◌≡◌, ℕ, ◌<◌, ◌≤◌, List, [], ◌∷◌, length, slice_get, slice_index_or, Option, None, Some}
+use Rattle.std.specs.Prelude.{◌≡◌, ℕ, ◌<◌, ◌≤◌, List, [], ◌∷◌, length, slice_get, slice_index_or}
+use Rattle.std.specs.Prelude.{Option, None, Some}
 use Rattle.viz_network.specs.declared.steps.Step.{Step}
 
 -- a place that feeds a port stands before step k

@@ -24,13 +24,17 @@ steps_behind front (Ok steps) = Ok (front ++ steps)
 steps_behind front (Err stop) = Err stop
 
 -- a line was taken, or refused as it says, whatever stands behind it
-abbrev pub Goes : Result (Unit {0}) ScriptStop → List Stepped → ℕ → ℕ → Result Line ScriptRefusal → List Stepped → ℕ → Type 0
-Goes (Ok done) old old_phase line said new new_phase = (next : ℕ → Result (List Stepped) Stop) → steps_behind old (told line old_phase next said) ≡ steps_behind new (next new_phase)
-Goes (Err (Refused at refusal)) old old_phase line said new new_phase = (next : ℕ → Result (List Stepped) Stop) → told line old_phase next said ≡ Err (at, refusal)
+abbrev pub Goes : Result (Unit {0}) ScriptStop → List Stepped → ℕ → ℕ → Result Line ScriptRefusal
+    → List Stepped → ℕ → Type 0
+Goes (Ok done) old old_phase line said new new_phase = (next : ℕ → Result (List Stepped) Stop)
+    → steps_behind old (told line old_phase next said) ≡ steps_behind new (next new_phase)
+Goes (Err (Refused at refusal)) old old_phase line said new new_phase =
+    (next : ℕ → Result (List Stepped) Stop) → told line old_phase next said ≡ Err (at, refusal)
 Goes (Err Memory) old old_phase line said new new_phase = Unit {0}
 
 -- the steps that the definition gives, or the refusal that it gives, unless memory ran out
-abbrev pub ReadsSteps : {S : Type 0} → (S → List Stepped) → Result S ScriptStop → Result (List Stepped) Stop → Type 0
+abbrev pub ReadsSteps : {S : Type 0} → (S → List Stepped) → Result S ScriptStop
+    → Result (List Stepped) Stop → Type 0
 ReadsSteps view (Ok steps) read = read ≡ Ok (view steps)
 ReadsSteps view (Err (Refused line refusal)) read = read ≡ Err (line, refusal)
 ReadsSteps view (Err Memory) read = Unit {0}

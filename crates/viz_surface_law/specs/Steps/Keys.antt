@@ -1,5 +1,7 @@
--- Private: directed sides as numbers, the side without its direction doubled, and one more where it runs back.
-use Rattle.std.specs.Prelude.{ℕ, ◌+◌, ◌-◌, ◌*◌, ◌/◌, ◌%◌, ◌^◌, ◌≤◌, ◌==◌, ◌&&◌, Bool, true, List, [], ◌∷◌, nat_eq, nat_lt, map, count_by, if◌then◌else◌}
+-- Private: directed sides as numbers, the side without its direction doubled, and one more where
+-- it runs back.
+use Rattle.std.specs.Prelude.{ℕ, ◌+◌, ◌-◌, ◌*◌, ◌/◌, ◌%◌, ◌^◌, ◌≤◌, ◌==◌, ◌&&◌, Bool, true, List}
+use Rattle.std.specs.Prelude.{[], ◌∷◌, nat_eq, nat_lt, map, count_by, if◌then◌else◌}
 use Rattle.std.specs.List.{flat_map}
 use Rattle.std.specs.Set.{unique_keys}
 
@@ -17,7 +19,8 @@ back keys side = count_by (λ key. key == 2 * side + 1) keys
 
 -- how many sides pass a test on how often they are run through
 abbrev pub passing : (ℕ → ℕ → ℕ → Bool) → List ℕ → ℕ
-passing test keys = count_by (λ side. test side (forth keys side) (back keys side)) (unique_keys nat_eq (map half keys))
+passing test keys = count_by (λ side. test side (forth keys side) (back keys side))
+    (unique_keys nat_eq (map half keys))
 
 -- any side
 abbrev pub any_side : ℕ → ℕ → ℕ → Bool

@@ -1,5 +1,6 @@
 -- Private: triangles by the ranks of their names, and tests of a side by its two ranks.
-use Rattle.std.specs.Prelude.{◌≢◌, ℕ, ◌+◌, ◌/◌, ◌%◌, ◌^◌, ◌<◌, ◌==◌, ◌&&◌, Bool, List, [], ◌∷◌, map, slice_index_or}
+use Rattle.std.specs.Prelude.{◌≢◌, ℕ, ◌+◌, ◌/◌, ◌%◌, ◌^◌, ◌<◌, ◌==◌, ◌&&◌, Bool, List, [], ◌∷◌}
+use Rattle.std.specs.Prelude.{map, slice_index_or}
 use Rattle.viz_extent.specs.Extent.{Bounds}
 use Rattle.viz_grid_section.specs.Edges.{Edge}
 use Rattle.viz_surface_law.specs.Sides.{side}
@@ -16,12 +17,14 @@ edges_by names triangles = map (λ t. map (edge_at names) t) triangles
 
 -- three different ranks of names
 abbrev pub IsTriangle : ℕ → List ℕ → Type 0
-IsTriangle count (p ∷ q ∷ r ∷ []) = (p < count) × (q < count) × (r < count) × (p ≢ q) × (q ≢ r) × (r ≢ p)
+IsTriangle count (p ∷ q ∷ r ∷ []) = (p < count) × (q < count) × (r < count) × (p ≢ q) × (q ≢ r)
+    × (r ≢ p)
 IsTriangle count _ = ⊥
 
 -- whether a side lies on the boundary, by its number, which is that of its two ranks
 abbrev pub is_at_border : Bounds → List (List ℕ) → ℕ → Bool
-is_at_border b names u = on_boundary b (side (edge_at names (u / 2 ^ 31)) (edge_at names (u % 2 ^ 31)))
+is_at_border b names u = on_boundary b (side (edge_at names (u / 2 ^ 31))
+    (edge_at names (u % 2 ^ 31)))
 
 -- in exactly one triangle, and on the boundary
 abbrev pub in_border : Bounds → List (List ℕ) → ℕ → ℕ → ℕ → Bool

@@ -1,6 +1,7 @@
--- What each kind of step does to the view of its seat. `number` and `split`, `join` and `learn` come in pairs.
--- A turn is `draw`, `look`, `append` and `pass on`; the last one ends by `rest`.
-use Rattle.std.specs.Prelude.{◌≡◌, ◌≢◌, ◌⊎◌, ℕ, List, [], ◌∷◌, ◌++◌, Option, Some, None, true, false, ◌==◌, MatchBool}
+-- What each kind of step does to the view of its seat. `number` and `split`, `join` and `learn`
+-- come in pairs. A turn is `draw`, `look`, `append` and `pass on`; the last one ends by `rest`.
+use Rattle.std.specs.Prelude.{◌≡◌, ◌≢◌, ◌⊎◌, ℕ, List, [], ◌∷◌, ◌++◌, Option, Some, None, true}
+use Rattle.std.specs.Prelude.{false, ◌==◌, MatchBool}
 use Rattle.atomic_table.specs.Table.{Me, Step}
 use Rattle.viz_turn.specs.declared.view.Numbers.{Numbers}
 use Rattle.viz_turn.specs.declared.view.Standing.{Standing}
@@ -41,7 +42,8 @@ or_zero (Some n) = n
 
 -- split: the spare number goes to a new seat
 abbrev pub elder_view : {E : Type 0} → View E → View E
-elder_view v = let w = v.numbers in view (of_pass w.number None w.ended (or_zero w.spare ∷ w.born)) v.standing v.mark v.seen
+elder_view v = let w = v.numbers in view (of_pass w.number None w.ended
+    (or_zero w.spare ∷ w.born)) v.standing v.mark v.seen
 
 abbrev pub younger_view : {E : Type 0} → View E → View E
 younger_view v = view (of_pass (or_zero v.numbers.spare) None [] []) idle v.mark v.seen
@@ -63,11 +65,13 @@ joined v w =
       claims = claim v ∷ claim w ∷ [];
     }
 
--- m and n: the seat before and after, its view and the slots that are out with it; r: the word that was found
+-- m and n: the seat before and after, its view and the slots that are out with it; r: the word
+-- that was found
 module _ {T E : Type 0} where
   -- draw: the seat has the ticket that was found
   abbrev pub drew : Me T (View E) → ℕ → Me T (View E) → Type 0
-  drew m r n = (n.1 ≡ m.1) × ((t : ℕ) × (r ≡ wrapped t) × (n.0 ≡ view m.0.numbers (at_ticket t) m.0.mark m.0.seen))
+  drew m r n = (n.1 ≡ m.1) × ((t : ℕ) × (r ≡ wrapped t)
+      × (n.0 ≡ view m.0.numbers (at_ticket t) m.0.mark m.0.seen))
 
   -- append: the list is this tale
   abbrev pub appended : List E → Me T (View E) → Me T (View E) → Type 0
@@ -79,7 +83,8 @@ module _ {T E : Type 0} where
 
   -- rest: the slot comes home, and the turn is kept
   abbrev pub rested : Me T (View E) → Me T (View E) → Type 0
-  rested m n = (n.1 ≡ []) × (n.0 ≡ view m.0.numbers (resting (or_zero m.0.standing.ticket)) m.0.mark m.0.seen)
+  rested m n = (n.1 ≡ [])
+      × (n.0 ≡ view m.0.numbers (resting (or_zero m.0.standing.ticket)) m.0.mark m.0.seen)
 
 module _ {E : Type 0} (by : E → ℕ) where
   -- no number of the seat, and no entry of its list, is n
@@ -88,7 +93,8 @@ module _ {E : Type 0} (by : E → ℕ) where
     pub born : has n v.numbers.born ≡ false
     pub entries : clear by (n ∷ []) v.seen ≡ true
 
-  -- number: where the word was the one expected, it is the seat's spare number, which is new; else nothing changes
+  -- number: where the word was the one expected, it is the seat's spare number, which is new; else
+  -- nothing changes
   abbrev pub numbered : {T : Type 0} → Step T → Me T (View E) → ℕ → Me T (View E) → Type 0
   numbered s m r n = (n.1 ≡ m.1) × MatchBool (r == s.first)
       ((n.0 ≡ view (with_spare r m.0.numbers) m.0.standing m.0.mark m.0.seen) × IsNew r m.0)
@@ -96,7 +102,8 @@ module _ {E : Type 0} (by : E → ℕ) where
 
   -- learn: the claims are true, and are dropped
   abbrev pub learned : {T : Type 0} → Me T (View E) → Me T (View E) → Type 0
-  learned m n = (n.1 ≡ m.1) × (n.0 ≡ view m.0.numbers m.0.standing m.0.mark m.0.seen) × AreTrueOf by m.0.claims m.0.seen
+  learned m n = (n.1 ≡ m.1) × (n.0 ≡ view m.0.numbers m.0.standing m.0.mark m.0.seen)
+      × AreTrueOf by m.0.claims m.0.seen
 
   -- what a seat with these numbers, which had seen this list, learns of the whole tale
   pub record Learns (w : Numbers) (seen tale : List E) : Type 0 where
@@ -117,4 +124,5 @@ module _ {S E : Type 0} (tale : S → List E) (by : E → ℕ) (mark : S → ℕ
 
   -- look: where the word is the seat's ticket, the slot goes out to the seat; else nothing changes
   abbrev pub looked : Me (Option S) (View E) → ℕ → Me (Option S) (View E) → Type 0
-  looked m r n = let t = wrapped (or_zero m.0.standing.ticket) in (Got m n × (r ≡ t)) ⊎ ((n ≡ m) × (r ≢ t))
+  looked m r n = let t = wrapped (or_zero m.0.standing.ticket) in (Got m n × (r ≡ t))
+      ⊎ ((n ≡ m) × (r ≢ t))

@@ -1,4 +1,5 @@
--- The rule of a turn, third group: the lists. It speaks of the tale, the longest list, and of what seats know of it.
+-- The rule of a turn, third group: the lists. It speaks of the tale, the longest list, and of what
+-- seats know of it.
 -- `append` makes the tale longer; `look` shows it whole; `split` and `join` hand on what was known.
 use Rattle.std.specs.Prelude.{◌≡◌, ℕ, List, [], ◌∷◌, None, true, false}
 use mathlib.Core.Option.{some}
@@ -30,4 +31,5 @@ module _ {E : Type 0} (by : E → ℕ) where
     pub each : (i : ℕ) (v : View E) → get_elem? vs i ≡ some v → IsView m tale v
     -- each entry has the number of a live seat
     pub named : (k : ℕ) (e : E) → get_elem? tale k ≡ some e
-        → (i : ℕ) × (v : View E) × (get_elem? vs i ≡ some v) × (v.numbers.live ≡ true) × (has (by e) (own_numbers v.numbers) ≡ true)
+        → (i : ℕ) × (v : View E) × (get_elem? vs i ≡ some v) × (v.numbers.live ≡ true)
+        × (has (by e) (own_numbers v.numbers) ≡ true)

@@ -1,6 +1,9 @@
--- The rule of a turn, first group: the numbers of passes. It speaks of the next number, and of each seat's numbers.
--- `draw`, `look`, `append` and `pass on` leave this group as it is; `number`, `split` and `join` change it.
-use Rattle.std.specs.Prelude.{◌≡◌, ℕ, ◌+◌, ◌^◌, ◌<◌, ◌≤◌, List, [], ◌∷◌, ◌++◌, Option, Some, None, Bool, true, false}
+-- The rule of a turn, first group: the numbers of passes. It speaks of the next number, and of
+-- each seat's numbers.
+-- `draw`, `look`, `append` and `pass on` leave this group as it is; `number`, `split` and `join`
+-- change it.
+use Rattle.std.specs.Prelude.{◌≡◌, ℕ, ◌+◌, ◌^◌, ◌<◌, ◌≤◌, List, [], ◌∷◌, ◌++◌, Option, Some, None}
+use Rattle.std.specs.Prelude.{Bool, true, false}
 use mathlib.Core.Option.{some}
 use lib.ListN.{get_elem?}
 use Rattle.viz_turn.specs.declared.view.Numbers.{Numbers}
@@ -30,7 +33,8 @@ abbrev pub needs : List Numbers → ℕ
 needs [] = 0
 needs (w ∷ ws) = needs_of w.live w.spare + needs ws
 
--- the seat i is a live pass with these numbers; a pass that was dropped is live, one that was joined into another isn't
+-- the seat i is a live pass with these numbers; a pass that was dropped is live, one that was
+-- joined into another isn't
 abbrev pub Live : List Numbers → ℕ → Numbers → Type 0
 Live ws i w = (get_elem? ws i ≡ some w) × (w.live ≡ true)
 
@@ -53,7 +57,8 @@ pub record IsBorn (ws : List Numbers) (m : ℕ) : Type 0 where
 -- the numbers of all seats, where the next number is `made`
 pub record AreNumbers (made : ℕ) (ws : List Numbers) : Type 0 where
   -- each number is below the next one
-  pub below : (i : ℕ) (w : Numbers) → Live ws i w → (x : ℕ) → has x (all_numbers w) ≡ true → x < made
+  pub below : (i : ℕ) (w : Numbers) → Live ws i w → (x : ℕ) → has x (all_numbers w) ≡ true
+      → x < made
   pub born_below : (i : ℕ) (w : Numbers) → Live ws i w → (x : ℕ) → has x w.born ≡ true → x < made
   -- no two seats share one, and no seat has one twice
   pub apart : (i j : ℕ) (v w : Numbers) → Live ws i v → Live ws j w
@@ -62,7 +67,8 @@ pub record AreNumbers (made : ℕ) (ws : List Numbers) : Type 0 where
   -- a spare number is a new one
   pub spare : (i : ℕ) (w : Numbers) → Live ws i w → (n : ℕ) → w.spare ≡ Some n → IsSpare w n
   -- each number but 0 was split off from a pass with a lesser one
-  pub chain : (i : ℕ) (w : Numbers) → Live ws i w → (m : ℕ) → has m (own_numbers w) ≡ true → 0 < m → IsBorn ws m
+  pub chain : (i : ℕ) (w : Numbers) → Live ws i w → (m : ℕ) → has m (own_numbers w) ≡ true → 0 < m
+      → IsBorn ws m
   -- so many passes have numbers of their own
   pub room : needs ws ≤ made
   pub small : made < 2 ^ 64

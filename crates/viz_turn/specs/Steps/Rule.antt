@@ -23,15 +23,17 @@ standing_of v = v.standing
 module _ {S E : Type 0} (tale : S → List E) (by : E → ℕ) (mark : S → ℕ) where
   -- the slot has a state with this tale and this mark
   abbrev pub IsHome : ℕ → List E → List (maybe.Option (Option S)) → Type 0
-  IsHome m told homes = (s : S) × (get_elem? homes 0 ≡ some (some (Some s))) × (tale s ≡ told) × (mark s ≡ m)
+  IsHome m told homes = (s : S) × (get_elem? homes 0 ≡ some (some (Some s))) × (tale s ≡ told)
+      × (mark s ≡ m)
 
-  -- the words are the length of the tale, the next ticket, the ticket that is served and the next number;
-  -- while the slot is out with no seat, the state is home
+  -- the words are the length of the tale, the next ticket, the ticket that is served and the next
+  -- number; while the slot is out with no seat, the state is home
   pub record IsRuled (m : ℕ) (s : State (Option S) (View E)) : Type 0 where
     pub told : List E
     pub served : ℕ
     pub made : ℕ
-    pub words_are : s.words ≡ length told ∷ wrapped (served + waiting (map standing_of s.views)) ∷ wrapped served ∷ made ∷ []
+    pub words_are : s.words ≡ length told ∷ wrapped
+        (served + waiting (map standing_of s.views)) ∷ wrapped served ∷ made ∷ []
     pub numbers : AreNumbers made (map numbers_of s.views)
     pub turns : AreTurns served (map standing_of s.views)
     pub home : NoneOut (map standing_of s.views) → IsHome m told s.homes

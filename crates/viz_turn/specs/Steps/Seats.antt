@@ -36,4 +36,5 @@ module _ {S E : Type 0} where
 
   -- the seat has the spare number n, and is else as before
   abbrev pub HasSpare : ℕ → Me S (View E) → Me S (View E) → Type 0
-  HasSpare n old new = (new.1 ≡ old.1) × (new.0 ≡ view (with_spare n old.0.numbers) old.0.standing old.0.mark old.0.seen)
+  HasSpare n old new = (new.1 ≡ old.1)
+      × (new.0 ≡ view (with_spare n old.0.numbers) old.0.standing old.0.mark old.0.seen)

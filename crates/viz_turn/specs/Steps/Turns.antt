@@ -1,7 +1,10 @@
--- The rule of a turn, second group: who has the turn, and who waits for it, as in a ticket lock (Mellor-Crummey and
--- Scott 1991). It speaks of how many turns have ended, and of how each seat stands to the turn.
--- `draw`, `look`, `rest` and `pass on` change this group; `split` adds a seat that waits for nothing.
-use Rattle.std.specs.Prelude.{◌≡◌, ℕ, ◌+◌, ◌%◌, ◌^◌, ◌<◌, ◌≤◌, List, [], ◌∷◌, Option, Some, None, true, false}
+-- The rule of a turn, second group: who has the turn, and who waits for it, as in a ticket lock
+-- (Mellor-Crummey and Scott 1991). It speaks of how many turns have ended, and of how each seat
+-- stands to the turn.
+-- `draw`, `look`, `rest` and `pass on` change this group; `split` adds a seat that waits for
+-- nothing.
+use Rattle.std.specs.Prelude.{◌≡◌, ℕ, ◌+◌, ◌%◌, ◌^◌, ◌<◌, ◌≤◌, List, [], ◌∷◌, Option, Some, None}
+use Rattle.std.specs.Prelude.{true, false}
 use mathlib.Core.Option.{some}
 use lib.ListN.{get_elem?}
 use Rattle.viz_turn.specs.declared.view.Standing.{Standing}
@@ -49,6 +52,7 @@ pub record AreTurns (served : ℕ) (qs : List Standing) : Type 0 where
   pub apart : (i j : ℕ) (q r : Standing) → get_elem? qs i ≡ some q → get_elem? qs j ≡ some r
       → (t : ℕ) → q.ticket ≡ Some t → r.ticket ≡ Some t → i ≡ j
   -- who has the turn has the ticket `served`
-  pub holder : (i : ℕ) (q : Standing) → get_elem? qs i ≡ some q → q.turn ≡ true → q.ticket ≡ Some served
+  pub holder : (i : ℕ) (q : Standing) → get_elem? qs i ≡ some q → q.turn ≡ true
+      → q.ticket ≡ Some served
   -- the slot is out only with who has the turn
   pub outs : (i : ℕ) (q : Standing) → get_elem? qs i ≡ some q → q.out ≡ true → q.turn ≡ true

@@ -1,5 +1,6 @@
 -- What workers hand in, and what is found of it so far.
-use Rattle.std.specs.Prelude.{ℕ, ◌+◌, ◌<◌, List, Option, Result, Vec, All, IfOk, IfSome, length, slice_index_or}
+use Rattle.std.specs.Prelude.{ℕ, ◌+◌, ◌<◌, List, Option, Result, Vec, All, IfOk, IfSome, length}
+use Rattle.std.specs.Prelude.{slice_index_or}
 use Rattle.viz_workers.specs.declared.working.Done.{Done}
 
 -- an item of the task at its index, which is one of so many
@@ -7,7 +8,8 @@ abbrev pub IsDone : {X : Type 0} → (ℕ → X → Type 0) → ℕ → ℕ → 
 IsDone has first count done = (done.index < count) × has (first + done.index) done.item
 
 -- what a worker handed in, unless memory ran out
-abbrev pub AreDone : {X A E : Type 0} → (ℕ → X → Type 0) → ℕ → ℕ → Result (Vec (Done X) A) E → Type 0
+abbrev pub AreDone : {X A E : Type 0} → (ℕ → X → Type 0) → ℕ → ℕ → Result (Vec (Done X) A) E
+    → Type 0
 AreDone has first count share = IfOk share (λ done. All (IsDone has first count) done.items)
 
 -- where an item is found, it is one of its task
