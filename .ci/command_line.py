@@ -1,9 +1,11 @@
 #!/usr/bin/env python3
-"""Types command lines at the built program: help, the version, folders, and words that are none.
+"""Types command lines at the built program: help, the version, folders, words that are none, and
+progress on a terminal.
 
 The program is crates/viz_cli/out/viz_cli, or the one that is named.
 """
 import os
+import pty
 import subprocess
 import sys
 import tempfile
@@ -15,14 +17,26 @@ DONE = (0, b"file cells 0 points 4\n")
 USAGE = (1, b"vizrun: usage\n")
 # What help names: the words, and the statuses.
 HELP = [b"\n  once IN OUT threshold LO HI ", b"\n  once IN OUT contour V ", b"\n  run SCRIPT JOURNAL ",
-        b"\n  scratch JOURNAL N SINK OUT ", b"\n  make NUMBER NX NY NZ OUT ", b"--dir"]
+        b"\n  scratch JOURNAL N SINK OUT ", b"\n  make NUMBER NX NY NZ OUT ", b"--dir", b"--progress"]
 HELP += [b"\n  %d  " % status for status in range(6)]
 # Words that are no command.
 NONE = [[], ["--help", "x"], ["x", "--help"], ["--version", "--help"], ["--dir"], ["--dir", "folder"],
         ["--dir", "-x"] + ONCE, ["--dir=folder"] + ONCE, ["--dir", "folder", "--dir", "folder"] + ONCE,
+        ["--progress"], ["--progress", "--progress"] + ONCE, ONCE + ["--progress"],
+        ["--progress", "--dir", "folder", "--progress"] + ONCE,
         ONCE + ["--dir", "folder"], [b"\xff"], ["run", b"s\xff", "j"], ["--dir", b"\xff"] + ONCE]
 # Folders, as they are typed and as they are, below the one that the program is started in.
 FOLDERS = [("folder", "folder"), ("folder/", "folder"), ("-", "-"), ("", "."), (".", ".")]
+# A script of two updates, of two tasks each in one piece, the second of which finds both kept.
+SCRIPT = b"""1 add file src
+1 load src b.vtk
+1 add threshold op
+1 connect src op 1
+1 set op range 2 3
+1 update op o.vtk 1 1
+1 update op o.vtk 1 1
+"""
+SHOWN = b"1 tasks\r2 tasks\r\x1b[K"
 errors = []
 
 
@@ -66,6 +80,43 @@ def check_folders(program, folder):
             check(words, files(start), wanted)
 
 
+def shown(program, words, folder):
+    """What a terminal gets on standard error, and what standard output has."""
+    near, far = pty.openpty()
+    done = subprocess.Popen([program] + words, cwd=folder, stdin=subprocess.DEVNULL,
+                            stdout=subprocess.PIPE, stderr=far)
+    os.close(far)
+    text = done.stdout.read()
+    found = b""
+    while True:
+        try:
+            more = os.read(near, 4096)
+        except OSError:
+            break
+        if not more:
+            break
+        found += more
+    os.close(near)
+    return done.wait(timeout=60), text, found
+
+
+def check_progress(program, folder):
+    """Standard error has a line where it is a terminal and progress is asked for, else nothing."""
+    with tempfile.TemporaryDirectory(dir=folder) as place:
+        with open(os.path.join(TOP, "crates/viz_cli/data/b.vtk"), "rb") as file:
+            image = file.read()
+        for name, text in (("b.vtk", image), ("s", SCRIPT)):
+            with open(os.path.join(place, name), "wb") as file:
+                file.write(text)
+        words = ["run", "s", "j"]
+        status, report, found = shown(program, words, place)
+        check(words, (status, found), (0, b""))
+        for words in (["--progress", "run", "s", "j"], ["--progress", "--dir", ".", "run", "s", "j"],
+                      ["--dir", ".", "--progress", "run", "s", "j"]):
+            check(words, shown(program, words, place), (0, report, SHOWN))
+            check(words, run(program, words, place), (0, report))
+
+
 def main():
     program = os.path.abspath(sys.argv[1]) if len(sys.argv) > 1 else PROGRAM
     if not os.access(program, os.X_OK):
@@ -78,12 +129,13 @@ def main():
         check(words, run(program, words, folder), (4, b"fault read\n"))
         check("all words", files(folder), [])
         check_folders(program, folder)
+        check_progress(program, folder)
     for error in errors:
         print("command line:", error)
     if errors:
         sys.exit(1)
     print("command line: %d lines are answered as docs/FORMATS.md says"
-          % (len(NONE) + len(FOLDERS) + 3))
+          % (len(NONE) + len(FOLDERS) + 10))
 
 
 main()

@@ -2,14 +2,16 @@
 #![tactic(auto)]
 
 mod options;
+mod progress;
 
-use options::{folder, shown};
+use options::{Options, options, shown};
+use progress::Progress;
 use std::alloc::{AllocError, Global};
-use std::io::ErrorKind;
+use std::io::{ErrorKind, IsTerminal};
 use std::process::ExitCode;
 use std::rt::{Env, Files};
 use std::{env, io};
-use viz_base::{ACTORS, Bytes, DirPort, FILE_LIMIT, OpenGate, Out, StdOut, WriteRefusal};
+use viz_base::{ACTORS, Bytes, DirPort, FILE_LIMIT, Out, StdOut, WriteRefusal};
 use viz_session::{Status, run};
 use viz_told::usage_line;
 
@@ -29,11 +31,30 @@ fn words<R: Env + AllocGlobal>(rt: &R) -> io::Result<Vec<String>> {
 }
 
 /// How many words in front are the option `--dir` with its value, where they stand there.
-fn option_words(words: &[String]) -> usize {
+fn folder_words(words: &[String]) -> usize {
     match words {
         [option] if option.as_str() == "--dir" => 1,
         [option, _, ..] if option.as_str() == "--dir" => 2,
         _ => 0,
+    }
+}
+
+/// How many words in front are the option `--progress`: 1 where it stands there, else 0.
+fn progress_words(words: &[String]) -> usize {
+    match words {
+        [option, ..] if option.as_str() == "--progress" => 1,
+        _ => 0,
+    }
+}
+
+/// How many words in front are options, each at most once, in any order.
+fn option_words(words: &[String]) -> usize {
+    match progress_words(words) {
+        0 => {
+            let front = folder_words(words);
+            front + progress_words(&words[front..])
+        }
+        front => front + folder_words(&words[front..]),
     }
 }
 
@@ -103,20 +124,25 @@ fn folder_of(alloc: Global, name: &str) -> Result<String, AllocError> {
 /// What the command line asks for.
 #[derive(Drop)]
 enum Wanted {
-    /// A run of these words over a folder.
-    Run { folder: String, words: Vec<Bytes> },
+    /// A run of these words over a folder, whose progress may be shown.
+    Run {
+        folder: String,
+        words: Vec<Bytes>,
+        progress: bool,
+    },
     /// Nothing more: this is the status.
     Ended(Status),
 }
 
-/// The folder that the words name, and the words behind it.
+/// What the options in front of the words ask for, and the words behind them.
 fn asked_of(alloc: Global, words: &[String]) -> Result<Wanted, AllocError> {
     let front = option_words(words);
     let line = line(alloc, words, front)?;
-    match folder(alloc, &line) {
-        Ok(folder) => Ok(Wanted::Run {
+    match options(alloc, &line) {
+        Ok(Options { folder, progress }) => Ok(Wanted::Run {
             folder: folder_of(alloc, folder)?,
             words: bytes(alloc, words, front)?,
+            progress,
         }),
         Err(status) => Ok(Wanted::Ended(status)),
     }
@@ -156,8 +182,12 @@ fn main(rt: HostRuntime) -> ExitCode {
         Err(e) if e.kind() == ErrorKind::OutOfMemory => return code(Status::Memory),
         Err(_) => return code(put_usage(alloc, &mut out)),
     };
-    let (folder, words) = match asked(alloc, &words, &mut out) {
-        Wanted::Run { folder, words } => (folder, words),
+    let (folder, words, progress) = match asked(alloc, &words, &mut out) {
+        Wanted::Run {
+            folder,
+            words,
+            progress,
+        } => (folder, words, progress),
         Wanted::Ended(status) => return code(status),
     };
     let Ok(mut desk) = DirPort::new(&rt, alloc, folder.as_str(), FILE_LIMIT) else {
@@ -166,7 +196,8 @@ fn main(rt: HostRuntime) -> ExitCode {
     let Ok(mut ports) = ports(&rt, alloc, folder.as_str()) else {
         return code(Status::Memory);
     };
-    code(run(
-        &rt, alloc, &words, &mut desk, &mut ports, &mut out, &OpenGate,
-    ))
+    let gate = Progress::new(&rt, progress && rt.stderr().is_terminal());
+    let status = run(&rt, alloc, &words, &mut desk, &mut ports, &mut out, &gate);
+    gate.end();
+    code(status)
 }

@@ -1,4 +1,4 @@
-//! The program's own option, and its help, by clap.
+//! The program's own options, and its help, by clap.
 
 use clap::error::ErrorKind;
 use clap::{Arg, ArgAction, Command, Error};
@@ -24,12 +24,21 @@ The program ends with the status
   4  a file or the output failed
   5  memory ran out";
 
-/// A word that asks for a text, which has no short form.
+/// What the options ask for.
+#[derive(Clone, Copy, Debug)]
+pub struct Options<'a> {
+    /// The folder of all files.
+    pub folder: &'a str,
+    /// Whether progress is shown.
+    pub progress: bool,
+}
+
+/// A word that asks for something, which has no short form.
 fn asking<'a>(alloc: Global, name: &'a str, action: ArgAction, text: &'a str) -> Arg<'a> {
     Arg::new(alloc, name).long(name).action(action).help(text)
 }
 
-/// The option, and the texts of help and version.
+/// The options, and the texts of help and version.
 fn command<'a>(alloc: Global) -> Result<Command<'a>, AllocError> {
     let folder = Arg::new(alloc, "dir")
         .long("dir")
@@ -40,11 +49,17 @@ fn command<'a>(alloc: Global) -> Result<Command<'a>, AllocError> {
     Command::new(alloc, "vizrun")
         .version("0.1.0")
         .about("Cuts surfaces out of volumes, proved")
-        .override_usage("vizrun [--dir DIR] WORDS")
+        .override_usage("vizrun [--dir DIR] [--progress] WORDS")
         .after_help(COMMANDS)
         .disable_help_flag(true)
         .disable_version_flag(true)
         .arg(folder)?
+        .arg(asking(
+            alloc,
+            "progress",
+            ArgAction::SetTrue,
+            "Show how many tasks have begun, on a terminal",
+        ))?
         .arg(asking(alloc, "help", ArgAction::Help, "Print this, alone"))?
         .arg(asking(
             alloc,
@@ -62,14 +77,17 @@ fn status_of(error: &Error) -> Status {
     }
 }
 
-/// The folder that the option names, or the default one. `line` is the program's name, and behind
-/// it the option with its value, where they were given.
-pub fn folder<'a>(alloc: Global, line: &'a [&'a str]) -> Result<&'a str, Status> {
+/// The options of a line: the program's name, and behind it the options that were given. The folder
+/// is `.` where none is named.
+pub fn options<'a>(alloc: Global, line: &'a [&'a str]) -> Result<Options<'a>, Status> {
     let Ok(command) = command(alloc) else {
         return Err(Status::Memory);
     };
     match command.try_get_matches_from(line) {
-        Ok(matches) => matches.get_str("dir").ok_or(Status::Usage),
+        Ok(matches) => Ok(Options {
+            folder: matches.get_str("dir").ok_or(Status::Usage)?,
+            progress: matches.get_flag("progress"),
+        }),
         Err(error) => Err(status_of(&error)),
     }
 }
