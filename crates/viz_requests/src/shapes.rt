@@ -32,12 +32,12 @@ fn slabs_of(alloc: Global, whole: &Extent, n: u32) -> Result<Vec<Request>, Alloc
     Ok(all)
 }
 
-// The pieces of a mesh.
+// The pieces of a mesh. Room for all is made at once, so that where there is none nothing is done.
 fn pieces_of(alloc: Global, n: u32) -> Result<Vec<Request>, AllocError>
     ensures value { IfOk result (λ all. all.items ≡ requests_of None n) }
     ensures fits { IfOk result (λ all. All (Fits None) all.items) }
 {
-    let mut all = Vec::new(alloc);
+    let mut all = Vec::with_capacity(alloc, n as usize)?;
     for p in 0..n {
         all.push(Request::Piece { p, n, ghosts: 0 })?;
     }
