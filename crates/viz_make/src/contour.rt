@@ -43,8 +43,8 @@ fn contour_given<R: Threads + Sync, G: Gate + Sync>(
     let net = network_with(alloc, text)?;
     match produce(rt, alloc, &net, &[], CONTOUR, &SHAPE, gate) {
         Ok(produced) => Ok(produced.dataset),
-        // No fault can come, since the text is read again and no number of a volume's contour is
-        // wide; it would be told as want of memory.
+        // No fault can come, by `nothing_else_is_read` and `volumes_are_narrow`: the text is read,
+        // and its contour isn't wide. One would be told as want of memory.
         Err(_) => Err(AllocError),
     }
 }

@@ -17,7 +17,8 @@ use viz_base::{Gate, Out, Port};
 use viz_told::{Status, tell};
 
 /// Makes the volume of a number, writes it by the first port, and puts its numbers and the audit of
-/// its contour at 128.
+/// its contour at 128, which is made as scripts make theirs: by an update of a network, in pieces
+/// on workers, whose tasks pass `gate`.
 ///
 /// The statuses and lines are those of docs/FORMATS.md, "Report".
 pub fn run_make<R: Threads + Sync, P: Port, O: Out, G: Gate + Sync>(
