@@ -2,3 +2,6 @@ mod ValueLemmas
 mod NarrowVolumes
 mod RunLemmas
 mod MadeLemmas
+mod NetworkLemmas
+mod GivenLemmas
+mod MovedLemmas

@@ -1,34 +1,45 @@
--- The numbers of a made volume, and its port.
-use Rattle.std.proofs.Common.{◌≡◌, ℕ, ◌+◌, [], ◌∷◌, length, sym, ap, ap₂, subst, ◌∙◌}
-use Rattle.std.specs.List.{All}
-use Rattle.std.proofs.lemmas.List.Elements.{All-head}
-use Rattle.viz_extent.specs.Extent.{Bounds, IsExtent, count_of}
+-- The contour of a made volume, and its counts.
+use Rattle.std.proofs.Common.{◌≡◌, ℕ, ◌+◌, List, [], ◌∷◌, length, map, get_or, sym, ap, ap₂, subst, ◌∙◌}
+use Rattle.std.proofs.lemmas.List.{length-map}
 use Rattle.viz_dataset.specs.Images.{ImageData, IsImage}
-use Rattle.viz_fraction.specs.Forms.{contour_form}
-use Rattle.viz_meaning.specs.Narrow.{IsNarrowSection}
-use Rattle.viz_meaning.specs.Section.{section_of}
-use Rattle.viz_meaning.specs.Tetrahedra.{tetrahedra_sheet}
+use Rattle.viz_dataset.specs.declared.dataset.Dataset.{Dataset}
+use Rattle.viz_dataset.specs.declared.dataset.Dataset.TheVariants.{Mesh}
+use Rattle.viz_grid_section.specs.Edges.{Edge}
+use Rattle.viz_grid_section.specs.ImageSection.{ContourIsSection}
 use Rattle.viz_sheet.specs.Sheet.{SheetData}
 use Rattle.viz_surface_law.specs.declared.audits.Counts.{Counts}
-use Rattle.viz_surface_law.specs.Surfaces.{IsSurface, by_edges}
+use Rattle.viz_surface_law.specs.Surfaces.{IsSurface, by_edges, edge_named}
 use Rattle.viz_surface_law.specs.Audit.{count_sides, count_two, count_lone, count_border}
 use Rattle.viz_surface_law.specs.Contours.{triangles_of, ContoursAreSurfaces, ContourSidesAddUp, LoneSidesAreBorders}
-use Rattle.viz_make.specs.NarrowVolumes.{middle, VolumesAreNarrow}
-use Rattle.viz_make.specs.Volume.{volume, volume_sum}
-use Rattle.viz_make.specs.declared.made.Made.{Made}
-use Rattle.viz_make.specs.Make.{Make, IsMade, image_of}
+use Rattle.viz_make.specs.NarrowVolumes.{middle}
+use Rattle.viz_make.specs.Make.{Make, contour_of, image_of}
+use Rattle.viz_make.specs.Steps.Contouring.{IsWritable, contour_again}
+use Rattle.viz_make.proofs.MovedLemmas.{surface_again, triangles_again}
 
--- a sheet that is the contour at the middle is a surface
-pub surface : ContoursAreSurfaces → (image : ImageData) (b : Bounds) (s : SheetData) → IsImage image → b ≡ image.extent
-    → s ≡ section_of (contour_form middle) (tetrahedra_sheet image) → IsSurface b s
-surface law image b s valid extent is =
-    subst (λ (x : Bounds). IsSurface x s) (sym extent)
-    (subst (λ (x : SheetData). IsSurface image.extent x) (sym is) (law middle image valid))
+-- the first sheet of a mesh of one sheet
+pub first_is : (d : Dataset) (mesh sheets : List SheetData) (one sheet : SheetData) → d ≡ Mesh mesh → d ≡ Mesh (one ∷ []) → sheets ≡ mesh
+    → sheet ≡ get_or sheets 0 sheet → sheet ≡ one
+first_is d mesh sheets one sheet in_mesh is seen item =
+    let both : Mesh mesh ≡ Mesh (one ∷ []) = sym in_mesh ∙ is in
+    let same : mesh ≡ one ∷ [] = cc in
+    item ∙ ap (λ (l : List SheetData). get_or l 0 sheet) (seen ∙ same)
 
--- the triangles of that sheet are those of the contour
-pub triangles : (image : ImageData) (s : SheetData) → s ≡ section_of (contour_form middle) (tetrahedra_sheet image)
-    → by_edges s.cells ≡ triangles_of middle image
-triangles image s is = ap (λ (x : SheetData). by_edges x.cells) is
+module _ (section : ContourIsSection) (c : Make) (h : IsWritable c) (s : SheetData) (is : s ≡ contour_again c) where
+  -- the contour of the volume that is read again is a surface
+  pub surface : ContoursAreSurfaces → IsSurface c.extent s
+  surface surfaces = subst (IsSurface c.extent) (sym is) (surface_again section (image_of c) h.image h.origin surfaces)
+
+  -- its triangles are those of the contour of the volume
+  triangles : by_edges s.cells ≡ contour_of c
+  triangles = ap (λ (x : SheetData). by_edges x.cells) is ∙ triangles_again section (image_of c) h.image h.origin
+
+  -- so what is counted of the one is counted of the other
+  pub counted : (n : ℕ) (count : List (List Edge) → ℕ) → n ≡ count (by_edges s.cells) → n ≡ count (contour_of c)
+  counted n count seen = seen ∙ ap count triangles
+
+  -- and there are as many
+  pub cells : length s.cells ≡ length (contour_of c)
+  cells = sym (length-map s.cells (map edge_named)) ∙ ap length triangles
 
 -- counts that add up
 pub closed : ContourSidesAddUp → LoneSidesAreBorders → (image : ImageData) (c : Counts) → IsImage image
@@ -38,27 +49,3 @@ closed sum lone image c valid sides two alone border = (
   sides ∙ sum middle image valid ∙ sym (ap₂ (λ m n. m + n) two border),
   alone ∙ lone middle image valid ∙ sym border,
 )
-
--- the contour of a made volume is narrow
-pub narrow : VolumesAreNarrow → (number : ℕ) (b : Bounds) (image : ImageData) → IsExtent b → image ≡ volume number b
-    → IsNarrowSection (contour_form middle) (tetrahedra_sheet image)
-narrow law number b image h is =
-    let form = contour_form middle in
-    let sheet = tetrahedra_sheet (volume number b) in
-    subst (λ (x : ImageData). IsNarrowSection form (tetrahedra_sheet x)) (sym is)
-    (All-head (IsNarrowSection form) sheet [] (All-head (λ f. All (IsNarrowSection f) (sheet ∷ [])) form [] (law number b h).each))
-
--- the numbers of an image that is the made volume
-pub is_made : (c : Make) (image : ImageData) (m : Made) → image ≡ image_of c → m.points ≡ count_of c.extent → m.sum ≡ volume_sum c.number c.extent
-    → m.cells ≡ length (triangles_of middle image) → m.sides ≡ count_sides (triangles_of middle image) → m.two ≡ count_two (triangles_of middle image)
-    → m.lone ≡ count_lone (triangles_of middle image) → m.border ≡ count_border image.extent (triangles_of middle image) → IsMade c m
-is_made c image m is points sum cells sides two lone border =
-    record {
-      points = points;
-      sum = sum;
-      cells = cells ∙ ap (λ i. length (triangles_of middle i)) is;
-      sides = sides ∙ ap (λ i. count_sides (triangles_of middle i)) is;
-      two = two ∙ ap (λ i. count_two (triangles_of middle i)) is;
-      lone = lone ∙ ap (λ i. count_lone (triangles_of middle i)) is;
-      border = border ∙ ap (λ (i : ImageData). count_border i.extent (triangles_of middle i)) is;
-    }

@@ -5,3 +5,4 @@ pub mod Volume
 pub mod NarrowVolumes
 pub mod Told
 pub mod Promises
+pub mod Steps

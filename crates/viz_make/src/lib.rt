@@ -7,8 +7,10 @@
 #![tactic(auto)]
 
 mod came;
+mod contour;
 mod laws;
 mod made;
+mod network;
 mod report;
 mod run;
 mod serving;

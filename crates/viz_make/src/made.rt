@@ -1,28 +1,18 @@
 //! A made volume, and its numbers.
 
-ghost use Rattle.std.specs.Prelude.{◌≡◌, ◌+◌, IfOk, length};
-ghost use Rattle.viz_fraction.specs.Forms.{contour_form};
-ghost use Rattle.viz_meaning.specs.Narrow.{IsNarrowSection};
-ghost use Rattle.viz_meaning.specs.Tetrahedra.{tetrahedra_sheet};
-ghost use Rattle.viz_surface_law.specs.Audit.{count_sides, count_two, count_lone, count_border};
-ghost use Rattle.viz_surface_law.specs.Contours.{triangles_of};
-ghost use Rattle.viz_make.specs.NarrowVolumes.{middle};
-ghost use Rattle.viz_make.specs.Make.{IsClosed, IsMade, image_of, volume_text};
+ghost use Rattle.std.specs.Prelude.{◌≡◌, IfOk};
+ghost use Rattle.viz_make.specs.Make.{IsClosed, IsMade, volume_text};
+ghost use Rattle.viz_make.specs.Steps.Contouring.{IsWritable};
 ghost use Rattle.viz_make.specs.Views.{make_of};
+ghost use Rattle.viz_make.specs.Volume.{volume_sum};
 
-use crate::laws::volumes_are_narrow;
+use crate::contour::audited;
 use crate::serving::Make;
 use crate::volume::{Generated, generate};
 use std::alloc::{AllocError, Global};
-use viz_base::Bytes;
-use viz_contour::contour;
-use viz_dataset::Image;
+use std::thread::Threads;
+use viz_base::{Bytes, Gate, Shared};
 use viz_image_write::{Style, WriteStop, write_image};
-use viz_meaning::WorkStop;
-use viz_surface_law::{Counts, audit, contours_are_closed};
-
-/// The level of the contour that is audited.
-const MIDDLE: i64 = 128;
 
 /// How volumes are written: in words.
 const STYLE: Style = Style {
@@ -43,55 +33,37 @@ pub struct Made {
     pub border: u64,
 }
 
-/// The audit of the contour of an image at the middle, and how many triangles it has.
-fn audited(alloc: Global, image: &Image) -> Result<(Counts, u64), AllocError>
-    requires { IsNarrowSection (contour_form middle) (tetrahedra_sheet image.now) }
-    ensures cells { IfOk result (λ r. r.1 ≡ length (triangles_of middle image.now)) }
-    ensures sides { IfOk result (λ r. r.0.sides ≡ count_sides (triangles_of middle image.now)) }
-    ensures two { IfOk result (λ r. r.0.two ≡ count_two (triangles_of middle image.now)) }
-    ensures lone { IfOk result (λ r. r.0.lone ≡ count_lone (triangles_of middle image.now)) }
-    ensures border { IfOk result (λ r.
-        r.0.border ≡ count_border image.now.extent (triangles_of middle image.now)) }
-    ensures closed { IfOk result (λ r. (r.0.sides ≡ r.0.two + r.0.border)
-        × (r.0.lone ≡ r.0.border)) }
+/// The text of the volume that a command names, and the sum of its values. The image is given up.
+fn volume_with(alloc: Global, command: &Make<'_>) -> Result<(Shared<Bytes>, u64), AllocError>
+    ensures text { IfOk result (λ r. r.0 ≡ volume_text (make_of command.now)) }
+    ensures sum { IfOk result (λ r. r.1 ≡ volume_sum command.now.number command.now.extent) }
+    ensures writable { IfOk result (λ _. IsWritable (make_of command.now)) }
 {
-    contours_are_closed();
-    let extent = image.extent();
-    let sheet = match contour(alloc, &MIDDLE, image) {
-        Ok(sheet) => sheet,
-        Err(WorkStop::TooWide) => unreachable!(),
-        Err(WorkStop::Memory) => return Err(AllocError),
-    };
-    let counts = audit(alloc, &sheet, &extent)?;
-    Ok((counts, sheet.cell_count() as u64))
-}
-
-/// The text of a volume.
-fn text_with(alloc: Global, command: &Make<'_>, image: &Image) -> Result<Bytes, AllocError>
-    requires { image.now ≡ image_of (make_of command.now) }
-    ensures { IfOk result (λ text. text ≡ volume_text (make_of command.now)) }
-{
-    let _valid = image.extent().bounds();
-    match write_image(alloc, image, &STYLE) {
-        Ok(text) => Ok(text),
+    let Generated { image, sum } = generate(alloc, command.number, &command.extent)?;
+    let _valid = image.extent();
+    match write_image(alloc, &image, &STYLE) {
+        Ok(text) => Ok((Shared::new(alloc, text)?, sum)),
         Err(WriteStop::TooWide) => unreachable!(),
         Err(WriteStop::TooMany) => unreachable!(),
         Err(WriteStop::Memory) => Err(AllocError),
     }
 }
 
-/// The text and the numbers of the volume that a command names.
-pub fn made_of(alloc: Global, command: &Make<'_>) -> Result<(Bytes, Made), AllocError>
+/// The text and the numbers of the volume that a command names. Its contour is made of the text
+/// alone.
+pub fn made_of<R: Threads + Sync, G: Gate + Sync>(
+    rt: &R,
+    alloc: Global,
+    command: &Make<'_>,
+    gate: &G,
+) -> Result<(Shared<Bytes>, Made), AllocError>
     ensures text { IfOk result (λ r. r.0 ≡ volume_text (make_of command.now)) }
     ensures made { IfOk result (λ r. IsMade (make_of command.now) r.1) }
     ensures closed { IfOk result (λ r. IsClosed r.1) }
 {
-    volumes_are_narrow();
-    let _bounds = command.extent.bounds();
     let points = command.extent.count();
-    let Generated { image, sum } = generate(alloc, command.number, &command.extent)?;
-    let (counts, cells) = audited(alloc, &image)?;
-    let text = text_with(alloc, command, &image)?;
+    let (text, sum) = volume_with(alloc, command)?;
+    let (counts, cells) = audited(rt, alloc, command, text.copy()?, gate)?;
     let made = Made {
         points,
         sum,

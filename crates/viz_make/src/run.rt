@@ -12,18 +12,22 @@ ghost use Rattle.viz_told.specs.Told.{IsTold};
 
 use crate::serving::{Make, serve};
 use std::alloc::Global;
-use viz_base::{Out, Port};
+use std::thread::Threads;
+use viz_base::{Gate, Out, Port};
 use viz_told::{Status, tell};
 
 /// Makes the volume of a number, writes it by the first port, and puts its numbers and the audit of
-/// its contour at 128.
+/// its contour at 128, which is made as scripts make theirs: by an update of a network, in pieces
+/// on workers, whose tasks pass `gate`.
 ///
 /// The statuses and lines are those of docs/FORMATS.md, "Report".
-pub fn run_make<P: Port, O: Out>(
+pub fn run_make<R: Threads + Sync, P: Port, O: Out, G: Gate + Sync>(
+    rt: &R,
     alloc: Global,
     command: &Make<'_>,
     ports: &mut Vec<P>,
     out: &mut O,
+    gate: &G,
 ) -> Status
     // What the run was: how it ended, and the text put of it.
     ensures account { (came : End) × IsMakeRun P.Port (make_of command.now) came ports.old.items
@@ -46,6 +50,6 @@ pub fn run_make<P: Port, O: Out>(
     ensures others { OthersStay ports.old.items ports.new.items }
     ensures one_put { O.puts out.new ≡ one_more (O.puts out.old) }
 {
-    let came = serve(alloc, command, ports);
+    let came = serve(rt, alloc, command, ports, gate);
     tell(alloc, out, &came)
 }

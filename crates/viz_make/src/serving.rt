@@ -9,7 +9,8 @@ ghost use Rattle.viz_told.specs.Calls.{IsCalled};
 use crate::came::Came;
 use crate::made::made_of;
 use std::alloc::Global;
-use viz_base::{Port, WriteRefusal};
+use std::thread::Threads;
+use viz_base::{Gate, Port, WriteRefusal};
 use viz_extent::Extent;
 
 /// The words of the command.
@@ -24,14 +25,20 @@ pub struct Make<'a> {
 }
 
 /// Makes the volume, audits its contour, and writes the volume with one call.
-fn serve_port<P: Port>(alloc: Global, command: &Make<'_>, port: &mut P) -> Came
+fn serve_port<R: Threads + Sync, P: Port, G: Gate + Sync>(
+    rt: &R,
+    alloc: Global,
+    command: &Make<'_>,
+    port: &mut P,
+    gate: &G,
+) -> Came
     ensures { (answer : Option WriteAnswer) × IsEndOfMaking (make_of command.now) answer result
         × IsCalled P.Port (written (make_of command.now) answer) port.old port.new }
 {
-    let Ok((text, made)) = made_of(alloc, command) else {
+    let Ok((text, made)) = made_of(rt, alloc, command, gate) else {
         return Came::Memory;
     };
-    match port.write(alloc, command.output, text.list()) {
+    match port.write(alloc, command.output, text.get().list()) {
         Ok(()) => Came::Written(made),
         Err(WriteRefusal::Failed) => Came::Unwritten,
         Err(WriteRefusal::Memory) => Came::Memory,
@@ -39,18 +46,30 @@ fn serve_port<P: Port>(alloc: Global, command: &Make<'_>, port: &mut P) -> Came
 }
 
 /// The same by the first port.
-fn serve_over<P: Port>(alloc: Global, command: &Make<'_>, ports: &mut [P]) -> Came
+fn serve_over<R: Threads + Sync, P: Port, G: Gate + Sync>(
+    rt: &R,
+    alloc: Global,
+    command: &Make<'_>,
+    ports: &mut [P],
+    gate: &G,
+) -> Came
     ensures { IsMakeRun P.Port (make_of command.now) result ports.old ports.new }
 {
     match ports {
         [] => Came::NoPort,
-        [port, ..] => serve_port(alloc, command, port),
+        [port, ..] => serve_port(rt, alloc, command, port, gate),
     }
 }
 
 /// The same over the list of ports.
-pub fn serve<P: Port>(alloc: Global, command: &Make<'_>, ports: &mut Vec<P>) -> Came
+pub fn serve<R: Threads + Sync, P: Port, G: Gate + Sync>(
+    rt: &R,
+    alloc: Global,
+    command: &Make<'_>,
+    ports: &mut Vec<P>,
+    gate: &G,
+) -> Came
     ensures { IsMakeRun P.Port (make_of command.now) result ports.old.items ports.new.items }
 {
-    serve_over(alloc, command, ports.as_mut_slice())
+    serve_over(rt, alloc, command, ports.as_mut_slice(), gate)
 }

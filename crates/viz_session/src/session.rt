@@ -70,7 +70,7 @@ pub fn run<R: Threads + Wait + Sync, P: Port + Send + Drop, O: Out, G: Gate + Sy
             run_script(rt, alloc, script, journal, desk, ports, out, gate)
         }
         Some(Command::Scratch(replay)) => run_scratch(alloc, &replay, desk, ports, out),
-        Some(Command::Make(make)) => run_make(alloc, &make, ports, out),
+        Some(Command::Make(make)) => run_make(rt, alloc, &make, ports, out, gate),
         None => tell(alloc, out, &NoCommand),
     }
 }

@@ -1,4 +1,4 @@
-use Rattle.std.proofs.Common.{Option, Some, List, ℕ, refl, subst, sym, inl, inr}
+use Rattle.std.proofs.Common.{Option, Some, subst, sym, inl, inr}
 use Rattle.viz_session.specs.Command.{Command}
 use Rattle.viz_session.specs.declared.command.Command.{Command as Words}
 use Rattle.viz_session.specs.Runs.{IsFault, command_view}
