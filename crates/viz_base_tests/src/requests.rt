@@ -156,3 +156,15 @@ fn slabs_without_planes_are_left_out(rt: HostRuntime) -> Result<(), Fail> {
     assert_eq!(rt; pieces[1], piece(1, 2, 0));
     Ok(())
 }
+
+#[test]
+fn many_pieces_are_asked_for(rt: HostRuntime) -> Result<(), Fail> {
+    // Far more slabs than planes: each is looked at, and two have a plane.
+    let flat = Extent::new([0, 1, 0, 1, 5, 6]);
+    let slabs = requests_of(rt.alloc(), &flat, 20_000_000)?;
+    assert_eq!(rt; slabs.len(), 2);
+    let pieces = requests_of(rt.alloc(), &None, 1_000_000)?;
+    assert_eq!(rt; pieces.len(), 1_000_000);
+    assert_eq!(rt; pieces[999_999], piece(999_999, 1_000_000, 0));
+    Ok(())
+}
