@@ -41,7 +41,15 @@ at_of (answer.Network fault name at) = Some at
 at_of (answer.WriteFault at) = Some at
 at_of answer.Memory = None
 
--- ---- the parts of an update by its plan
+-- why an answer has no file, where none was made
+abbrev pub missing_in : Answer → Option Missing
+missing_in (answer.Written at cells points ran) = None
+missing_in (answer.Unknown at) = Some missing.Unknown
+missing_in (answer.Network fault name at) = Some (missing.Fault fault name)
+missing_in (answer.WriteFault at) = None
+missing_in answer.Memory = Some missing.Memory
+
+-- ---- the parts of an update or an audit by its plan
 
 -- what is handed out to be kept: parts that are made in the network, where the node that was asked
 -- has a dataset
@@ -56,32 +64,19 @@ pub record IsNamed (net : Network) (node : List ℕ) (id : ℕ) : Type 0 where
   pub there : named net node ≡ Some found
   pub same : found.id.0 ≡ id
 
--- an answer beside which nothing is handed out: the node is unknown, or has no dataset, or memory
--- ran out
-abbrev pub HasNoParts : Network → List ℕ → Answer → Type 0
-HasNoParts net node (answer.Unknown at) = Unit {0}
-HasNoParts net node (answer.Network fault name at) =
-    (id : ℕ) × IsNamed net node id × IsScratch net id (Err fault)
-HasNoParts net node answer.Memory = Unit {0}
-HasNoParts net node a = ⊥
-
--- an audit beside which nothing is handed out, so
-abbrev pub HasNoAuditParts : Network → List ℕ → AuditAnswer → Type 0
-HasNoAuditParts net node (audit.Unknown at) = Unit {0}
-HasNoAuditParts net node (audit.Network fault name at) = (id : ℕ) × IsNamed net node id
+-- why there are no parts: the node is unknown, or has no dataset, or memory ran out
+abbrev pub LacksParts : Network → List ℕ → Option Missing → Type 0
+LacksParts net node None = ⊥
+LacksParts net node (Some missing.Unknown) = Unit {0}
+LacksParts net node (Some (missing.Fault fault name)) = (id : ℕ) × IsNamed net node id
     × IsScratch net id (Err fault)
-HasNoAuditParts net node audit.Memory = Unit {0}
-HasNoAuditParts net node a = ⊥
+LacksParts net node (Some missing.Memory) = Unit {0}
 
--- what is handed out beside the answer of an audit
-abbrev pub AuditHandsOut : Network → List ℕ → AuditAnswer → Option UpdateParts → Type 0
-AuditHandsOut net node a None = HasNoAuditParts net node a
-AuditHandsOut net node a (Some parts) = IsNamed net node parts.sink.0 × GivesParts net parts
-
--- what is handed out beside an answer
-abbrev pub HandsOut : Network → List ℕ → Answer → Option UpdateParts → Type 0
-HandsOut net node a None = HasNoParts net node a
-HandsOut net node a (Some parts) = IsNamed net node parts.sink.0 × GivesParts net parts
+-- what is handed out of the node of this name, where a file or counts are missing for this cause,
+-- or aren't
+abbrev pub HandsOut : Network → List ℕ → Option Missing → Option UpdateParts → Type 0
+HandsOut net node cause None = LacksParts net node cause
+HandsOut net node cause (Some parts) = IsNamed net node parts.sink.0 × GivesParts net parts
 
 -- ---- audits
 
@@ -98,6 +93,13 @@ audit_line_of
 audit_line_of (audit.Unknown at) = line.Refused reason.Unknown at
 audit_line_of (audit.Network fault name at) = line.Refused (reason.Fault fault name) at
 audit_line_of audit.Memory = line.Memory
+
+-- why an answer has no counts
+abbrev pub audit_missing_in : AuditAnswer → Option Missing
+audit_missing_in (audit.Counted at counts) = None
+audit_missing_in (audit.Unknown at) = Some missing.Unknown
+audit_missing_in (audit.Network fault name at) = Some (missing.Fault fault name)
+audit_missing_in audit.Memory = Some missing.Memory
 
 -- the number of entries that an answer speaks of
 abbrev pub audit_at_of : AuditAnswer → Option ℕ

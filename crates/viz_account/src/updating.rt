@@ -2,7 +2,7 @@
 
 ghost use Rattle.std.specs.Prelude.{◌≡◌, ◌↔◌, IfSome, IsSome};
 ghost use Rattle.std.specs.Str.{IsUtf8};
-ghost use Rattle.viz_account.specs.Answers.{line_of, at_of, HandsOut, IsNamed};
+ghost use Rattle.viz_account.specs.Answers.{line_of, at_of, missing_in, HandsOut, IsNamed};
 ghost use Rattle.viz_account.specs.Served.{Updates, Writes};
 ghost use Rattle.viz_account.specs.Steps.Made.{WritesText, IsPlanned};
 ghost use Rattle.viz_account.specs.Written.{HasNoPlan};
@@ -88,7 +88,7 @@ fn answered<P: Port>(
     ensures updates { Updates P.Port net.now at _node.now file.now _shape.now.pieces
         (line_of result.0) port.old port.new }
     ensures at { IfSome (at_of result.0) (λ n. n ≡ at) }
-    ensures parts { HandsOut net.now _node.now result.0 result.1 }
+    ensures parts { HandsOut net.now _node.now (missing_in result.0) result.1 }
 {
     let Planned {
         file: made,
@@ -125,7 +125,7 @@ pub fn update<R: Threads + Sync, P: Port, G: Gate + Sync>(
     ensures updates { Updates P.Port net.now at node.now file.now shape.now.pieces
         (line_of result.0) port.old port.new }
     ensures at { IfSome (at_of result.0) (λ n. n ≡ at) }
-    ensures parts { HandsOut net.now node.now result.0 result.1 }
+    ensures parts { HandsOut net.now node.now (missing_in result.0) result.1 }
 {
     let Some(sink) = net.find(node) else {
         return (Answer::without(Missing::Unknown, at), None);

@@ -56,15 +56,15 @@ RanFor net pieces id (Ok m) ran = HasRan net pieces id ran
 RanFor net pieces id (Err s) ran = Unit {0}
 
 -- a node has no dataset, for this fault, unless memory ran out
-abbrev pub IsWithoutParts : Network → ℕ → Result Made Stop → Type 0
+abbrev pub IsWithoutParts : {X : Type 0} → Network → ℕ → Result X Stop → Type 0
 IsWithoutParts net id (Err (stop.Fault fault)) = IsScratch net id (Err fault)
 IsWithoutParts net id (Err stop.Memory) = Unit {0}
-IsWithoutParts net id (Ok m) = ⊥
+IsWithoutParts net id (Ok x) = ⊥
 
--- the parts of an update of a node, or that it has none
-abbrev pub HasParts : Network → ℕ → Result Made Stop → Option UpdateParts → Type 0
-HasParts net id file None = IsWithoutParts net id file
-HasParts net id file (Some parts) = (parts.sink.0 ≡ id) × GivesParts net parts
+-- the parts of an update or an audit of a node with this result, or that it has none
+abbrev pub HasParts : {X : Type 0} → Network → ℕ → Result X Stop → Option UpdateParts → Type 0
+HasParts net id result None = IsWithoutParts net id result
+HasParts net id result (Some parts) = (parts.sink.0 ≡ id) × GivesParts net parts
 
 -- an update of a node in so many pieces, by its plan
 pub record IsPlanned (net : Network) (pieces id : ℕ) (p : Planned) : Type 0 where
