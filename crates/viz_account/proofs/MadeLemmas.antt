@@ -148,11 +148,12 @@ audit_missing_without (missing.Fault fault name) n = refl
 audit_missing_without missing.Memory n = refl
 
 -- a node that has a result has parts
-pub result_hands : {X : Type 0} (net : Network) (node : List ℕ) (id : ℕ) (x : X)
-    (cause : Option Missing) (o : Option UpdateParts) → IsNamed net node id
-    → HasParts net id (Ok x) o → HandsOut net node cause o
-result_hands net node id x cause None named h = absurd h
-result_hands net node id x cause (Some parts) named h =
+pub result_hands : {X : Type 0} (net : Network) (entries : List Stored) (pieces : ℕ)
+    (node : List ℕ) (id : ℕ) (x : X) (cause : Option Missing) (o : Option UpdateParts)
+    → IsNamed net node id
+    → HasParts net entries pieces id (Ok x) o → HandsOut net entries pieces node cause o
+result_hands net entries pieces node id x cause None named h = absurd h
+result_hands net entries pieces node id x cause (Some parts) named h =
     (subst (IsNamed net node) (sym h.0) named, h.1)
 
 -- a node that has none may have parts; without a dataset it hasn't
@@ -167,12 +168,13 @@ module _ (X : Type 0) (net : Network) (node : List ℕ) (id : ℕ) where
   stop_lacks stop.Memory missing.Unknown named t h = absurd t
   stop_lacks stop.Memory missing.Memory named t h = tt
 
-  pub stop_hands : (s : Stop) (m : Missing) (cause : Option Missing) (o : Option UpdateParts)
-      → IsNamed net node id → IsStop net s m → HasParts {X = X} net id (Err s) o
-      → cause ≡ Some m → HandsOut net node cause o
-  stop_hands s m cause None named t h is =
+  pub stop_hands : (entries : List Stored) (pieces : ℕ) (s : Stop) (m : Missing)
+      (cause : Option Missing) (o : Option UpdateParts)
+      → IsNamed net node id → IsStop net s m → HasParts {X = X} net entries pieces id (Err s) o
+      → cause ≡ Some m → HandsOut net entries pieces node cause o
+  stop_hands entries pieces s m cause None named t h is =
       subst (LacksParts net node) (sym is) (stop_lacks s m named t h)
-  stop_hands s m cause (Some parts) named t h is =
+  stop_hands entries pieces s m cause (Some parts) named t h is =
       (subst (IsNamed net node) (sym h.0) named, h.1)
 
 -- where the plan stops nothing is handed out

@@ -2,10 +2,11 @@
 -- (docs/FORMATS.md, "Report").
 use Rattle.std.specs.Prelude.{◌≡◌, ℕ, List, Option, None, Some, Ok, Err}
 use Rattle.viz_dataset.specs.declared.dataset.Dataset.{Dataset}
-use Rattle.viz_kept.specs.True.{AreMadeIn}
+use Rattle.viz_executive.specs.Published.{AreOfPlan}
 use Rattle.viz_network.specs.Network.{Network, named}
 use Rattle.viz_network.specs.declared.node.Node.{Node}
 use Rattle.viz_node_meaning.specs.Scratch.{IsScratch}
+use Rattle.viz_parts.specs.declared.stored.Stored.{Stored}
 use Rattle.viz_account.specs.declared.answer.Missing.{Missing}
 use Rattle.viz_account.specs.declared.answer.Missing.TheVariants as missing
 use Rattle.viz_account.specs.declared.answer.Answer.{Answer}
@@ -51,12 +52,13 @@ missing_in answer.Memory = Some missing.Memory
 
 -- ---- the parts of an update or an audit by its plan
 
--- what is handed out to be kept: parts that are made in the network, where the node that was asked
--- has a dataset
-pub record GivesParts (net : Network) (parts : UpdateParts) : Type 0 where
+-- what is handed out to be kept, where the node that was asked has a dataset: what an update of it
+-- in so many pieces, by what is kept, may publish
+pub record GivesParts (net : Network) (entries : List Stored) (pieces : ℕ) (parts : UpdateParts)
+    : Type 0 where
   pub dataset : Dataset
   pub given : IsScratch net parts.sink.0 (Ok dataset)
-  pub made : AreMadeIn net parts.made.items
+  pub plan : AreOfPlan net entries parts.sink.0 pieces parts.used.items parts.made.items
 
 -- the node of this name is the one with this number
 pub record IsNamed (net : Network) (node : List ℕ) (id : ℕ) : Type 0 where
@@ -72,11 +74,13 @@ LacksParts net node (Some (missing.Fault fault name)) = (id : ℕ) × IsNamed ne
     × IsScratch net id (Err fault)
 LacksParts net node (Some missing.Memory) = Unit {0}
 
--- what is handed out of the node of this name, where a file or counts are missing for this cause,
--- or aren't
-abbrev pub HandsOut : Network → List ℕ → Option Missing → Option UpdateParts → Type 0
-HandsOut net node cause None = LacksParts net node cause
-HandsOut net node cause (Some parts) = IsNamed net node parts.sink.0 × GivesParts net parts
+-- what is handed out of the node of this name, by what is kept and in so many pieces, where a file
+-- or counts are missing for this cause, or aren't
+abbrev pub HandsOut : Network → List Stored → ℕ → List ℕ → Option Missing → Option UpdateParts
+    → Type 0
+HandsOut net entries pieces node cause None = LacksParts net node cause
+HandsOut net entries pieces node cause (Some parts) =
+    IsNamed net node parts.sink.0 × GivesParts net entries pieces parts
 
 -- ---- audits
 

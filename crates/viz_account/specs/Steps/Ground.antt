@@ -1,5 +1,5 @@
 -- Where a node stands, and counts added up. Only private contracts and proofs speak of it.
-use Rattle.std.specs.Prelude.{◌≡◌, ℕ, ◌+◌, Option, None, Some, Ok}
+use Rattle.std.specs.Prelude.{◌≡◌, ℕ, ◌+◌, List, Option, None, Some, Ok}
 use Rattle.viz_base.specs.declared.node.NodeId.{NodeId}
 use Rattle.viz_extent.specs.Extent.{Bounds}
 use Rattle.viz_dataset.specs.Images.{ImageData, IsImage}
@@ -11,6 +11,7 @@ use Rattle.viz_network.specs.declared.fault.Stop.TheVariants.{Fault}
 use Rattle.viz_network.specs.Network.{Network}
 use Rattle.viz_network.specs.Cone.{cone_of}
 use Rattle.viz_node_meaning.specs.Scratch.{Answers, IsScratch}
+use Rattle.viz_parts.specs.declared.stored.Stored.{Stored}
 use Rattle.viz_account.specs.Audited.{IsAuditOf, StandsOn}
 use Rattle.viz_account.specs.declared.surface.Counted.{Counted}
 use Rattle.viz_account.specs.Steps.Made.{HasParts}
@@ -40,7 +41,8 @@ no_surface node = Fault (record { node = node; cause = WrongInput 1 })
 
 -- ---- by a plan
 
--- an audit of a node, by its plan
-pub record IsCounted (net : Network) (id : ℕ) (c : Counted) : Type 0 where
+-- an audit of a node, by its plan from what is kept and in so many pieces
+pub record IsCounted (net : Network) (entries : List Stored) (pieces id : ℕ) (c : Counted)
+    : Type 0 where
   pub counts : Answers (IsAuditOf net id) c.counts
-  pub parts : HasParts net id c.counts c.parts
+  pub parts : HasParts net entries pieces id c.counts c.parts

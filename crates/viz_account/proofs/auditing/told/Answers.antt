@@ -37,8 +37,10 @@ returns-in-Ok-clause-parts c =
     let net = c.args.net.now in
     let id = c.args._id.0 in
     let parts = c.args.counted.parts in
-    result_hands net c.args._node.now id c.in-Ok.audit None parts c.requires.named
-    (subst (λ r. HasParts net id r parts) c.in-Ok.is c.requires.counted.parts)
+    let entries = c.args._entries.now in
+    let pieces = c.args._shape.now.pieces in
+    result_hands net entries pieces c.args._node.now id c.in-Ok.audit None parts c.requires.named
+    (subst (λ r. HasParts net entries pieces id r parts) c.in-Ok.is c.requires.counted.parts)
 
 pub returns-in-Err-clause-tells : goal.returns-in-Err-clause-tells
 returns-in-Err-clause-tells c =
@@ -64,8 +66,10 @@ returns-in-Err-clause-parts c =
     let id = c.args._id.0 in
     let parts = c.args.counted.parts in
     let gone = c.missing_of.result in
-    subst (λ a. HandsOut net node (audit_missing_in a) parts) (sym c.without.ensures)
-    (stop_hands Counts net node id c.in-Err.stop gone (audit_missing_in (audit_without gone c.args.at)) parts
+    let entries = c.args._entries.now in
+    let pieces = c.args._shape.now.pieces in
+    subst (λ a. HandsOut net entries pieces node (audit_missing_in a) parts) (sym c.without.ensures)
+    (stop_hands Counts net node id entries pieces c.in-Err.stop gone (audit_missing_in (audit_without gone c.args.at)) parts
     c.requires.named c.missing_of.ensures
-    (subst (λ f. HasParts net id f parts) c.in-Err.is c.requires.counted.parts)
+    (subst (λ f. HasParts net entries pieces id f parts) c.in-Err.is c.requires.counted.parts)
     (audit_missing_without gone c.args.at))

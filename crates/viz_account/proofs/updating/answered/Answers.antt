@@ -46,8 +46,10 @@ returns-in-Err-clause-parts g c =
     let id = c.args._sink.0 in
     let parts = c.args.planned.parts in
     let gone = c.missing_of.result in
-    subst (λ a. HandsOut net node (missing_in a) parts) (sym c.without.ensures)
-    (stop_hands Made net node id c.in-Err.stop gone (missing_in (without gone c.args.at)) parts
+    let entries = c.args._entries.now in
+    let pieces = c.args._shape.now.pieces in
+    subst (λ a. HandsOut net entries pieces node (missing_in a) parts) (sym c.without.ensures)
+    (stop_hands Made net node id entries pieces c.in-Err.stop gone (missing_in (without gone c.args.at)) parts
     c.requires.named c.missing_of.ensures
-    (subst (λ f. HasParts net id f parts) c.in-Err.is c.requires.planned.parts)
+    (subst (λ f. HasParts net entries pieces id f parts) c.in-Err.is c.requires.planned.parts)
     (missing_without gone c.args.at))
