@@ -24,7 +24,8 @@ use Rattle.viz_account.specs.declared.answer.Missing.{Missing}
 use Rattle.viz_account.specs.declared.answer.Missing.TheVariants as missing
 use Rattle.viz_account.specs.declared.made.Made.{Made}
 use Rattle.viz_account.specs.declared.parts.UpdateParts.{UpdateParts}
-use Rattle.viz_account.specs.Answers.{line_of, without, HandsOut, IsNamed}
+use Rattle.viz_account.specs.Answers.{line_of, without, missing_in, audit_without, audit_missing_in}
+use Rattle.viz_account.specs.Answers.{HandsOut, IsNamed, LacksParts}
 use Rattle.viz_account.specs.Lines.{TellsFile}
 use Rattle.viz_account.specs.Served.{Writes}
 use Rattle.viz_account.specs.Steps.Made.{Makes, IsStop, IsMissing, HasParts, IsWithoutParts, RanFor, WritesText}
@@ -135,32 +136,58 @@ module _ (Ran : ℕ → ℕ → Type 0) where
 
 -- ---- the parts of an update
 
--- a node that has a file has parts
-pub file_hands : (net : Network) (node : List ℕ) (id : ℕ) (m : Made) (a : Answer)
-    (o : Option UpdateParts) → IsNamed net node id
-    → HasParts net id (Ok m) o → HandsOut net node a o
-file_hands net node id m a None named h = absurd h
-file_hands net node id m a (Some parts) named h = (subst (IsNamed net node) (sym h.0) named, h.1)
+-- an answer without a file, or without counts, has this cause
+pub missing_without : (m : Missing) (n : ℕ) → missing_in (without m n) ≡ Some m
+missing_without missing.Unknown n = refl
+missing_without (missing.Fault fault name) n = refl
+missing_without missing.Memory n = refl
+
+pub audit_missing_without : (m : Missing) (n : ℕ) → audit_missing_in (audit_without m n) ≡ Some m
+audit_missing_without missing.Unknown n = refl
+audit_missing_without (missing.Fault fault name) n = refl
+audit_missing_without missing.Memory n = refl
+
+-- a node that has a result has parts
+pub result_hands : {X : Type 0} (net : Network) (entries : List Stored) (pieces : ℕ)
+    (node : List ℕ) (id : ℕ) (x : X) (cause : Option Missing) (o : Option UpdateParts)
+    → IsNamed net node id
+    → HasParts net entries pieces id (Ok x) o → HandsOut net entries pieces node cause o
+result_hands net entries pieces node id x cause None named h = absurd h
+result_hands net entries pieces node id x cause (Some parts) named h =
+    (subst (IsNamed net node) (sym h.0) named, h.1)
 
 -- a node that has none may have parts; without a dataset it hasn't
-pub stop_hands : (net : Network) (node : List ℕ) (id n : ℕ) (s : Stop) (m : Missing)
-    (o : Option UpdateParts) → IsNamed net node id
-    → IsStop net s m → HasParts net id (Err s) o → HandsOut net node (without m n) o
-stop_hands net node id n s m (Some parts) named t h =
-    (subst (IsNamed net node) (sym h.0) named, h.1)
-stop_hands net node id n (stop.Fault f) (missing.Fault g name) None named t h =
-    (id, named, subst (λ e. IsScratch net id (Err e)) (sym t.0) h)
-stop_hands net node id n (stop.Fault f) missing.Unknown None named t h = absurd t
-stop_hands net node id n (stop.Fault f) missing.Memory None named t h = tt
-stop_hands net node id n stop.Memory (missing.Fault g name) None named t h = absurd t
-stop_hands net node id n stop.Memory missing.Unknown None named t h = absurd t
-stop_hands net node id n stop.Memory missing.Memory None named t h = tt
+module _ (X : Type 0) (net : Network) (node : List ℕ) (id : ℕ) where
+  stop_lacks : (s : Stop) (m : Missing) → IsNamed net node id → IsStop net s m
+      → IsWithoutParts {X = X} net id (Err s) → LacksParts net node (Some m)
+  stop_lacks (stop.Fault f) (missing.Fault g name) named t h =
+      (id, named, subst (λ e. IsScratch net id (Err e)) (sym t.0) h)
+  stop_lacks (stop.Fault f) missing.Unknown named t h = absurd t
+  stop_lacks (stop.Fault f) missing.Memory named t h = tt
+  stop_lacks stop.Memory (missing.Fault g name) named t h = absurd t
+  stop_lacks stop.Memory missing.Unknown named t h = absurd t
+  stop_lacks stop.Memory missing.Memory named t h = tt
 
--- a stop of the plan is one of the file, and nothing is handed out
+  pub stop_hands : (entries : List Stored) (pieces : ℕ) (s : Stop) (m : Missing)
+      (cause : Option Missing) (o : Option UpdateParts)
+      → IsNamed net node id → IsStop net s m → HasParts {X = X} net entries pieces id (Err s) o
+      → cause ≡ Some m → HandsOut net entries pieces node cause o
+  stop_hands entries pieces s m cause None named t h is =
+      subst (LacksParts net node) (sym is) (stop_lacks s m named t h)
+  stop_hands entries pieces s m cause (Some parts) named t h is =
+      (subst (IsNamed net node) (sym h.0) named, h.1)
+
+-- where the plan stops nothing is handed out
+pub stop_without : (X : Type 0) (net : Network) (id : ℕ) (s : Stop) → IsScratchStop net id s
+    → IsWithoutParts {X = X} net id (Err s)
+stop_without X net id (stop.Fault f) h = h
+stop_without X net id stop.Memory h = tt
+
+-- and the file has that fault
 pub plan_stopped : (net : Network) (id : ℕ) (s : Stop) → IsScratchStop net id s
-    → Makes net id (Err s) × IsWithoutParts net id (Err s)
-plan_stopped net id (stop.Fault f) h = ((Err f, h, refl), h)
-plan_stopped net id stop.Memory h = (tt, tt)
+    → Makes net id (Err s)
+plan_stopped net id (stop.Fault f) h = (Err f, h, refl)
+plan_stopped net id stop.Memory h = tt
 
 -- how many tasks ran is the number of those of the plan
 pub plan_ran : (net : Network) (pieces id : ℕ) (entries : List Stored) (p : Produced)

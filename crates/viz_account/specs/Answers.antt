@@ -2,10 +2,11 @@
 -- (docs/FORMATS.md, "Report").
 use Rattle.std.specs.Prelude.{◌≡◌, ℕ, List, Option, None, Some, Ok, Err}
 use Rattle.viz_dataset.specs.declared.dataset.Dataset.{Dataset}
-use Rattle.viz_kept.specs.True.{AreMadeIn}
+use Rattle.viz_executive.specs.Published.{AreOfPlan}
 use Rattle.viz_network.specs.Network.{Network, named}
 use Rattle.viz_network.specs.declared.node.Node.{Node}
 use Rattle.viz_node_meaning.specs.Scratch.{IsScratch}
+use Rattle.viz_parts.specs.declared.stored.Stored.{Stored}
 use Rattle.viz_account.specs.declared.answer.Missing.{Missing}
 use Rattle.viz_account.specs.declared.answer.Missing.TheVariants as missing
 use Rattle.viz_account.specs.declared.answer.Answer.{Answer}
@@ -41,14 +42,23 @@ at_of (answer.Network fault name at) = Some at
 at_of (answer.WriteFault at) = Some at
 at_of answer.Memory = None
 
--- ---- the parts of an update by its plan
+-- why an answer has no file, where none was made
+abbrev pub missing_in : Answer → Option Missing
+missing_in (answer.Written at cells points ran) = None
+missing_in (answer.Unknown at) = Some missing.Unknown
+missing_in (answer.Network fault name at) = Some (missing.Fault fault name)
+missing_in (answer.WriteFault at) = None
+missing_in answer.Memory = Some missing.Memory
 
--- what is handed out to be kept: parts that are made in the network, where the node that was asked
--- has a dataset
-pub record GivesParts (net : Network) (parts : UpdateParts) : Type 0 where
+-- ---- the parts of an update or an audit by its plan
+
+-- what is handed out to be kept, where the node that was asked has a dataset: what an update of it
+-- in so many pieces, by what is kept, may publish
+pub record GivesParts (net : Network) (entries : List Stored) (pieces : ℕ) (parts : UpdateParts)
+    : Type 0 where
   pub dataset : Dataset
   pub given : IsScratch net parts.sink.0 (Ok dataset)
-  pub made : AreMadeIn net parts.made.items
+  pub plan : AreOfPlan net entries parts.sink.0 pieces parts.used.items parts.made.items
 
 -- the node of this name is the one with this number
 pub record IsNamed (net : Network) (node : List ℕ) (id : ℕ) : Type 0 where
@@ -56,32 +66,21 @@ pub record IsNamed (net : Network) (node : List ℕ) (id : ℕ) : Type 0 where
   pub there : named net node ≡ Some found
   pub same : found.id.0 ≡ id
 
--- an answer beside which nothing is handed out: the node is unknown, or has no dataset, or memory
--- ran out
-abbrev pub HasNoParts : Network → List ℕ → Answer → Type 0
-HasNoParts net node (answer.Unknown at) = Unit {0}
-HasNoParts net node (answer.Network fault name at) =
-    (id : ℕ) × IsNamed net node id × IsScratch net id (Err fault)
-HasNoParts net node answer.Memory = Unit {0}
-HasNoParts net node a = ⊥
-
--- an audit beside which nothing is handed out, so
-abbrev pub HasNoAuditParts : Network → List ℕ → AuditAnswer → Type 0
-HasNoAuditParts net node (audit.Unknown at) = Unit {0}
-HasNoAuditParts net node (audit.Network fault name at) = (id : ℕ) × IsNamed net node id
+-- why there are no parts: the node is unknown, or has no dataset, or memory ran out
+abbrev pub LacksParts : Network → List ℕ → Option Missing → Type 0
+LacksParts net node None = ⊥
+LacksParts net node (Some missing.Unknown) = Unit {0}
+LacksParts net node (Some (missing.Fault fault name)) = (id : ℕ) × IsNamed net node id
     × IsScratch net id (Err fault)
-HasNoAuditParts net node audit.Memory = Unit {0}
-HasNoAuditParts net node a = ⊥
+LacksParts net node (Some missing.Memory) = Unit {0}
 
--- what is handed out beside the answer of an audit
-abbrev pub AuditHandsOut : Network → List ℕ → AuditAnswer → Option UpdateParts → Type 0
-AuditHandsOut net node a None = HasNoAuditParts net node a
-AuditHandsOut net node a (Some parts) = IsNamed net node parts.sink.0 × GivesParts net parts
-
--- what is handed out beside an answer
-abbrev pub HandsOut : Network → List ℕ → Answer → Option UpdateParts → Type 0
-HandsOut net node a None = HasNoParts net node a
-HandsOut net node a (Some parts) = IsNamed net node parts.sink.0 × GivesParts net parts
+-- what is handed out of the node of this name, by what is kept and in so many pieces, where a file
+-- or counts are missing for this cause, or aren't
+abbrev pub HandsOut : Network → List Stored → ℕ → List ℕ → Option Missing → Option UpdateParts
+    → Type 0
+HandsOut net entries pieces node cause None = LacksParts net node cause
+HandsOut net entries pieces node cause (Some parts) =
+    IsNamed net node parts.sink.0 × GivesParts net entries pieces parts
 
 -- ---- audits
 
@@ -98,6 +97,13 @@ audit_line_of
 audit_line_of (audit.Unknown at) = line.Refused reason.Unknown at
 audit_line_of (audit.Network fault name at) = line.Refused (reason.Fault fault name) at
 audit_line_of audit.Memory = line.Memory
+
+-- why an answer has no counts
+abbrev pub audit_missing_in : AuditAnswer → Option Missing
+audit_missing_in (audit.Counted at counts) = None
+audit_missing_in (audit.Unknown at) = Some missing.Unknown
+audit_missing_in (audit.Network fault name at) = Some (missing.Fault fault name)
+audit_missing_in audit.Memory = Some missing.Memory
 
 -- the number of entries that an answer speaks of
 abbrev pub audit_at_of : AuditAnswer → Option ℕ

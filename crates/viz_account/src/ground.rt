@@ -64,7 +64,7 @@ fn with_made(
     requires made { AreMadeIn net.now made.now }
     ensures { IfOk result (λ all. AreTrueIn net.now all.items) }
 {
-    let mut all = Vec::new(alloc);
+    let mut all = Vec::with_capacity(alloc, entries.len().saturating_add(made.len()))?;
     add_all(&mut all, net, entries)?;
     add_all(&mut all, net, made)?;
     Ok(all)

@@ -1,13 +1,14 @@
 //! What an update by its plan hands out to be kept.
 
-ghost use Rattle.std.specs.Prelude.{◌≡◌};
-ghost use Rattle.viz_executive.specs.Produced.{IsOnly};
+ghost use Rattle.std.specs.Prelude.{◌≡◌, ◌⊎◌, []};
+ghost use Rattle.viz_executive.specs.Produced.{IsByPlan, IsOnly, all_keys, keys_of};
+ghost use Rattle.viz_executive.specs.Published.{AreOfPlan};
 ghost use Rattle.viz_kept.specs.True.{AreMadeIn};
 
 use std::alloc::Global;
-use viz_base::NodeId;
+use viz_base::{NodeId, Shape};
 use viz_dataset::Dataset;
-use viz_executive::all_made;
+use viz_executive::{Produced, all_made};
 use viz_network::Net;
 use viz_parts::{Key, Stored};
 
@@ -24,7 +25,8 @@ pub struct UpdateParts {
 
 // An empty list of made parts.
 fn nothing(alloc: Global, _net: &Net) -> Vec<Stored>
-    ensures { AreMadeIn _net.now result.items }
+    ensures empty { result.items ≡ [] }
+    ensures made { AreMadeIn _net.now result.items }
 {
     Vec::new(alloc)
 }
@@ -39,7 +41,8 @@ fn all_or_none(
 ) -> Vec<Stored>
     requires made { AreMadeIn net.now made.items }
     requires only { IsOnly net.now dataset only }
-    ensures { AreMadeIn net.now result.items }
+    ensures keys { (result.items ≡ []) ⊎ (keys_of result.items ≡ all_keys made.items only) }
+    ensures made { AreMadeIn net.now result.items }
 {
     match all_made(alloc, dataset, made, only) {
         Ok(all) => all,
@@ -47,22 +50,28 @@ fn all_or_none(
     }
 }
 
-/// The parts of an update of this node, whose dataset isn't needed any more. Where memory runs out
-/// none of those that were made is among them.
+/// The parts of an update of this node, or of an audit, whose dataset isn't needed any more. Where
+/// memory runs out none of those that were made is among them.
 pub fn parts_of(
     alloc: Global,
     net: &Net,
+    _entries: &[Stored],
     sink: NodeId,
-    dataset: Dataset,
-    used: Vec<Key>,
-    made: Vec<Stored>,
-    only: Option<Key>,
+    _shape: &Shape,
+    produced: Produced,
 ) -> UpdateParts
-    requires made { AreMadeIn net.now made.items }
-    requires only { IsOnly net.now dataset only }
+    requires plan { IsByPlan net.now _entries.now sink.0 _shape.now.pieces produced }
     ensures sink { result.sink ≡ sink }
-    ensures made { AreMadeIn net.now result.made.items }
+    ensures plan { AreOfPlan net.now _entries.now result.sink.0 _shape.now.pieces
+        result.used.items result.made.items }
 {
+    let Produced {
+        dataset,
+        used,
+        made,
+        only,
+        ..
+    } = produced;
     let made = all_or_none(alloc, net, dataset, made, only);
     UpdateParts { sink, used, made }
 }

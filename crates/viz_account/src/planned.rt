@@ -30,26 +30,20 @@ pub struct Planned {
 fn planned_by(
     alloc: Global,
     net: &Net,
-    _entries: &[Stored],
+    entries: &[Stored],
     sink: NodeId,
-    _shape: &Shape,
+    shape: &Shape,
     produced: Produced,
 ) -> Planned
     requires there { IsSome (node_of net.now sink.0) }
-    requires entries { AreTrueIn net.now _entries.now }
+    requires entries { AreTrueIn net.now entries.now }
     requires given { IsScratch net.now sink.0 (Ok produced.dataset) }
-    requires plan { IsByPlan net.now _entries.now sink.0 _shape.now.pieces produced }
-    ensures { IsPlanned net.now _shape.now.pieces sink.0 result }
+    requires plan { IsByPlan net.now entries.now sink.0 shape.now.pieces produced }
+    ensures { IsPlanned net.now entries.now shape.now.pieces sink.0 result }
 {
-    let Produced {
-        dataset,
-        used,
-        made,
-        only,
-        ran,
-    } = produced;
-    let file = file_by(alloc, net, sink, &dataset);
-    let parts = parts_of(alloc, net, sink, dataset, used, made, only);
+    let file = file_by(alloc, net, sink, &produced.dataset);
+    let ran = produced.ran;
+    let parts = parts_of(alloc, net, entries, sink, shape, produced);
     Planned {
         file,
         ran,
@@ -70,7 +64,7 @@ pub fn make_by_plan<R: Threads + Sync, G: Gate + Sync>(
     requires there { IsSome (node_of net.now sink.0) }
     requires ports { HaveOwnPorts net.now }
     requires entries { AreTrueIn net.now entries.now }
-    ensures { IsPlanned net.now shape.now.pieces sink.0 result }
+    ensures { IsPlanned net.now entries.now shape.now.pieces sink.0 result }
 {
     match produce(rt, alloc, net, entries, sink, shape, gate) {
         Ok(produced) => planned_by(alloc, net, entries, sink, shape, produced),

@@ -1,7 +1,7 @@
 //! The audit of a node.
 
 ghost use Rattle.std.specs.Prelude.{◌≡◌, IsSome, Ok};
-ghost use Rattle.viz_executive.specs.Produced.{IsOnly};
+ghost use Rattle.viz_executive.specs.Produced.{IsByPlan};
 ghost use Rattle.viz_kept.specs.True.{AreMadeIn, AreTrueIn};
 ghost use Rattle.viz_network.specs.Network.{node_of};
 ghost use Rattle.viz_node_meaning.specs.Scratch.{Answers, IsScratch};
@@ -92,24 +92,25 @@ fn counted_by<R: Threads + Sync>(
     net: &Net,
     entries: &[Stored],
     node: NodeId,
+    shape: &Shape,
     produced: Produced,
 ) -> Counted
     requires ports { HaveOwnPorts net.now }
     requires entries { AreTrueIn net.now entries.now }
-    requires made { AreMadeIn net.now produced.made.items }
-    requires only { IsOnly net.now produced.dataset produced.only }
     requires given { IsScratch net.now node.0 (Ok produced.dataset) }
-    ensures { IsCounted net.now node.0 result }
+    requires plan { IsByPlan net.now entries.now node.0 shape.now.pieces produced }
+    ensures { IsCounted net.now entries.now shape.now.pieces node.0 result }
 {
-    let Produced {
-        dataset,
-        used,
-        made,
-        only,
-        ..
-    } = produced;
-    let counts = counts_on(rt, alloc, net, entries, &made, node, &dataset);
-    let parts = parts_of(alloc, net, node, dataset, used, made, only);
+    let counts = counts_on(
+        rt,
+        alloc,
+        net,
+        entries,
+        &produced.made,
+        node,
+        &produced.dataset,
+    );
+    let parts = parts_of(alloc, net, entries, node, shape, produced);
     Counted {
         counts,
         parts: Some(parts),
@@ -132,10 +133,10 @@ pub fn count_by_plan<R: Threads + Sync, G: Gate + Sync>(
     requires there { IsSome (node_of net.now node.0) }
     requires ports { HaveOwnPorts net.now }
     requires entries { AreTrueIn net.now entries.now }
-    ensures { IsCounted net.now node.0 result }
+    ensures { IsCounted net.now entries.now shape.now.pieces node.0 result }
 {
     match produce(rt, alloc, net, entries, node, shape, gate) {
-        Ok(produced) => counted_by(rt, alloc, net, entries, node, produced),
+        Ok(produced) => counted_by(rt, alloc, net, entries, node, shape, produced),
         Err(stop) => Counted {
             counts: Err(stop),
             parts: None,

@@ -2,7 +2,7 @@
 
 ghost use Rattle.std.specs.Prelude.{◌≡◌, ◌↔◌, IfSome, IsSome};
 ghost use Rattle.std.specs.Str.{IsUtf8};
-ghost use Rattle.viz_account.specs.Answers.{line_of, at_of, HandsOut, IsNamed};
+ghost use Rattle.viz_account.specs.Answers.{line_of, at_of, missing_in, HandsOut, IsNamed};
 ghost use Rattle.viz_account.specs.Served.{Updates, Writes};
 ghost use Rattle.viz_account.specs.Steps.Made.{WritesText, IsPlanned};
 ghost use Rattle.viz_account.specs.Written.{HasNoPlan};
@@ -75,6 +75,7 @@ pub fn update_from_scratch<P: Port>(
 fn answered<P: Port>(
     alloc: Global,
     net: &Net,
+    _entries: &[Stored],
     at: u32,
     _shape: &Shape,
     port: &mut P,
@@ -84,11 +85,12 @@ fn answered<P: Port>(
     planned: Planned,
 ) -> (Answer, Option<UpdateParts>)
     requires named { IsNamed net.now _node.now _sink.0 }
-    requires planned { IsPlanned net.now _shape.now.pieces _sink.0 planned }
+    requires planned { IsPlanned net.now _entries.now _shape.now.pieces _sink.0 planned }
     ensures updates { Updates P.Port net.now at _node.now file.now _shape.now.pieces
         (line_of result.0) port.old port.new }
     ensures at { IfSome (at_of result.0) (λ n. n ≡ at) }
-    ensures parts { HandsOut net.now _node.now result.0 result.1 }
+    ensures parts { HandsOut net.now _entries.now _shape.now.pieces _node.now
+        (missing_in result.0) result.1 }
 {
     let Planned {
         file: made,
@@ -125,7 +127,8 @@ pub fn update<R: Threads + Sync, P: Port, G: Gate + Sync>(
     ensures updates { Updates P.Port net.now at node.now file.now shape.now.pieces
         (line_of result.0) port.old port.new }
     ensures at { IfSome (at_of result.0) (λ n. n ≡ at) }
-    ensures parts { HandsOut net.now node.now result.0 result.1 }
+    ensures parts { HandsOut net.now entries.now shape.now.pieces node.now
+        (missing_in result.0) result.1 }
 {
     let Some(sink) = net.find(node) else {
         return (Answer::without(Missing::Unknown, at), None);
@@ -134,5 +137,7 @@ pub fn update<R: Threads + Sync, P: Port, G: Gate + Sync>(
         return (Answer::Memory, None);
     }
     let planned = make_by_plan(rt, alloc, net, entries, sink, shape, gate);
-    answered(alloc, net, at, shape, port, node, sink, file, planned)
+    answered(
+        alloc, net, entries, at, shape, port, node, sink, file, planned,
+    )
 }

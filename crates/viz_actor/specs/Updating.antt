@@ -9,8 +9,8 @@ use Rattle.viz_hub.specs.Passes.{PassKnown, as_known, at_seen, with_sent, GoesFu
 use Rattle.viz_hub.specs.Publishing.{publication, Sends}
 use Rattle.viz_entries.specs.declared.entry.Entry.{Entry}
 use Rattle.viz_entries.specs.History.{network_of}
-use Rattle.viz_account.specs.Answers.{AuditHandsOut, HandsOut, at_of, audit_at_of, audit_line_of}
-use Rattle.viz_account.specs.Answers.{line_of}
+use Rattle.viz_account.specs.Answers.{HandsOut, at_of, audit_at_of, audit_line_of, line_of}
+use Rattle.viz_account.specs.Answers.{missing_in, audit_missing_in}
 use Rattle.viz_account.specs.Lines.{TellsAudit}
 use Rattle.viz_account.specs.Served.{Updates}
 use Rattle.viz_account.specs.declared.answer.Answer.{Answer}
@@ -39,7 +39,7 @@ pub record IsUpdate {P : Type 0} (m : port.Ghosts P) (node file : List ℕ) (sha
   pub at : IfSome (at_of a) (λ n. n ≡ length pinned)
   pub updates : Updates m (network_of pinned) (length pinned) node file shape.pieces (line_of a)
       before after
-  pub hands : HandsOut (network_of pinned) node a parts
+  pub hands : HandsOut (network_of pinned) node (missing_in a) parts
   pub publishes : Publishes pinned shape parts (at_seen old pinned) new
 
 -- an audit of a node by a pass, so
@@ -50,5 +50,5 @@ pub record IsAudit (node : List ℕ) (shape : Shape) (a : AuditAnswer) (old new 
   pub further : GoesFurther old pinned
   pub at : IfSome (audit_at_of a) (λ n. n ≡ length pinned)
   pub tells : TellsAudit (network_of pinned) (length pinned) node (audit_line_of a)
-  pub hands : AuditHandsOut (network_of pinned) node a parts
+  pub hands : HandsOut (network_of pinned) node (audit_missing_in a) parts
   pub publishes : Publishes pinned shape parts (at_seen old pinned) new

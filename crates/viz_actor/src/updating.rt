@@ -6,12 +6,13 @@ ghost use Rattle.viz_entries.specs.History.{network_of};
 ghost use Rattle.viz_kept.specs.True.{AreMadeIn, AreTrueIn};
 ghost use Rattle.viz_plan_law.specs.Ports.{HaveOwnPorts};
 ghost use Rattle.viz_account.specs.Answers.{
-  AuditHandsOut,
   HandsOut,
   at_of,
   audit_at_of,
   audit_line_of,
+  audit_missing_in,
   line_of,
+  missing_in,
 };
 ghost use Rattle.viz_account.specs.Laws.{IsClosedLine};
 ghost use Rattle.viz_account.specs.Lines.{TellsAudit};
@@ -43,7 +44,7 @@ fn update_pinned<R: Threads + Sync, P: Port, G: Gate + Sync>(
     ensures updates { Updates P.Port pinned.now.net pinned.now.at sink.now file.now
         shape.now.pieces (line_of result.0) port.old port.new }
     ensures at { IfSome (at_of result.0) (λ n. n ≡ pinned.now.at) }
-    ensures parts { HandsOut pinned.now.net sink.now result.0 result.1 }
+    ensures parts { HandsOut pinned.now.net sink.now (missing_in result.0) result.1 }
 {
     viz_account::update(
         rt,
@@ -88,7 +89,7 @@ fn audit_pinned<R: Threads + Sync, G: Gate + Sync>(
     ensures tells { TellsAudit pinned.now.net pinned.now.at node.now (audit_line_of result.0) }
     ensures closed { IsClosedLine (audit_line_of result.0) }
     ensures at { IfSome (audit_at_of result.0) (λ n. n ≡ pinned.now.at) }
-    ensures parts { AuditHandsOut pinned.now.net node.now result.0 result.1 }
+    ensures parts { HandsOut pinned.now.net node.now (audit_missing_in result.0) result.1 }
 {
     viz_account::audit(
         rt,

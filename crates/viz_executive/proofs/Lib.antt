@@ -7,6 +7,7 @@ mod OnlyLemmas
 mod PartLemmas
 mod PlanLemmas
 mod ProduceLemmas
+pub mod PublishedLemmas
 mod TableLemmas
 mod TaskLemmas
 mod UpdateLemmas

@@ -1,2 +1,3 @@
 pub mod Produced
+pub mod Published
 pub mod Steps

@@ -2,8 +2,8 @@
 //!
 //! Contract: `produce` gives just the dataset, or the fault, of an evaluation from scratch, with
 //! the kept keys that its plan uses, the parts that its tasks made, and the number of tasks, which
-//! is that of the plan. Definitions: `specs/Produced.antt`; `specs/Steps/` has the words of private
-//! contracts.
+//! is that of the plan. Definitions: `specs/Produced.antt`, and what may be published of it
+//! `specs/Published.antt`; `specs/Steps/` has the words of private contracts.
 #![tactic(auto)]
 
 mod carrying;

@@ -2,7 +2,8 @@
 
 ghost use Rattle.std.specs.Prelude.{◌≡◌, ◌+◌, ◌<◌, ◌≤◌, [], length, count_by, IfOk, IfErr, true};
 ghost use Rattle.viz_turn.specs.Tales.{HasNoOther, once};
-ghost use Rattle.viz_kept.specs.True.{AreMadeIn, AreTrueIn};
+ghost use Rattle.viz_executive.specs.Published.{AreOfPlan};
+ghost use Rattle.viz_kept.specs.True.{AreTrueIn};
 ghost use Rattle.viz_entries.specs.History.{by_of, network_of, IsLegal};
 ghost use Rattle.viz_history.specs.Publishing.{is_stale};
 ghost use Rattle.viz_hub.specs.Answers.{Answers};
@@ -107,10 +108,11 @@ impl Hub {
         }
     }
 
-    /// Hands in the parts that were made for a node in the network of the pin, and the keys of the
-    /// kept ones that were used, and gives the pass back. The parts are shared, and aren't copied.
-    /// The history stays as it is. Of the made parts some are kept, those are stale whose node is
-    /// gone or was stamped since, and for the others memory lacked.
+    /// Hands in what an update of a node made by its plan in the network of the pin, and the keys
+    /// of those of the pin's parts that were used, and gives the pass back. Where memory ran out for
+    /// the made parts, none is handed in. The parts are shared, and aren't copied. The history stays
+    /// as it is. Of the made parts some are kept, those are stale whose node is gone or was stamped
+    /// since, and for the others memory lacked.
     pub fn publish<R: Wait>(
         &self,
         rt: &R,
@@ -121,7 +123,8 @@ impl Hub {
         made: &[Stored],
     ) -> (Pass, Kept)
         requires belongs { pin.pass.turn ≡ self.now }
-        requires made { AreMadeIn (network_of pin.pass.seen) made.now }
+        requires plan { AreOfPlan (network_of pin.pass.seen) pin.entries sink.0 shape.now.pieces
+            used.now made.now }
         ensures sends { Sends (publication pin.pass.seen sink shape.now) pin.pass result.0 }
         ensures count { result.1.kept + result.1.stale + result.1.unkept ≡ length made.now }
         ensures stale { result.1.stale

@@ -1,14 +1,12 @@
-//! A history of one pass, passes of a hub, and parts of all that nodes give that they publish:
-//! tests across crates.
+//! A history of one pass, passes of a hub, and what they publish of updates: tests across crates.
 //!
-//! Contract: `publish_both` pins, makes a part of all that each of two nodes gives, and publishes
-//! both; `publish_one` does so for one node, and says which parts were used. The tests look at
-//! what a later pin hands out.
+//! Contract: `publish_update` pins, makes an update of a node by its plan from the parts of the
+//! pin, and publishes what its tasks made. The tests look at what a later pin hands out.
 #![tactic(auto)]
 
 mod publishing;
 
-pub use publishing::{publish_both, publish_one};
+pub use publishing::publish_update;
 
 #[cfg(test)]
 mod one_pass;

@@ -1,107 +1,87 @@
-//! Parts of all that nodes give.
+//! Publications of what updates make by their plans.
 
-ghost use Rattle.std.specs.Prelude.{◌≡◌, ◌+◌, IfSome};
-ghost use Rattle.viz_kept.specs.True.{IsMadeIn};
+ghost use Rattle.std.specs.Prelude.{◌≡◌, IfSome};
 ghost use Rattle.viz_entries.specs.History.{network_of};
+ghost use Rattle.viz_executive.specs.Produced.{IsByPlan};
 
 use std::alloc::Global;
 use std::sync::Wait;
-use viz_base::{NodeId, Shape};
+use std::thread::Threads;
+use viz_base::{NodeId, OpenGate, Shape};
+use viz_executive::{Produced, all_made, produce};
 use viz_history::Kept;
 use viz_hub::{Hub, Pass, Pin};
-use viz_parts::{Key, Stored};
-use viz_stored::stored_whole;
+use viz_plan_law::plans_fit;
 
-/// All that a node gives in the network of a pin, as one part. `None` where there is no such node,
-/// where it gives a fault, and where memory ran out.
-pub(crate) fn made_in(alloc: Global, pin: &Pin, node: NodeId) -> Option<Stored>
-    ensures { IfSome result (λ item. IsMadeIn (network_of pin.now.pass.seen) item) }
+/// What an update of a node makes by its plan in the network of a pin, from the parts of the pin.
+/// `None` where there is no such node, where it gives a fault, and where memory ran out.
+pub(crate) fn produced_in<R: Threads + Sync>(
+    rt: &R,
+    alloc: Global,
+    pin: &Pin,
+    node: NodeId,
+    shape: &Shape,
+) -> Option<Produced>
+    ensures plan { IfSome result (IsByPlan (network_of pin.now.pass.seen) pin.now.entries node.0
+        shape.now.pieces) }
 {
+    plans_fit();
     let pinned = pin.pinned();
     if pinned.net.node(node).is_none() {
         return None;
     }
-    match stored_whole(alloc, &pinned.net, node) {
-        Ok(item) => Some(item),
+    let entries = pinned.entries.list();
+    match produce(rt, alloc, &pinned.net, entries, node, shape, &OpenGate) {
+        Ok(produced) => Some(produced),
         Err(_) => None,
     }
 }
 
-/// Publishes two parts.
-fn publish_two<R: Wait>(
-    rt: &R,
-    hub: &Hub,
-    pin: Pin,
-    shape: &Shape,
-    items: (Stored, Stored),
-) -> (Pass, Kept)
-    requires belongs { pin.pass.turn ≡ hub.now }
-    requires first { IsMadeIn (network_of pin.pass.seen) items.0 }
-    requires second { IsMadeIn (network_of pin.pass.seen) items.1 }
-    ensures pass { result.0.turn ≡ hub.now }
-    ensures all { result.1.kept + result.1.stale + result.1.unkept ≡ 2 }
-{
-    let (first, second) = items;
-    hub.publish(rt, pin, second.key.node, shape, &[], &[first, second])
-}
-
-/// Pins, makes a part of all that each of two nodes gives, and publishes both for the second.
-/// `None` where one of them gives no dataset, and where memory ran out.
-pub fn publish_both<R: Wait>(
+/// Publishes all parts that the tasks of an update made, and the keys that it used. `None` where
+/// memory ran out.
+pub(crate) fn publish_produced<R: Wait>(
     rt: &R,
     alloc: Global,
     hub: &Hub,
-    pass: Pass,
-    nodes: (NodeId, NodeId),
+    pin: Pin,
+    node: NodeId,
     shape: &Shape,
+    produced: Produced,
 ) -> Option<(Pass, Kept)>
-    requires belongs { pass.turn ≡ hub.now }
+    requires belongs { pin.pass.turn ≡ hub.now }
+    requires plan { IsByPlan (network_of pin.pass.seen) pin.entries node.0 shape.now.pieces
+        produced }
     ensures pass { IfSome result (λ r. r.0.turn ≡ hub.now) }
-    ensures all { IfSome result (λ r. r.1.kept + r.1.stale + r.1.unkept ≡ 2) }
 {
-    let Ok(pin) = hub.pin(rt, alloc, pass) else {
+    let Produced {
+        dataset,
+        used,
+        made,
+        only,
+        ..
+    } = produced;
+    let Ok(all) = all_made(alloc, dataset, made, only) else {
         return None;
     };
-    let first = made_in(alloc, &pin, nodes.0)?;
-    let second = made_in(alloc, &pin, nodes.1)?;
-    Some(publish_two(rt, hub, pin, shape, (first, second)))
+    Some(hub.publish(rt, pin, node, shape, &used, &all))
 }
 
-/// Publishes a part.
-fn publish_made<R: Wait>(
-    rt: &R,
-    hub: &Hub,
-    pin: Pin,
-    shape: &Shape,
-    used: &[Key],
-    item: Stored,
-) -> (Pass, Kept)
-    requires belongs { pin.pass.turn ≡ hub.now }
-    requires made { IsMadeIn (network_of pin.pass.seen) item }
-    ensures pass { result.0.turn ≡ hub.now }
-    ensures all { result.1.kept + result.1.stale + result.1.unkept ≡ 1 }
-{
-    hub.publish(rt, pin, item.key.node, shape, used, &[item])
-}
-
-/// Pins, makes a part of all that a node gives, and publishes it, with the keys of the parts that
-/// are said to have been used. `None` where the node gives no dataset, and where memory ran out.
-pub fn publish_one<R: Wait>(
+/// Pins, makes an update of a node by its plan, and publishes what its tasks made. `None` where the
+/// node gives no dataset, and where memory ran out.
+pub fn publish_update<R: Threads + Wait + Sync>(
     rt: &R,
     alloc: Global,
     hub: &Hub,
     pass: Pass,
     node: NodeId,
     shape: &Shape,
-    used: &[Key],
 ) -> Option<(Pass, Kept)>
     requires belongs { pass.turn ≡ hub.now }
     ensures pass { IfSome result (λ r. r.0.turn ≡ hub.now) }
-    ensures all { IfSome result (λ r. r.1.kept + r.1.stale + r.1.unkept ≡ 1) }
 {
     let Ok(pin) = hub.pin(rt, alloc, pass) else {
         return None;
     };
-    let item = made_in(alloc, &pin, node)?;
-    Some(publish_made(rt, hub, pin, shape, used, item))
+    let produced = produced_in(rt, alloc, &pin, node, shape)?;
+    publish_produced(rt, alloc, hub, pin, node, shape, produced)
 }

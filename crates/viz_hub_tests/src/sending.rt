@@ -1,20 +1,15 @@
 //! What a pass tells of its publications, and what becomes of a part.
 
-ghost use Rattle.std.specs.Prelude.{◌≡◌, IfSome};
-ghost use Rattle.viz_kept.specs.True.{IsMadeIn};
-ghost use Rattle.viz_entries.specs.History.{network_of};
-
 use crate::passes::{begin, join, pin, split, wants, word};
-use crate::publishing::made_in;
+use crate::publish_update;
+use crate::publishing::{produced_in, publish_produced};
 use std::alloc::Global;
-use std::sync::Wait;
 use std::test::Fail;
 use viz_base::{Bytes, NodeId, Shape, Shared, Word};
-use viz_history::{EditAnswer, Kept};
-use viz_hub::{Hub, Pass, Pin, Sent};
+use viz_history::EditAnswer;
+use viz_hub::{Pass, Sent};
 use viz_kinds::Kind;
 use viz_network::Edit;
-use viz_parts::Stored;
 
 // An image of one point.
 const POINT: &str = "# vtk DataFile Version 3.0
@@ -49,38 +44,6 @@ fn told(pass: &Pass) -> (u64, Option<Sent>) {
     (pass.sent(), pass.last())
 }
 
-fn publish_one<R: Wait>(rt: &R, hub: &Hub, pin: Pin, shape: &Shape, item: Stored) -> (Pass, Kept)
-    requires belongs { pin.pass.turn ≡ hub.now }
-    requires made { IsMadeIn (network_of pin.pass.seen) item }
-    ensures pass { result.0.turn ≡ hub.now }
-{
-    hub.publish(rt, pin, item.key.node, shape, &[], &[item])
-}
-
-fn publish_none<R: Wait>(rt: &R, hub: &Hub, pin: Pin, node: NodeId, shape: &Shape) -> (Pass, Kept)
-    requires belongs { pin.pass.turn ≡ hub.now }
-    ensures pass { result.0.turn ≡ hub.now }
-{
-    hub.publish(rt, pin, node, shape, &[], &[])
-}
-
-// Pins, and publishes what the node gives.
-fn publish_whole<R: Wait>(
-    rt: &R,
-    alloc: Global,
-    hub: &Hub,
-    pass: Pass,
-    node: NodeId,
-    shape: &Shape,
-) -> Option<(Pass, Kept)>
-    requires belongs { pass.turn ≡ hub.now }
-    ensures pass { IfSome result (λ r. r.0.turn ≡ hub.now) }
-{
-    let pin = pin(rt, alloc, hub, pass)?;
-    let item = made_in(alloc, &pin, node)?;
-    Some(publish_one(rt, hub, pin, shape, item))
-}
-
 #[test]
 fn a_pass_tells_how_often_it_published_and_what_last(rt: HostRuntime) -> Result<(), Fail> {
     let s = word("s")?;
@@ -102,8 +65,8 @@ fn a_pass_tells_how_often_it_published_and_what_last(rt: HostRuntime) -> Result<
         load(rt.alloc(), s)?,
         EditAnswer::Done { at: 2 },
     );
-    // one true part
-    let Some((root, kept)) = publish_whole(&rt, rt.alloc(), &hub, root, NodeId(1), &shape) else {
+    // the part of its one task
+    let Some((root, kept)) = publish_update(&rt, rt.alloc(), &hub, root, NodeId(1), &shape) else {
         return Err("no part")?;
     };
     assert_eq!(rt; (kept.kept, kept.stale, kept.unkept), (1, 0, 0));
@@ -117,16 +80,14 @@ fn a_pass_tells_how_often_it_published_and_what_last(rt: HostRuntime) -> Result<
     let (root, other) = split(&rt, &hub, root);
     assert_eq!(rt; told(&root), (1, Some(first)));
     assert_eq!(rt; told(&other), (0, None));
-    // no part, by another pass
-    let Some(pinned) = pin(&rt, rt.alloc(), &hub, other) else {
-        return Err("out of memory")?;
+    // another pass finds the part, so that it makes none
+    let Some((other, kept)) = publish_update(&rt, rt.alloc(), &hub, other, NodeId(1), &whole) else {
+        return Err("no update")?;
     };
-    assert_eq!(rt; pinned.pinned().entries.list().len(), 1);
-    let (other, kept) = publish_none(&rt, &hub, pinned, NodeId(7), &whole);
     assert_eq!(rt; (kept.kept, kept.stale, kept.unkept), (0, 0, 0));
     let second = Sent {
         at: 2,
-        sink: NodeId(7),
+        sink: NodeId(1),
         shape: whole,
     };
     assert_eq!(rt; told(&other), (1, Some(second)));
@@ -156,7 +117,7 @@ fn a_part_is_stale_once_its_node_was_loaded_anew(rt: HostRuntime) -> Result<(), 
     let Some(pinned) = pin(&rt, rt.alloc(), &hub, mine) else {
         return Err("out of memory")?;
     };
-    let Some(item) = made_in(rt.alloc(), &pinned, NodeId(1)) else {
+    let Some(produced) = produced_in(&rt, rt.alloc(), &pinned, NodeId(1), &shape) else {
         return Err("no part")?;
     };
     let its = wants(
@@ -166,7 +127,17 @@ fn a_part_is_stale_once_its_node_was_loaded_anew(rt: HostRuntime) -> Result<(), 
         load(rt.alloc(), s)?,
         EditAnswer::Done { at: 3 },
     );
-    let (mine, kept) = publish_one(&rt, &hub, pinned, &shape, item);
+    let Some((mine, kept)) = publish_produced(
+        &rt,
+        rt.alloc(),
+        &hub,
+        pinned,
+        NodeId(1),
+        &shape,
+        produced,
+    ) else {
+        return Err("out of memory")?;
+    };
     assert_eq!(rt; (kept.kept, kept.stale, kept.unkept), (0, 1, 0));
     assert_eq!(rt; (mine.sent(), its.sent()), (1, 0));
     Ok(())

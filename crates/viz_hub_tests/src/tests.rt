@@ -2,18 +2,17 @@
 
 ghost use Rattle.std.specs.Prelude.{◌≡◌, IfOk, IfSome};
 
-use crate::{publish_both, publish_one};
+use crate::publish_update;
 use std::alloc::{AllocError, Global};
 use std::process::Abort;
 use std::sync::Wait;
 use std::test::Fail;
+use std::thread::Threads;
 use viz_base::{Bytes, NodeId, Shape, Shared, Word};
-use viz_extent::Extent;
 use viz_history::EditAnswer;
 use viz_hub::{Hub, Pass};
 use viz_kinds::Kind;
 use viz_network::Edit;
-use viz_parts::{Key, Request};
 
 // An image of one point.
 const POINT: &str = "# vtk DataFile Version 3.0
@@ -41,6 +40,17 @@ fn source(node: Word) -> Edit {
         kind: Kind::File,
         node,
     }
+}
+
+fn smooth(node: Word) -> Edit {
+    Edit::Add {
+        kind: Kind::Smooth,
+        node,
+    }
+}
+
+fn connection(from: Word, to: Word) -> Edit {
+    Edit::Connect { from, to, port: 1 }
 }
 
 fn load(alloc: Global, node: Word) -> Result<Edit, Fail> {
@@ -84,11 +94,11 @@ fn a_hub_of_one_part_keeps_the_last(rt: HostRuntime) -> Result<(), Fail> {
     };
     let (hub, root) = begin(rt.alloc())?;
     let root = done(&rt, &hub, root, source(s));
-    let root = done(&rt, &hub, root, source(t));
+    let root = done(&rt, &hub, root, smooth(t));
     let root = done(&rt, &hub, root, load(rt.alloc(), s)?);
-    let root = done(&rt, &hub, root, load(rt.alloc(), t)?);
-    let nodes = (NodeId(1), NodeId(2));
-    let Some((root, kept)) = publish_both(&rt, rt.alloc(), &hub, root, nodes, &shape) else {
+    let root = done(&rt, &hub, root, connection(s, t));
+    // a task for each node, that of the source first
+    let Some((root, kept)) = publish_update(&rt, rt.alloc(), &hub, root, NodeId(2), &shape) else {
         return Err("no parts")?;
     };
     assert_eq!(rt; (kept.kept, kept.stale, kept.unkept), (2, 0, 0));
@@ -117,22 +127,20 @@ fn two_nodes<R: Wait>(rt: &R, alloc: Global, hub: &Hub, pass: Pass) -> Option<(N
     }
 }
 
-// Publishes a node's part where none was used before, then another's, and then a third one's by
-// which a part was used.
-fn publish_three<R: Wait>(
+// Publishes updates of three nodes, one after the other.
+fn publish_three<R: Threads + Wait + Sync>(
     rt: &R,
     alloc: Global,
     hub: &Hub,
     pass: Pass,
     shape: &Shape,
-    used: Key,
 ) -> Option<Pass>
     requires belongs { pass.turn ≡ hub.now }
     ensures pass { IfSome result (λ p. p.turn ≡ hub.now) }
 {
-    let (pass, _) = publish_one(rt, alloc, hub, pass, NodeId(1), shape, &[])?;
-    let (pass, _) = publish_one(rt, alloc, hub, pass, NodeId(2), shape, &[])?;
-    let (pass, _) = publish_one(rt, alloc, hub, pass, NodeId(3), shape, &[used])?;
+    let (pass, _) = publish_update(rt, alloc, hub, pass, NodeId(1), shape)?;
+    let (pass, _) = publish_update(rt, alloc, hub, pass, NodeId(2), shape)?;
+    let (pass, _) = publish_update(rt, alloc, hub, pass, NodeId(3), shape)?;
     Some(pass)
 }
 
@@ -148,16 +156,12 @@ fn a_used_part_outlasts_one_that_was_kept_later(rt: HostRuntime) -> Result<(), F
     let (hub, root) = begin_two(rt.alloc())?;
     let root = done(&rt, &hub, root, source(s));
     let root = done(&rt, &hub, root, source(t));
-    let root = done(&rt, &hub, root, source(u));
+    let root = done(&rt, &hub, root, smooth(u));
     let root = done(&rt, &hub, root, load(rt.alloc(), s)?);
     let root = done(&rt, &hub, root, load(rt.alloc(), t)?);
-    let root = done(&rt, &hub, root, load(rt.alloc(), u)?);
-    let used = Key {
-        node: NodeId(1),
-        stamp: 4,
-        request: Request::Block(Extent::new([0; 6]).ok_or("no extent")?),
-    };
-    let Some(root) = publish_three(&rt, rt.alloc(), &hub, root, &shape, used) else {
+    let root = done(&rt, &hub, root, connection(s, u));
+    // the last one uses the part of the first
+    let Some(root) = publish_three(&rt, rt.alloc(), &hub, root, &shape) else {
         return Err("no parts")?;
     };
     let left = two_nodes(&rt, rt.alloc(), &hub, root);

@@ -1,5 +1,5 @@
 -- Where a node stands, and counts added up. Only private contracts and proofs speak of it.
-use Rattle.std.specs.Prelude.{◌≡◌, ℕ, ◌+◌, Option, None, Some, Result, Ok, Err}
+use Rattle.std.specs.Prelude.{◌≡◌, ℕ, ◌+◌, List, Option, None, Some, Ok}
 use Rattle.viz_base.specs.declared.node.NodeId.{NodeId}
 use Rattle.viz_extent.specs.Extent.{Bounds}
 use Rattle.viz_dataset.specs.Images.{ImageData, IsImage}
@@ -7,14 +7,14 @@ use Rattle.viz_dataset.specs.declared.dataset.Dataset.TheVariants.{Image}
 use Rattle.viz_surface_law.specs.declared.audits.Counts.{Counts}
 use Rattle.viz_network.specs.declared.fault.Cause.TheVariants.{WrongInput}
 use Rattle.viz_network.specs.declared.fault.Stop.{Stop}
-use Rattle.viz_network.specs.declared.fault.Stop.TheVariants.{Fault, Memory}
+use Rattle.viz_network.specs.declared.fault.Stop.TheVariants.{Fault}
 use Rattle.viz_network.specs.Network.{Network}
 use Rattle.viz_network.specs.Cone.{cone_of}
 use Rattle.viz_node_meaning.specs.Scratch.{Answers, IsScratch}
-use Rattle.viz_account.specs.Answers.{GivesParts}
+use Rattle.viz_parts.specs.declared.stored.Stored.{Stored}
 use Rattle.viz_account.specs.Audited.{IsAuditOf, StandsOn}
-use Rattle.viz_account.specs.declared.parts.UpdateParts.{UpdateParts}
 use Rattle.viz_account.specs.declared.surface.Counted.{Counted}
+use Rattle.viz_account.specs.Steps.Made.{HasParts}
 
 -- the node gives an image of this extent, or no image
 abbrev pub GivesImage : Network → ℕ → Option Bounds → Type 0
@@ -41,18 +41,8 @@ no_surface node = Fault (record { node = node; cause = WrongInput 1 })
 
 -- ---- by a plan
 
--- a node has no dataset, for this fault, unless memory ran out
-abbrev pub IsWithoutCounts : Network → ℕ → Result Counts Stop → Type 0
-IsWithoutCounts net id (Err (Fault fault)) = IsScratch net id (Err fault)
-IsWithoutCounts net id (Err Memory) = Unit {0}
-IsWithoutCounts net id (Ok c) = ⊥
-
--- the parts of an audit of a node, or that it has none
-abbrev pub HasCountParts : Network → ℕ → Result Counts Stop → Option UpdateParts → Type 0
-HasCountParts net id counts None = IsWithoutCounts net id counts
-HasCountParts net id counts (Some parts) = (parts.sink.0 ≡ id) × GivesParts net parts
-
--- an audit of a node, by its plan
-pub record IsCounted (net : Network) (id : ℕ) (c : Counted) : Type 0 where
+-- an audit of a node, by its plan from what is kept and in so many pieces
+pub record IsCounted (net : Network) (entries : List Stored) (pieces id : ℕ) (c : Counted)
+    : Type 0 where
   pub counts : Answers (IsAuditOf net id) c.counts
-  pub parts : HasCountParts net id c.counts c.parts
+  pub parts : HasParts net entries pieces id c.counts c.parts

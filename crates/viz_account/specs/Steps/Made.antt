@@ -9,6 +9,7 @@ use Rattle.viz_network.specs.declared.fault.Stop.TheVariants as stop
 use Rattle.viz_network.specs.declared.node.Node.{Node}
 use Rattle.viz_network.specs.Network.{Network, named, name_of}
 use Rattle.viz_node_meaning.specs.Scratch.{IsScratch}
+use Rattle.viz_parts.specs.declared.stored.Stored.{Stored}
 use Rattle.viz_scratch.specs.Written.{IsFileOf}
 use Rattle.viz_account.specs.Account.{RoseBy}
 use Rattle.viz_account.specs.Answers.{GivesParts}
@@ -56,21 +57,25 @@ RanFor net pieces id (Ok m) ran = HasRan net pieces id ran
 RanFor net pieces id (Err s) ran = Unit {0}
 
 -- a node has no dataset, for this fault, unless memory ran out
-abbrev pub IsWithoutParts : Network → ℕ → Result Made Stop → Type 0
+abbrev pub IsWithoutParts : {X : Type 0} → Network → ℕ → Result X Stop → Type 0
 IsWithoutParts net id (Err (stop.Fault fault)) = IsScratch net id (Err fault)
 IsWithoutParts net id (Err stop.Memory) = Unit {0}
-IsWithoutParts net id (Ok m) = ⊥
+IsWithoutParts net id (Ok x) = ⊥
 
--- the parts of an update of a node, or that it has none
-abbrev pub HasParts : Network → ℕ → Result Made Stop → Option UpdateParts → Type 0
-HasParts net id file None = IsWithoutParts net id file
-HasParts net id file (Some parts) = (parts.sink.0 ≡ id) × GivesParts net parts
+-- the parts of an update or an audit of a node with this result, by what is kept and in so many
+-- pieces, or that it has none
+abbrev pub HasParts : {X : Type 0} → Network → List Stored → ℕ → ℕ → Result X Stop
+    → Option UpdateParts → Type 0
+HasParts net entries pieces id result None = IsWithoutParts net id result
+HasParts net entries pieces id result (Some parts) =
+    (parts.sink.0 ≡ id) × GivesParts net entries pieces parts
 
--- an update of a node in so many pieces, by its plan
-pub record IsPlanned (net : Network) (pieces id : ℕ) (p : Planned) : Type 0 where
+-- an update of a node, by its plan from what is kept and in so many pieces
+pub record IsPlanned (net : Network) (entries : List Stored) (pieces id : ℕ) (p : Planned)
+    : Type 0 where
   pub file : Makes net id p.file
   pub ran : RanFor net pieces id p.file p.ran
-  pub parts : HasParts net id p.file p.parts
+  pub parts : HasParts net entries pieces id p.file p.parts
 
 -- ---- the write of a file
 

@@ -1,13 +1,13 @@
-use Rattle.std.proofs.Common.{refl, sym, subst, Ok, Err}
+use Rattle.std.proofs.Common.{refl, sym, subst, None, Ok, Err}
 use Rattle.viz_node_meaning.specs.Scratch.{Answers}
+use Rattle.viz_surface_law.specs.declared.audits.Counts.{Counts}
 use Rattle.viz_account.specs.Audited.{IsAuditOf}
-use Rattle.viz_account.specs.declared.answer.AuditAnswer.TheVariants as audit
-use Rattle.viz_account.specs.Answers.{AuditHandsOut, audit_line_of}
+use Rattle.viz_account.specs.Answers.{HandsOut, audit_line_of, audit_missing_in, audit_without}
 use Rattle.viz_account.specs.Laws.{IsClosedLine}
 use Rattle.viz_account.specs.Lines.{TellsAudit}
-use Rattle.viz_account.specs.Steps.Ground.{HasCountParts}
+use Rattle.viz_account.specs.Steps.Made.{HasParts}
 use Rattle.viz_account.proofs.AuditLemmas.{stopped_audit, without_closed}
-use Rattle.viz_account.proofs.CountLemmas.{count_hands, uncounted_hands}
+use Rattle.viz_account.proofs.MadeLemmas.{result_hands, stop_hands, audit_missing_without}
 use Rattle.viz_account.proofs.auditing.told.Goals as goal
 
 pub returns-in-Ok-clause-tells : goal.returns-in-Ok-clause-tells
@@ -37,8 +37,10 @@ returns-in-Ok-clause-parts c =
     let net = c.args.net.now in
     let id = c.args._id.0 in
     let parts = c.args.counted.parts in
-    count_hands net c.args._node.now id c.in-Ok.audit (audit.Counted c.args.at c.in-Ok.audit) parts c.requires.named
-    (subst (λ r. HasCountParts net id r parts) c.in-Ok.is c.requires.counted.parts)
+    let entries = c.args._entries.now in
+    let pieces = c.args._shape.now.pieces in
+    result_hands net entries pieces c.args._node.now id c.in-Ok.audit None parts c.requires.named
+    (subst (λ r. HasParts net entries pieces id r parts) c.in-Ok.is c.requires.counted.parts)
 
 pub returns-in-Err-clause-tells : goal.returns-in-Err-clause-tells
 returns-in-Err-clause-tells c =
@@ -63,7 +65,11 @@ returns-in-Err-clause-parts c =
     let node = c.args._node.now in
     let id = c.args._id.0 in
     let parts = c.args.counted.parts in
-    subst (λ a. AuditHandsOut net node a parts) (sym c.without.ensures)
-    (uncounted_hands net node id c.args.at c.in-Err.stop c.missing_of.result parts c.requires.named
-    c.missing_of.ensures
-    (subst (λ f. HasCountParts net id f parts) c.in-Err.is c.requires.counted.parts))
+    let gone = c.missing_of.result in
+    let entries = c.args._entries.now in
+    let pieces = c.args._shape.now.pieces in
+    subst (λ a. HandsOut net entries pieces node (audit_missing_in a) parts) (sym c.without.ensures)
+    (stop_hands Counts net node id entries pieces c.in-Err.stop gone (audit_missing_in (audit_without gone c.args.at)) parts
+    c.requires.named c.missing_of.ensures
+    (subst (λ f. HasParts net entries pieces id f parts) c.in-Err.is c.requires.counted.parts)
+    (audit_missing_without gone c.args.at))

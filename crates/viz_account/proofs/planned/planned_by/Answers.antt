@@ -11,7 +11,7 @@ returns c =
     let dataset = c.args.produced.dataset in
     record {
       file = c.file_by-file.ensures;
-      ran = plan_ran net c.args._shape.now.pieces c.args.sink.0 c.args._entries.now c.args.produced
+      ran = plan_ran net c.args.shape.now.pieces c.args.sink.0 c.args.entries.now c.args.produced
           c.file_by-file.result
           c.requires.entries c.requires.plan;
       parts = (
@@ -20,7 +20,7 @@ returns c =
           dataset = dataset;
           given = subst (λ (i : NodeId). IsScratch net i.0 (Ok dataset)) (sym sink)
               c.requires.given;
-          made = c.parts_of-parts.ensures.made;
+          plan = c.parts_of-parts.ensures.plan;
         },
       );
     }

@@ -16,7 +16,7 @@ returns g c =
           dataset = dataset;
           given = subst (λ (i : NodeId). IsScratch net i.0 (Ok dataset)) (sym sink)
               c.requires.given;
-          made = c.parts_of-parts.ensures.made;
+          plan = c.parts_of-parts.ensures.plan;
         },
       );
     }

@@ -1,9 +1,10 @@
 use Rattle.std.proofs.Common.{Err, sym, subst}
-use Rattle.viz_account.specs.Answers.{line_of, HandsOut}
+use Rattle.viz_account.specs.Answers.{line_of, missing_in, without, HandsOut}
+use Rattle.viz_account.specs.declared.made.Made.{Made}
 use Rattle.viz_account.specs.Served.{Writes}
 use Rattle.viz_account.specs.Steps.Made.{Makes, HasParts, RanFor}
 use Rattle.viz_account.specs.Written.{HasRan, IsWritten}
-use Rattle.viz_account.proofs.MadeLemmas.{not_called, stop_hands, stopped_missing, wrote}
+use Rattle.viz_account.proofs.MadeLemmas.{missing_without, not_called, stop_hands, stopped_missing, wrote}
 use Rattle.viz_account.proofs.updating.answered.Goals as goal
 
 pub returns-in-Ok-clause-updates : goal.returns-in-Ok-clause-updates
@@ -44,7 +45,11 @@ returns-in-Err-clause-parts g c =
     let node = c.args._node.now in
     let id = c.args._sink.0 in
     let parts = c.args.planned.parts in
-    subst (λ a. HandsOut net node a parts) (sym c.without.ensures)
-    (stop_hands net node id c.args.at c.in-Err.stop c.missing_of.result parts c.requires.named
-    c.missing_of.ensures
-    (subst (λ f. HasParts net id f parts) c.in-Err.is c.requires.planned.parts))
+    let gone = c.missing_of.result in
+    let entries = c.args._entries.now in
+    let pieces = c.args._shape.now.pieces in
+    subst (λ a. HandsOut net entries pieces node (missing_in a) parts) (sym c.without.ensures)
+    (stop_hands Made net node id entries pieces c.in-Err.stop gone (missing_in (without gone c.args.at)) parts
+    c.requires.named c.missing_of.ensures
+    (subst (λ f. HasParts net entries pieces id f parts) c.in-Err.is c.requires.planned.parts)
+    (missing_without gone c.args.at))
