@@ -1,7 +1,8 @@
 -- Lines of commands, between the entries that a pass had seen and has seen then.
-use Rattle.std.proofs.Common.{◌≡◌, ℕ, suc, ◌+◌, ◌%◌, ◌^◌, ◌≤◌, Option, None, Some, ⊎_elim, Bool, IsTrue, eq-eqb, true, false, true≢false, not, cond, List, [], ◌∷◌, ◌++◌, length, length-append, take, drop, slice_get, append_assoc, append-nil, Err, refl, sym, ap, subst, ◌∙◌, arith, ◌==◌}
+use Rattle.std.proofs.Common.{◌≡◌, ℕ, suc, ◌+◌, ◌%◌, ◌^◌, ◌≤◌, Option, None, Some, IfSome, ⊎_elim, Bool, IsTrue, eq-eqb, true, false, true≢false, not, cond, List, [], ◌∷◌, ◌++◌, length, length-append, take, drop, slice_get, append_assoc, append-nil, Err, refl, sym, ap, subst, ◌∙◌, arith, ◌==◌}
 use Rattle.std.proofs.lemmas.Bool.{and_parts, not-true, ne_eqb}
 use Rattle.std.proofs.lemmas.List.{take-append-drop, take-append-le}
+use Rattle.std.proofs.lemmas.List.Elements.{All-nil}
 use Rattle.viz_base.specs.declared.node.Shape.{Shape}
 use Rattle.viz_base.specs.declared.call.Call.{Call}
 use Rattle.viz_base.specs.declared.call.Call.TheVariants.{Read}
@@ -21,13 +22,16 @@ use Rattle.viz_entries.specs.declared.entry.Entry.{Entry}
 use Rattle.viz_history.specs.declared.answer.EditAnswer.{EditAnswer}
 use Rattle.viz_history.specs.declared.answer.EditAnswer.TheVariants as answer
 use Rattle.viz_entries.specs.History.{by_of, network_of}
+use Rattle.viz_executive.specs.Published.{AreOfPlan}
+use Rattle.viz_kept.specs.True.{IsTrueIn}
+use Rattle.viz_parts.specs.declared.stored.Stored.{Stored}
 use Rattle.viz_hub.specs.Answers.{Answers, next_entry}
 use Rattle.viz_script.specs.declared.order.Step.{Step}
 use Rattle.viz_script.specs.Orders.{Asked, seen, load, update, audit}
 use Rattle.viz_report.specs.declared.line.Line.{Line}
 use Rattle.viz_report.specs.declared.line.Line.TheVariants as line
 use Rattle.viz_report.specs.declared.line.Reason.TheVariants as reason
-use Rattle.viz_account.specs.Answers.{audit_line_of, line_of}
+use Rattle.viz_account.specs.Answers.{audit_line_of, line_of, HandsOut}
 use Rattle.viz_account.specs.Lines.{TellsUpdate, TellsAudit, Tells}
 use Rattle.viz_account.specs.Account.{edited, least, places_from, places, AreTold, faults_told, RoseBy}
 use Rattle.viz_account.specs.Served.{Extends, Serves, ServesAll}
@@ -35,6 +39,7 @@ use Rattle.viz_account.specs.declared.answer.Answer.{Answer}
 use Rattle.viz_account.specs.declared.answer.Answer.TheVariants as answers
 use Rattle.viz_account.specs.declared.answer.AuditAnswer.{AuditAnswer}
 use Rattle.viz_account.specs.declared.answer.AuditAnswer.TheVariants as audits
+use Rattle.viz_account.specs.declared.answer.Missing.{Missing}
 use Rattle.viz_account.specs.declared.parts.UpdateParts.{UpdateParts}
 use Rattle.viz_account.proofs.AccountLemmas.{rose_none, served_none, served_one, served_append}
 use Rattle.viz_account.proofs.HistoryLemmas.{take-all, slice_get-end, places_append_from, places_grow}
@@ -202,6 +207,13 @@ module _ (old new : PassKnown) (pinned : List Entry) (shape : Shape) where
       (sym (ap (λ (q : PassKnown). q.seen) h)) (all_of_it by_of (numbers old) pinned)
   handed_further (Some parts) h = h.further
 
+-- what was handed out may be published
+pub handed_plan : (net : Network) (entries : List Stored) (pieces : ℕ) (node : List ℕ)
+    (cause : Option Missing) (o : Option UpdateParts) → HandsOut net entries pieces node cause o
+    → IfSome o (λ (p : UpdateParts). AreOfPlan net entries p.sink.0 pieces p.used.items p.made.items)
+handed_plan net entries pieces node cause None h = tt
+handed_plan net entries pieces node cause (Some parts) h = h.1.plan
+
 -- an update for which memory was wanting before the pass was pinned
 pub update_nothing : {P : Type 0} (m : port.Ghosts P) (node file : List ℕ) (shape : Shape)
     (old new : PassKnown) (q : P) → Looks old new
@@ -209,8 +221,10 @@ pub update_nothing : {P : Type 0} (m : port.Ghosts P) (node file : List ℕ) (sh
 update_nothing m node file shape old new q looks =
     record {
       pinned = new.seen;
+      entries = [];
       parts = None;
       further = looks.further;
+      kept = record { each = All-nil (IsTrueIn (network_of new.seen)) };
       at = tt;
       updates = record {
         gained = ([], (λ tells. sym (append-nil (m.calls q))), refl);
@@ -264,8 +278,10 @@ pub audit_nothing : (node : List ℕ) (shape : Shape) (old new : PassKnown) → 
 audit_nothing node shape old new looks =
     record {
       pinned = new.seen;
+      entries = [];
       parts = None;
       further = looks.further;
+      kept = record { each = All-nil (IsTrueIn (network_of new.seen)) };
       at = tt;
       tells = tt;
       hands = tt;

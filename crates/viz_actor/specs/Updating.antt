@@ -9,6 +9,8 @@ use Rattle.viz_hub.specs.Passes.{PassKnown, as_known, at_seen, with_sent, GoesFu
 use Rattle.viz_hub.specs.Publishing.{publication, Sends}
 use Rattle.viz_entries.specs.declared.entry.Entry.{Entry}
 use Rattle.viz_entries.specs.History.{network_of}
+use Rattle.viz_kept.specs.True.{AreTrueIn}
+use Rattle.viz_parts.specs.declared.stored.Stored.{Stored}
 use Rattle.viz_account.specs.Answers.{HandsOut, at_of, audit_at_of, audit_line_of, line_of}
 use Rattle.viz_account.specs.Answers.{missing_in, audit_missing_in}
 use Rattle.viz_account.specs.Lines.{TellsAudit}
@@ -28,27 +30,31 @@ Publishes pinned shape None old new = new ≡ old
 Publishes pinned shape (Some parts) old new =
     Sends (publication pinned parts.sink shape) old new
 
--- an update of a node by a pass: it was pinned with a history that goes further than it had seen;
--- answer, calls, and what was handed out are those of an update of the network of that history; and
--- what was handed out is published
+-- an update of a node by a pass: it was pinned with a history that goes further than it had seen,
+-- and with parts that are true in its network; answer, calls, and what was handed out are those of
+-- an update of that network from these parts; and what was handed out is published
 pub record IsUpdate {P : Type 0} (m : port.Ghosts P) (node file : List ℕ) (shape : Shape)
     (a : Answer) (old new : PassKnown) (before after : P) : Type 0 where
   pub pinned : List Entry
+  pub entries : List Stored
   pub parts : Option UpdateParts
   pub further : GoesFurther old pinned
+  pub kept : AreTrueIn (network_of pinned) entries
   pub at : IfSome (at_of a) (λ n. n ≡ length pinned)
   pub updates : Updates m (network_of pinned) (length pinned) node file shape.pieces (line_of a)
       before after
-  pub hands : HandsOut (network_of pinned) node (missing_in a) parts
+  pub hands : HandsOut (network_of pinned) entries shape.pieces node (missing_in a) parts
   pub publishes : Publishes pinned shape parts (at_seen old pinned) new
 
 -- an audit of a node by a pass, so
 pub record IsAudit (node : List ℕ) (shape : Shape) (a : AuditAnswer) (old new : PassKnown)
     : Type 0 where
   pub pinned : List Entry
+  pub entries : List Stored
   pub parts : Option UpdateParts
   pub further : GoesFurther old pinned
+  pub kept : AreTrueIn (network_of pinned) entries
   pub at : IfSome (audit_at_of a) (λ n. n ≡ length pinned)
   pub tells : TellsAudit (network_of pinned) (length pinned) node (audit_line_of a)
-  pub hands : HandsOut (network_of pinned) node (audit_missing_in a) parts
+  pub hands : HandsOut (network_of pinned) entries shape.pieces node (audit_missing_in a) parts
   pub publishes : Publishes pinned shape parts (at_seen old pinned) new

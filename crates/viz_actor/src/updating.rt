@@ -3,7 +3,8 @@
 ghost use Rattle.std.specs.Prelude.{◌≡◌, IfSome, length};
 ghost use Rattle.viz_hub.specs.Passes.{at_seen, GoesFurther};
 ghost use Rattle.viz_entries.specs.History.{network_of};
-ghost use Rattle.viz_kept.specs.True.{AreMadeIn, AreTrueIn};
+ghost use Rattle.viz_executive.specs.Published.{AreOfPlan};
+ghost use Rattle.viz_kept.specs.True.{AreTrueIn};
 ghost use Rattle.viz_plan_law.specs.Ports.{HaveOwnPorts};
 ghost use Rattle.viz_account.specs.Answers.{
   HandsOut,
@@ -44,7 +45,8 @@ fn update_pinned<R: Threads + Sync, P: Port, G: Gate + Sync>(
     ensures updates { Updates P.Port pinned.now.net pinned.now.at sink.now file.now
         shape.now.pieces (line_of result.0) port.old port.new }
     ensures at { IfSome (at_of result.0) (λ n. n ≡ pinned.now.at) }
-    ensures parts { HandsOut pinned.now.net sink.now (missing_in result.0) result.1 }
+    ensures parts { HandsOut pinned.now.net pinned.now.entries shape.now.pieces sink.now
+        (missing_in result.0) result.1 }
 {
     viz_account::update(
         rt,
@@ -63,7 +65,8 @@ fn update_pinned<R: Threads + Sync, P: Port, G: Gate + Sync>(
 // Publishes what an update of a pinned network handed out, and gives the pass back.
 fn hand_in<R: Wait>(rt: &R, hub: &Hub, pin: Pin, shape: &Shape, parts: Option<UpdateParts>) -> Pass
     requires belongs { pin.pass.turn ≡ hub.now }
-    requires made { IfSome parts (λ p. AreMadeIn (network_of pin.pass.seen) p.made.items) }
+    requires plan { IfSome parts (λ p. AreOfPlan (network_of pin.pass.seen) pin.entries p.sink.0
+        shape.now.pieces p.used.items p.made.items) }
     ensures { Publishes pin.pass.seen shape.now parts pin.pass result }
 {
     match parts {
@@ -89,7 +92,8 @@ fn audit_pinned<R: Threads + Sync, G: Gate + Sync>(
     ensures tells { TellsAudit pinned.now.net pinned.now.at node.now (audit_line_of result.0) }
     ensures closed { IsClosedLine (audit_line_of result.0) }
     ensures at { IfSome (audit_at_of result.0) (λ n. n ≡ pinned.now.at) }
-    ensures parts { HandsOut pinned.now.net node.now (audit_missing_in result.0) result.1 }
+    ensures parts { HandsOut pinned.now.net pinned.now.entries shape.now.pieces node.now
+        (audit_missing_in result.0) result.1 }
 {
     viz_account::audit(
         rt,

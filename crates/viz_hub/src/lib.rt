@@ -2,12 +2,11 @@
 //!
 //! Contract: an edit stands in the history once, behind all that its pass had seen, or is refused
 //! as the network of the history refuses it; what a pass has seen only grows, by entries of others
-//! and its own edits; a pin has the network of one prefix, and kept parts that are true in it;
-//! parts that are made in it are published, and the pass tells how often and what last; a pass
-//! into which all others were joined closes with the whole history. Definitions:
-//! `specs/Passes.antt`,
-//! `specs/Answers.antt`, `specs/Publishing.antt`, and those of viz_turn and viz_history that they
-//! name.
+//! and its own edits; a pin has the network of one prefix, and kept parts that are true in it; what
+//! an update in it uses and makes by its plan is published, and the pass tells how often and what
+//! last; a pass into which all others were joined closes with the whole history. Definitions:
+//! `specs/Passes.antt`, `specs/Answers.antt`, `specs/Publishing.antt`, and those of viz_turn,
+//! viz_history and viz_executive that they and the calls name.
 #![tactic(auto)]
 
 mod calls;
