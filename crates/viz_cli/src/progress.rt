@@ -3,9 +3,9 @@
 use std::sync::atomic::{AtomicU64, Ordering};
 use viz_base::Gate;
 
-/// A gate that renews a line of standard error with the number of tasks that have begun, where it is
-/// shown. The cursor stays in front of the line, so that what is put next covers it. A write that
-/// fails is passed over.
+/// A gate that renews a line of standard error with the number of tasks that have begun, where it
+/// is shown. The cursor stays in front of the line, so that what is put next covers it. A write
+/// that fails is passed over.
 #[derive(Drop)]
 pub struct Progress<'a, R: Eprint> {
     rt: &'a R,

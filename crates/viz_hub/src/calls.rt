@@ -109,10 +109,10 @@ impl Hub {
     }
 
     /// Hands in what an update of a node made by its plan in the network of the pin, and the keys
-    /// of those of the pin's parts that were used, and gives the pass back. Where memory ran out for
-    /// the made parts, none is handed in. The parts are shared, and aren't copied. The history stays
-    /// as it is. Of the made parts some are kept, those are stale whose node is gone or was stamped
-    /// since, and for the others memory lacked.
+    /// of those of the pin's parts that were used, and gives the pass back. Where memory ran out
+    /// for the made parts, none is handed in. The parts are shared, and aren't copied. The history
+    /// stays as it is. Of the made parts some are kept, those are stale whose node is gone or was
+    /// stamped since, and for the others memory lacked.
     pub fn publish<R: Wait>(
         &self,
         rt: &R,
