@@ -102,7 +102,7 @@ pub(crate) fn pin<R: Wait>(rt: &R, alloc: Global, hub: &Hub, pass: Pass) -> Opti
     }
 }
 
-fn release(hub: &Hub, pin: Pin) -> Pass
+pub(crate) fn release(hub: &Hub, pin: Pin) -> Pass
     requires belongs { pin.pass.turn ≡ hub.now }
     ensures pass { result.turn ≡ hub.now }
 {

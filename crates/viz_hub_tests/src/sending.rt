@@ -1,15 +1,19 @@
 //! What a pass tells of its publications, and what becomes of a part.
 
-use crate::passes::{begin, join, pin, split, wants, word};
+ghost use Rattle.std.specs.Prelude.{◌≡◌, IfSome};
+
+use crate::passes::{begin, join, pin, release, split, wants, word};
 use crate::publish_update;
 use crate::publishing::{produced_in, publish_produced};
 use std::alloc::Global;
+use std::sync::Wait;
 use std::test::Fail;
 use viz_base::{Bytes, NodeId, Shape, Shared, Word};
-use viz_history::EditAnswer;
-use viz_hub::{Pass, Sent};
+use viz_history::{EditAnswer, Pinned};
+use viz_hub::{Hub, Pass, Sent};
 use viz_kinds::Kind;
 use viz_network::Edit;
+use viz_stored::stored_whole;
 
 // An image of one point.
 const POINT: &str = "# vtk DataFile Version 3.0
@@ -42,6 +46,36 @@ fn load(alloc: Global, node: Word) -> Result<Edit, Fail> {
 
 fn told(pass: &Pass) -> (u64, Option<Sent>) {
     (pass.sent(), pass.last())
+}
+
+// Whether the only kept part of a pin has the key under which all that the node gives is stored.
+fn is_only(alloc: Global, pinned: &Pinned, node: NodeId) -> bool {
+    if pinned.net.node(node).is_none() {
+        return false;
+    }
+    let [entry] = pinned.entries.list() else {
+        return false;
+    };
+    match stored_whole(alloc, &pinned.net, node) {
+        Ok(item) => item.key == entry.key,
+        Err(_) => false,
+    }
+}
+
+// Pins, looks whether the only kept part is that of the node, and gives the pass back.
+fn finds<R: Wait>(
+    rt: &R,
+    alloc: Global,
+    hub: &Hub,
+    pass: Pass,
+    node: NodeId,
+) -> Option<(Pass, bool)>
+    requires belongs { pass.turn ≡ hub.now }
+    ensures pass { IfSome result (λ r. r.0.turn ≡ hub.now) }
+{
+    let pin = pin(rt, alloc, hub, pass)?;
+    let found = is_only(alloc, pin.pinned(), node);
+    Some((release(hub, pin), found))
 }
 
 #[test]
@@ -81,6 +115,9 @@ fn a_pass_tells_how_often_it_published_and_what_last(rt: HostRuntime) -> Result<
     assert_eq!(rt; told(&root), (1, Some(first)));
     assert_eq!(rt; told(&other), (0, None));
     // another pass finds the part, so that it makes none
+    let Some((other, true)) = finds(&rt, rt.alloc(), &hub, other, NodeId(1)) else {
+        return Err("another part")?;
+    };
     let Some((other, kept)) = publish_update(&rt, rt.alloc(), &hub, other, NodeId(1), &whole) else {
         return Err("no update")?;
     };
