@@ -4,7 +4,7 @@
 mod options;
 mod progress;
 
-use options::{Options, options, shown};
+use options::{LineOptions, read_options, shown};
 use progress::Progress;
 use std::alloc::{AllocError, Global};
 use std::io::{ErrorKind, IsTerminal};
@@ -138,8 +138,8 @@ enum Wanted {
 fn asked_of(alloc: Global, words: &[String]) -> Result<Wanted, AllocError> {
     let front = option_words(words);
     let line = line(alloc, words, front)?;
-    match options(alloc, &line) {
-        Ok(Options { folder, progress }) => Ok(Wanted::Run {
+    match read_options(alloc, &line) {
+        Ok(LineOptions { folder, progress }) => Ok(Wanted::Run {
             folder: folder_of(alloc, folder)?,
             words: bytes(alloc, words, front)?,
             progress,

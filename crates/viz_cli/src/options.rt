@@ -26,7 +26,7 @@ The program ends with the status
 
 /// What the options ask for.
 #[derive(Clone, Copy, Debug)]
-pub struct Options<'a> {
+pub struct LineOptions<'a> {
     /// The folder of all files.
     pub folder: &'a str,
     /// Whether progress is shown.
@@ -79,12 +79,12 @@ fn status_of(error: &Error) -> Status {
 
 /// The options of a line: the program's name, and behind it the options that were given. The folder
 /// is `.` where none is named.
-pub fn options<'a>(alloc: Global, line: &'a [&'a str]) -> Result<Options<'a>, Status> {
+pub fn read_options<'a>(alloc: Global, line: &'a [&'a str]) -> Result<LineOptions<'a>, Status> {
     let Ok(command) = command(alloc) else {
         return Err(Status::Memory);
     };
     match command.try_get_matches_from(line) {
-        Ok(matches) => Ok(Options {
+        Ok(matches) => Ok(LineOptions {
             folder: matches.get_str("dir").ok_or(Status::Usage)?,
             progress: matches.get_flag("progress"),
         }),
