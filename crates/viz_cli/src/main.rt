@@ -30,31 +30,34 @@ fn words<R: Env + AllocGlobal>(rt: &R) -> io::Result<Vec<String>> {
     Ok(words)
 }
 
-/// How many words in front are the option `--dir` with its value, where they stand there.
-fn folder_words(words: &[String]) -> usize {
-    match words {
-        [option] if option.as_str() == "--dir" => 1,
-        [option, _, ..] if option.as_str() == "--dir" => 2,
-        _ => 0,
+/// Whether a word is the option `--dir`.
+fn is_folder(word: &String) -> bool {
+    word.as_str() == "--dir"
+}
+
+/// Whether a word is the option `--progress`.
+fn is_progress(word: &String) -> bool {
+    word.as_str() == "--progress"
+}
+
+/// How many words in front are options, each at most once, where the first one is `--progress`.
+fn words_with_progress(rest: &[String]) -> usize {
+    match rest {
+        [option] if is_folder(option) => 2,
+        [option, _, ..] if is_folder(option) => 3,
+        _ => 1,
     }
 }
 
-/// How many words in front are the option `--progress`: 1 where it stands there, else 0.
-fn progress_words(words: &[String]) -> usize {
-    match words {
-        [option, ..] if option.as_str() == "--progress" => 1,
-        _ => 0,
-    }
-}
-
-/// How many words in front are options, each at most once, in any order.
+/// How many words in front are options, each at most once and in any order: `--progress`, and
+/// `--dir` with its value.
 fn option_words(words: &[String]) -> usize {
-    match progress_words(words) {
-        0 => {
-            let front = folder_words(words);
-            front + progress_words(&words[front..])
-        }
-        front => front + folder_words(&words[front..]),
+    match words {
+        [option, rest @ ..] if is_progress(option) => words_with_progress(rest),
+        [option] if is_folder(option) => 1,
+        [option, _, more, ..] if is_folder(option) && is_progress(more) => 3,
+        [option, _, ..] if is_folder(option) => 2,
+        _ => 0,
     }
 }
 
