@@ -2,7 +2,7 @@
 -- (docs/FORMATS.md, "Report").
 use Rattle.std.specs.Prelude.{◌≡◌, ℕ, List, Option, None, Some, Ok, Err}
 use Rattle.viz_dataset.specs.declared.dataset.Dataset.{Dataset}
-use Rattle.viz_executive.specs.Published.{AreOfPlan}
+use Rattle.viz_plan.specs.Published.{AreOfPlan}
 use Rattle.viz_network.specs.Network.{Network, named}
 use Rattle.viz_network.specs.declared.node.Node.{Node}
 use Rattle.viz_node_meaning.specs.Scratch.{IsScratch}

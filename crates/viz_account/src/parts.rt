@@ -1,8 +1,8 @@
 //! What an update by its plan hands out to be kept.
 
 ghost use Rattle.std.specs.Prelude.{◌≡◌, ◌⊎◌, []};
-ghost use Rattle.viz_executive.specs.Produced.{IsByPlan, IsOnly, all_keys, keys_of};
-ghost use Rattle.viz_executive.specs.Published.{AreOfPlan};
+ghost use Rattle.viz_executive.specs.Produced.{IsByPlan, IsOnly, all_keys};
+ghost use Rattle.viz_plan.specs.Published.{AreOfPlan, keys_of};
 ghost use Rattle.viz_kept.specs.True.{AreMadeIn};
 
 use std::alloc::Global;

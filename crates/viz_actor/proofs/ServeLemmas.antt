@@ -22,7 +22,7 @@ use Rattle.viz_entries.specs.declared.entry.Entry.{Entry}
 use Rattle.viz_history.specs.declared.answer.EditAnswer.{EditAnswer}
 use Rattle.viz_history.specs.declared.answer.EditAnswer.TheVariants as answer
 use Rattle.viz_entries.specs.History.{by_of, network_of}
-use Rattle.viz_executive.specs.Published.{AreOfPlan}
+use Rattle.viz_plan.specs.Published.{AreOfPlan}
 use Rattle.viz_kept.specs.True.{IsTrueIn}
 use Rattle.viz_parts.specs.declared.stored.Stored.{Stored}
 use Rattle.viz_hub.specs.Answers.{Answers, next_entry}

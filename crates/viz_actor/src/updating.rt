@@ -3,7 +3,7 @@
 ghost use Rattle.std.specs.Prelude.{◌≡◌, IfSome, length};
 ghost use Rattle.viz_hub.specs.Passes.{at_seen, GoesFurther};
 ghost use Rattle.viz_entries.specs.History.{network_of};
-ghost use Rattle.viz_executive.specs.Published.{AreOfPlan};
+ghost use Rattle.viz_plan.specs.Published.{AreOfPlan};
 ghost use Rattle.viz_kept.specs.True.{AreTrueIn};
 ghost use Rattle.viz_plan_law.specs.Ports.{HaveOwnPorts};
 ghost use Rattle.viz_account.specs.Answers.{

@@ -9,10 +9,9 @@ pub const NODES: u32 = 256;
 /// The greatest number of entries of the program's edit history.
 pub const HISTORY: u32 = 65_536;
 
-/// The greatest number of parts in the program's cache. An update of a network of 256 nodes in 8
-/// pieces uses so many, and keeps all of them that it may: a node with Release 1 has none. Kept
-/// parts are shared, never copied.
-pub const CACHE: u32 = 2_048;
+/// The greatest number of parts in the program's cache: one of each node of the largest network, or
+/// eight of each of 32 nodes. A node with Release 1 has none. Kept parts are shared, never copied.
+pub const CACHE: u32 = 256;
 
 /// The greatest number of actors.
 pub const ACTORS: u32 = 8;

@@ -14,7 +14,7 @@ use Rattle.viz_plan.specs.Told.{needs_in}
 use Rattle.viz_plan_meaning.specs.Known.{Known}
 use Rattle.viz_plan_meaning.specs.Laws.{plan_of}
 use Rattle.viz_plan_truth.specs.Truth.{HasTaskPart}
-use Rattle.viz_executive.specs.Produced.{is_unreleased, keys_of, need_of, unreleased}
+use Rattle.viz_plan.specs.Published.{is_unreleased, keys_of, need_of, unreleased}
 use Rattle.viz_node_rules.specs.declared.stop.OwnStop.{OwnStop}
 use Rattle.viz_workers.specs.Level.{AreItems}
 use Rattle.viz_executive.specs.Steps.Grounds.{GroundData}

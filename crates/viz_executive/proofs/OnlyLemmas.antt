@@ -13,7 +13,8 @@ use Rattle.viz_parts.specs.declared.request.Request.{Request}
 use Rattle.viz_parts.specs.declared.stored.Key.{Key}
 use Rattle.viz_parts.specs.declared.stored.Stored.{Stored}
 use Rattle.viz_plan_meaning.specs.Networks.{head_of, ways_to}
-use Rattle.viz_executive.specs.Produced.{IsOnly, all_keys, keys_of}
+use Rattle.viz_plan.specs.Published.{keys_of}
+use Rattle.viz_executive.specs.Produced.{IsOnly, all_keys}
 use Rattle.viz_executive.specs.Steps.Carrying.{IsTakenOut}
 use Rattle.viz_executive.specs.Steps.Grounds.{GroundData, IsReached}
 use Rattle.viz_executive.specs.Steps.Tasks.{IsTaskItem}

@@ -22,7 +22,7 @@ use Rattle.viz_plan_meaning.specs.Laws.{inputs_of, plan_of, tasks_of}
 use Rattle.viz_plan_meaning.specs.Levels.{Tasks, at_level, by_level, needs_of}
 use Rattle.viz_plan_meaning.proofs.LevelLemmas.{levels_lose_none, levels_of}
 use Rattle.viz_requests.specs.Serving.{serves}
-use Rattle.viz_executive.specs.Produced.{level_by_level}
+use Rattle.viz_plan.specs.Published.{level_by_level}
 use Rattle.viz_executive.specs.Steps.Carrying.{ArePlannedLevels}
 use Rattle.viz_executive.specs.Steps.Tasks.{all_needs}
 

@@ -50,14 +50,8 @@ use Rattle.viz_plan_truth.specs.Truth.{
 }
 use Rattle.viz_requests.specs.Shapes.{requests_of}
 use Rattle.viz_task_parts.specs.Tasks.{DatasetsArePassed}
-use Rattle.viz_executive.specs.Produced.{
-  IsByPlanOf,
-  IsOnly,
-  is_unreleased,
-  keys_of,
-  need_of,
-  unreleased,
-}
+use Rattle.viz_plan.specs.Published.{is_unreleased, keys_of, need_of, unreleased}
+use Rattle.viz_executive.specs.Produced.{IsByPlanOf, IsOnly}
 use Rattle.viz_executive.specs.Steps.Carrying.{AsksForAll, IsCarriedOut, IsReachedKey}
 use Rattle.viz_executive.specs.Steps.Tasks.{all_needs}
 use Rattle.viz_executive.specs.declared.carrying.Carried.{Carried}

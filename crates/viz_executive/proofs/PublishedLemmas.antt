@@ -8,8 +8,8 @@ use Rattle.viz_plan.specs.Told.{extent_told, known_with, needs_in}
 use Rattle.viz_plan_meaning.specs.Known.{Known}
 use Rattle.viz_requests.specs.Shapes.{requests_of}
 use Rattle.viz_executive.specs.declared.produced.Produced.{Produced}
-use Rattle.viz_executive.specs.Produced.{IsByPlan, IsByPlanOf, all_keys, keys_of}
-use Rattle.viz_executive.specs.Published.{AreOfPlan, AreOfTasks}
+use Rattle.viz_executive.specs.Produced.{IsByPlan, IsByPlanOf, all_keys}
+use Rattle.viz_plan.specs.Published.{AreOfPlan, AreOfTasks, keys_of}
 
 -- all parts that the tasks made are of the tasks, and none may stand for them
 of_tasks : (k : Known) (sink : ℕ) (requests : List Request) (p : Produced) (made : List Stored)

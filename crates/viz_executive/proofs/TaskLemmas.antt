@@ -16,7 +16,7 @@ use Rattle.viz_plan_meaning.specs.Known.{Known}
 use Rattle.viz_plan_meaning.specs.Laws.{plan_of}
 use Rattle.viz_plan_truth.specs.Truth.{IsTaskPart}
 use Rattle.viz_task_parts.specs.Tasks.{HasParts, IsUpdate, TasksMake, TasksTake}
-use Rattle.viz_executive.specs.Produced.{need_of}
+use Rattle.viz_plan.specs.Published.{need_of}
 
 -- the node at the foot of a cone is the network's
 node_of_tree : (net : Network) (id : ℕ) (t : Tree) → cone_of net id ≡ Some t

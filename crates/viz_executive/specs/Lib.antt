@@ -1,3 +1,2 @@
 pub mod Produced
-pub mod Published
 pub mod Steps

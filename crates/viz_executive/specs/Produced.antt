@@ -1,53 +1,27 @@
 -- What an update of a node by its plan gives beside the dataset (VTK User's Guide, the executive: a
 -- filter executes again only where no kept output serves the request).
-use Rattle.std.specs.Prelude.{◌≡◌, ℕ, ◌++◌, Bool, false, not, List, length, map, filter}
-use Rattle.std.specs.Prelude.{Option, None, Some, Ok, Err}
-use Rattle.std.specs.List.{All, flat_map, range_with_len}
-use Rattle.std.specs.Option.{option_map_or, option_to_list}
+use Rattle.std.specs.Prelude.{◌≡◌, ℕ, ◌++◌, List, length, Option, None, Some, Ok, Err}
+use Rattle.std.specs.List.{All}
+use Rattle.std.specs.Option.{option_to_list}
 use Rattle.viz_dataset.specs.declared.dataset.Dataset.{Dataset}
 use Rattle.viz_inform.specs.Informed.{AreTold}
 use Rattle.viz_inform.specs.declared.told.Told.{Told}
 use Rattle.viz_kept.specs.True.{AreMadeIn, HasStamp}
 use Rattle.viz_kept.specs.Whole.{whole_request}
-use Rattle.viz_network.specs.Network.{Network, node_of}
+use Rattle.viz_network.specs.Network.{Network}
 use Rattle.viz_network.specs.declared.fault.Stop.{Stop}
 use Rattle.viz_network.specs.declared.fault.Stop.TheVariants as stop
-use Rattle.viz_network.specs.declared.node.Node.{Node}
 use Rattle.viz_node_meaning.specs.Scratch.{IsScratch}
 use Rattle.viz_parts.specs.declared.request.Request.{Request}
 use Rattle.viz_parts.specs.declared.stored.Key.{Key}
 use Rattle.viz_parts.specs.declared.stored.Stored.{Stored}
+use Rattle.viz_plan.specs.Published.{keys_of, level_by_level, unreleased}
 use Rattle.viz_plan.specs.Told.{extent_told, known_with, needs_in}
 use Rattle.viz_plan_meaning.specs.Known.{Known}
 use Rattle.viz_plan_meaning.specs.Laws.{plan_of, tasks_of, used_of}
-use Rattle.viz_plan_meaning.specs.Levels.{AllUnder, at_level, needs_of}
+use Rattle.viz_plan_meaning.specs.Levels.{AllUnder}
 use Rattle.viz_requests.specs.Shapes.{requests_of}
 use Rattle.viz_executive.specs.declared.produced.Produced.{Produced}
-
--- a request at a node
-abbrev pub need_of : Key → ℕ × Request
-need_of key = (key.node.0, key.request)
-
--- the keys of kept parts
-abbrev pub keys_of : List Stored → List Key
-keys_of items = map (λ s. s.key) items
-
--- whether a node's parts stay after an update
-abbrev pub stays : Node → Bool
-stays n = not n.release
-
-abbrev pub is_unreleased : Network → ℕ × Request → Bool
-is_unreleased net need = option_map_or stays (node_of net need.0) false
-
--- those requests whose nodes' parts stay
-abbrev pub unreleased : Network → List (ℕ × Request) → List (ℕ × Request)
-unreleased net needs = filter (is_unreleased net) needs
-
--- the tasks of a plan, level by level, below the level with this number
-abbrev pub level_by_level : Known → ℕ → List Request → ℕ → List (ℕ × Request)
-level_by_level k sink requests levels =
-    flat_map (λ level. needs_of (at_level level (tasks_of k sink requests)))
-    (range_with_len 0 levels)
 
 -- the keys of all made parts: of those that stand for themselves, and of the last where that is the
 -- dataset of the update itself

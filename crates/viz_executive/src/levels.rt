@@ -5,7 +5,7 @@ ghost use Rattle.std.specs.List.{All};
 ghost use Rattle.viz_plan.specs.Sites.{known_in};
 ghost use Rattle.viz_parts.specs.declared.request.Request.{Request as Asked};
 ghost use Rattle.viz_plan.specs.Told.{needs_in};
-ghost use Rattle.viz_executive.specs.Produced.{keys_of, need_of};
+ghost use Rattle.viz_plan.specs.Published.{keys_of, need_of};
 ghost use Rattle.viz_executive.specs.Steps.Carrying.{ArePlannedLevels};
 ghost use Rattle.viz_executive.specs.Steps.Tables.{AreExact};
 ghost use Rattle.viz_executive.specs.Steps.Tasks.{

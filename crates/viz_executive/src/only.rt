@@ -5,7 +5,8 @@ ghost use Rattle.std.specs.List.{All};
 ghost use Rattle.viz_kept.specs.True.{AreMadeIn};
 ghost use Rattle.viz_kept.specs.Whole.{whole_request};
 ghost use Rattle.viz_network.specs.Network.{Network};
-ghost use Rattle.viz_executive.specs.Produced.{IsOnly, all_keys, keys_of};
+ghost use Rattle.viz_plan.specs.Published.{keys_of};
+ghost use Rattle.viz_executive.specs.Produced.{IsOnly, all_keys};
 ghost use Rattle.viz_executive.specs.Steps.Carrying.{AsksForAll, IsTakenOut};
 ghost use Rattle.viz_executive.specs.Steps.Tasks.{IsTaskItem};
 

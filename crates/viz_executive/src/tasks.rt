@@ -10,7 +10,7 @@ ghost use Rattle.viz_task_parts.specs.Tasks.{HasParts};
 ghost use Rattle.viz_kept.specs.True.{HasStamp};
 ghost use Rattle.viz_executive.specs.Steps.Tables.{AreExact};
 ghost use Rattle.viz_executive.specs.Steps.Tasks.{IsItemOf};
-ghost use Rattle.viz_executive.specs.Produced.{need_of};
+ghost use Rattle.viz_plan.specs.Published.{need_of};
 
 use crate::fetching::fetch_all;
 use crate::ground::Ground;

@@ -2,7 +2,7 @@
 
 ghost use Rattle.std.specs.Prelude.{◌≡◌, ◌+◌, ◌<◌, ◌≤◌, [], length, count_by, IfOk, IfErr, true};
 ghost use Rattle.viz_turn.specs.Tales.{HasNoOther, once};
-ghost use Rattle.viz_executive.specs.Published.{AreOfPlan};
+ghost use Rattle.viz_plan.specs.Published.{AreOfPlan};
 ghost use Rattle.viz_kept.specs.True.{AreTrueIn};
 ghost use Rattle.viz_entries.specs.History.{by_of, network_of, IsLegal};
 ghost use Rattle.viz_history.specs.Publishing.{is_stale};

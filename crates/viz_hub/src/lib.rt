@@ -6,7 +6,7 @@
 //! an update in it uses and makes by its plan is published, and the pass tells how often and what
 //! last; a pass into which all others were joined closes with the whole history. Definitions:
 //! `specs/Passes.antt`, `specs/Answers.antt`, `specs/Publishing.antt`, and those of viz_turn,
-//! viz_history and viz_executive that they and the calls name.
+//! viz_history and viz_plan that they and the calls name.
 #![tactic(auto)]
 
 mod calls;

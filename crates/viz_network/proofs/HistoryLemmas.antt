@@ -1,5 +1,5 @@
 -- The networks of a history and of a longer one.
-use Rattle.std.proofs.Common.{◌≡◌, ℕ, suc, ◌+◌, ◌<◌, ◌≤◌, List, [], ◌∷◌, ◌++◌, length, Option, None, Some, Result, Ok, Err, zero-add, refl, sym, ap, subst, ◌∙◌, arith}
+use Rattle.std.proofs.Common.{◌≡◌, ℕ, suc, ◌+◌, ◌<◌, ◌≤◌, ◌⊎◌, inl, inr, List, [], ◌∷◌, ◌++◌, length, Option, None, Some, Result, Ok, Err, zero-add, refl, sym, ap, subst, ◌∙◌, arith}
 use Rattle.std.specs.Option.{option_map}
 use Rattle.viz_network.specs.declared.node.Node.{Node}
 use Rattle.viz_network.specs.declared.edit.Edit.{Edit}
@@ -10,9 +10,9 @@ use Rattle.viz_network.specs.Edits.{apply}
 use Rattle.viz_network.specs.Cone.{Tree, grow, above, cone_of, newest, stamp_of}
 use Rattle.viz_network.specs.Applies.{Applies, IsPast}
 use Rattle.viz_network.specs.History.{pick, after, net_after, net_of}
-use Rattle.viz_network.specs.EqualStamps.{IsSound, EqualStamps}
+use Rattle.viz_network.specs.EqualStamps.{IsSound, EqualStamps, StampsStay}
 use Rattle.viz_network.specs.Steps.Since.{Since}
-use Rattle.viz_network.proofs.StampLemmas.{same_tree}
+use Rattle.viz_network.proofs.StampLemmas.{same_or_newer, same_tree}
 use Rattle.viz_network.proofs.SinceLemmas.{since_same, since_both, after_since}
 use Rattle.viz_network.proofs.SoundLemmas.{past_of, up_to_node, sound_more, sound_after}
 
@@ -70,6 +70,20 @@ equal_stamps edits more id stamp old new =
     let b = stamped_node made id stamp (subst (λ net. stamp_of net id ≡ Some stamp) whole new) in
     let tree = same_tree p was made (since_later p p more was (omega arith) s) later.closed (up_to_node p was s.up_to) 256 id b.0 b.1 (b.2 ∙ sym a.2) in
     sym tree ∙ ap (λ net. cone_of net id) (sym whole)
+
+pub stamps_stay : StampsStay
+stamps_stay edits more id stamp low new =
+    let p = length edits in
+    let was = net_of edits in
+    let made = net_after (p + 1) more was in
+    let s = sound_of edits in
+    let later = sound_later p more was s in
+    let now : stamp_of made id ≡ Some stamp = subst (λ net. stamp_of net id ≡ Some stamp) (net_of-append edits more) new in
+    let b = stamped_node made id stamp now in
+    elim (same_or_newer p was made (since_later p p more was (omega arith) s) later.closed 256 id b.0 b.1) [
+      | inl same ↦ ap (option_map (λ t. newest (Some t))) (sym same) ∙ now
+      | inr l ↦ absurd (omega (arith, l, low, b.2))
+    ]
 
 -- what apply leaves is sound at its position
 pub sound_applied : (p at : ℕ) (edit : Edit) (old new : Network) (answer : Result (Unit {0}) ApplyStop) → p < at → IsSound p old → Applies answer old new (apply at edit old) → IsSound at new

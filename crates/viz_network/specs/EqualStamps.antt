@@ -1,6 +1,6 @@
 -- Where the stamps of a node are equal, its cone is (VTK User's Guide, "The visualization
 -- pipeline": modification times).
-use Rattle.std.specs.Prelude.{◌≡◌, ℕ, ◌<◌, ◌≤◌, List, [], ◌∷◌, ◌++◌, Option, None, Some}
+use Rattle.std.specs.Prelude.{◌≡◌, ℕ, ◌<◌, ◌≤◌, List, [], ◌∷◌, ◌++◌, length, Option, None, Some}
 use Rattle.std.specs.List.{AllByRecursion}
 use Rattle.viz_base.specs.declared.node.NodeId.{NodeId}
 use Rattle.viz_network.specs.declared.node.Node.{Node}
@@ -39,3 +39,9 @@ abbrev pub EqualStamps : Type 0
 EqualStamps = (edits more : List Edit) (id stamp : ℕ) → stamp_of (net_of edits) id ≡ Some stamp
     → stamp_of (net_of (edits ++ more)) id ≡ Some stamp
     → cone_of (net_of edits) id ≡ cone_of (net_of (edits ++ more)) id
+
+-- a node whose stamp in the network of a longer history isn't past the history has it in the
+-- network of the history: no edit gives a stamp of the past
+abbrev pub StampsStay : Type 0
+StampsStay = (edits more : List Edit) (id stamp : ℕ) → stamp ≤ length edits
+    → stamp_of (net_of (edits ++ more)) id ≡ Some stamp → stamp_of (net_of edits) id ≡ Some stamp

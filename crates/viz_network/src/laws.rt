@@ -8,7 +8,7 @@ ghost use Rattle.viz_network.specs.Applies.{Applies, IsPast};
 ghost use Rattle.viz_network.specs.declared.refusal.ApplyStop.{ApplyStop};
 ghost use Rattle.viz_network.specs.Edits.{apply};
 ghost use Rattle.viz_network.specs.History.{after, net_of};
-ghost use Rattle.viz_network.specs.EqualStamps.{IsSound, EqualStamps};
+ghost use Rattle.viz_network.specs.EqualStamps.{IsSound, EqualStamps, StampsStay};
 
 /// Each network of a history is sound: what feeds a port is there, no Add and no stamp is past the
 /// history, and no position stands twice. An edit at a later position keeps that.
@@ -26,4 +26,10 @@ pub fn networks_are_sound()
 /// cones in them, with all parameters and files.
 pub fn equal_stamps_are_equal_cones()
     ensures { EqualStamps }
+{}
+
+/// A stamp that a node has lost never comes back: where it isn't past a history, and the node has
+/// it in the network of a longer one, the node has it in that of the history.
+pub fn stamps_stay()
+    ensures { StampsStay }
 {}

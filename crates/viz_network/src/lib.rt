@@ -21,7 +21,7 @@ mod way;
 
 pub use edit::Edit;
 pub use fault::{Cause, Fault, Stop};
-pub use laws::{equal_stamps_are_equal_cones, networks_are_sound};
+pub use laws::{equal_stamps_are_equal_cones, networks_are_sound, stamps_stay};
 pub use net::Net;
 pub use node::Node;
 pub use refusal::{ApplyStop, Refusal};

@@ -1,3 +1,4 @@
 pub mod Told
+pub mod Published
 pub mod Sites
 pub mod ByNode

@@ -17,7 +17,8 @@ use Rattle.viz_plan_meaning.specs.Known.{Known}
 use Rattle.viz_plan_meaning.specs.Networks.{head_of, ways_to}
 use Rattle.viz_plan_truth.specs.Truth.{HasTaskPart}
 use Rattle.viz_task_parts.specs.Tasks.{IsUpdate}
-use Rattle.viz_executive.specs.Produced.{all_keys, keys_of, unreleased}
+use Rattle.viz_plan.specs.Published.{keys_of, unreleased}
+use Rattle.viz_executive.specs.Produced.{all_keys}
 use Rattle.viz_executive.specs.Steps.Grounds.{GroundData}
 use Rattle.viz_executive.specs.Steps.Tasks.{ArePlanned, IsTaskItem, all_needs}
 use Rattle.viz_executive.specs.declared.carrying.Carried.{Carried}

@@ -16,7 +16,7 @@ use Rattle.viz_plan.specs.Told.{needs_in}
 use Rattle.viz_plan_meaning.specs.Known.{Known}
 use Rattle.viz_plan_meaning.specs.Laws.{plan_of}
 use Rattle.viz_plan_truth.specs.Truth.{HasTaskPart, IsTaskPart}
-use Rattle.viz_executive.specs.Produced.{keys_of, stays, unreleased}
+use Rattle.viz_plan.specs.Published.{keys_of, stays, unreleased}
 use Rattle.viz_executive.specs.Steps.Grounds.{GroundData}
 use Rattle.viz_executive.specs.Steps.Tables.{AreExact}
 

@@ -1,6 +1,6 @@
 use Rattle.std.proofs.Common.{List, IfSome, sym, subst}
 use Rattle.viz_entries.specs.History.{network_of}
-use Rattle.viz_executive.specs.Published.{AreOfPlan}
+use Rattle.viz_plan.specs.Published.{AreOfPlan}
 use Rattle.viz_parts.specs.declared.stored.Key.{Key}
 use Rattle.viz_parts.specs.declared.stored.Stored.{Stored}
 use Rattle.viz_account.specs.declared.parts.UpdateParts.{UpdateParts}

@@ -1,7 +1,7 @@
 use Rattle.std.proofs.Common.{ℕ, List, ◌++◌}
 use Rattle.viz_parts.specs.declared.request.Request.{Request}
 use Rattle.viz_plan.specs.Told.{needs_in}
-use Rattle.viz_executive.specs.Produced.{keys_of}
+use Rattle.viz_plan.specs.Published.{keys_of}
 use Rattle.viz_executive.specs.Steps.Tasks.{IsDone}
 use Rattle.viz_executive.proofs.levels.keep_all.Given as goal
 

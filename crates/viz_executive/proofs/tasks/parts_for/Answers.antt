@@ -1,5 +1,5 @@
 use Rattle.viz_plan.specs.Sites.{known_in}
-use Rattle.viz_executive.specs.Produced.{need_of}
+use Rattle.viz_plan.specs.Published.{need_of}
 use Rattle.viz_executive.proofs.FetchLemmas.{parts_are}
 use Rattle.viz_executive.proofs.tasks.parts_for.Goals as goal
 

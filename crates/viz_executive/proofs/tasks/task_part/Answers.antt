@@ -2,7 +2,7 @@ use Rattle.std.proofs.Common.{sym, subst, ◌∙◌, ap}
 use Rattle.std.specs.Option.{option_copied}
 use Rattle.viz_plan.specs.Sites.{known_in}
 use Rattle.viz_task_parts.specs.Tasks.{HasParts}
-use Rattle.viz_executive.specs.Produced.{need_of}
+use Rattle.viz_plan.specs.Published.{need_of}
 use Rattle.viz_executive.proofs.TaskLemmas.{made, taken}
 use Rattle.viz_executive.proofs.tasks.task_part.Goals as goal
 

@@ -1,7 +1,7 @@
 use Rattle.std.proofs.Common.{List, inr, sym, subst}
 use Rattle.viz_entries.specs.History.{network_of}
 use Rattle.viz_executive.proofs.PublishedLemmas.{of_plan}
-use Rattle.viz_executive.specs.Published.{AreOfPlan}
+use Rattle.viz_plan.specs.Published.{AreOfPlan}
 use Rattle.viz_parts.specs.declared.stored.Key.{Key}
 use Rattle.viz_parts.specs.declared.stored.Stored.{Stored}
 use Rattle.viz_hub_tests.proofs.publishing.publish_produced.Goals as goal
