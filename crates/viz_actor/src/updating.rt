@@ -1,7 +1,7 @@
 //! Updates and audits of a pinned network.
 
-ghost use Rattle.std.specs.Prelude.{◌≡◌, IfSome, length};
-ghost use Rattle.viz_hub.specs.Passes.{at_seen, GoesFurther};
+ghost use Rattle.std.specs.Prelude.{◌≡◌, IfSome};
+ghost use Rattle.viz_hub.specs.Passes.{GoesFurther};
 ghost use Rattle.viz_entries.specs.History.{network_of};
 ghost use Rattle.viz_plan.specs.Published.{AreOfPlan};
 ghost use Rattle.viz_kept.specs.True.{AreTrueIn};

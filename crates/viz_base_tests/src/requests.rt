@@ -37,50 +37,52 @@ fn settings_of(kind: Kind) -> Settings {
 #[test]
 fn images_are_asked_for_blocks(rt: HostRuntime) {
     let whole = Extent::new(WHOLE);
-    for (kind, request, want) in [
-        (
-            Kind::Sample,
-            block([1, 2, 0, 1, 3, 4]),
-            Some(block([2, 4, 0, 3, 3, 4])),
-        ),
+    for (kind, asks, want) in [
+        (Kind::Sample, [1, 2, 0, 1, 3, 4], [2, 4, 0, 3, 3, 4]),
         // A mean asks for what lies round it, as far as the whole reaches.
-        (
-            Kind::Smooth,
-            block([3, 4, 0, 1, 2, 3]),
-            Some(block([1, 6, 0, 3, 2, 5])),
-        ),
-        (
-            Kind::Crop,
-            block([3, 4, 0, 1, 2, 3]),
-            Some(block([3, 4, 0, 1, 2, 3])),
-        ),
+        (Kind::Smooth, [3, 4, 0, 1, 2, 3], [1, 6, 0, 3, 2, 5]),
+        (Kind::Crop, [3, 4, 0, 1, 2, 3], [3, 4, 0, 1, 2, 3]),
+    ] {
+        assert_eq!(rt;
+            asked(&settings_of(kind), &whole, &block(asks)),
+            Some(block(want)),
+            "{kind:?} {asks:?}"
+        );
+    }
+}
+
+#[test]
+fn contours_of_images_are_asked_for_planes(rt: HostRuntime) {
+    let whole = Extent::new(WHOLE);
+    let contour = Settings::new(Kind::Contour);
+    for (p, n, ghosts, want) in [
         // Layers 2 and 3 touch planes 4 to 6.
-        (
-            Kind::Contour,
-            piece(1, 3, 0),
-            Some(block([0, 9, 0, 4, 4, 6])),
-        ),
-        (
-            Kind::Contour,
-            piece(1, 3, 1),
-            Some(block([0, 9, 0, 4, 3, 7])),
-        ),
-        (Kind::Contour, piece(1, 3, 9), Some(block(WHOLE))),
+        (1, 3, 0, [0, 9, 0, 4, 4, 6]),
+        (1, 3, 1, [0, 9, 0, 4, 3, 7]),
+        (1, 3, 9, WHOLE),
         // Piece 0 of 7 has none of 6 layers.
-        (
-            Kind::Contour,
-            piece(0, 7, 2),
-            Some(block([0, 9, 0, 4, 2, 2])),
-        ),
-        // What isn't there can't be asked for.
-        (Kind::Sample, block([1, 5, 0, 1, 3, 4]), None),
-        (Kind::Smooth, block([3, 10, 0, 1, 2, 3]), None),
-        (Kind::Contour, piece(3, 3, 0), None),
-        (Kind::Contour, block(WHOLE), None),
+        (0, 7, 2, [0, 9, 0, 4, 2, 2]),
+    ] {
+        assert_eq!(rt;
+            asked(&contour, &whole, &piece(p, n, ghosts)),
+            Some(block(want)),
+            "{p} {n} {ghosts}"
+        );
+    }
+}
+
+#[test]
+fn what_is_not_there_is_not_asked_for(rt: HostRuntime) {
+    let whole = Extent::new(WHOLE);
+    for (kind, request) in [
+        (Kind::Sample, block([1, 5, 0, 1, 3, 4])),
+        (Kind::Smooth, block([3, 10, 0, 1, 2, 3])),
+        (Kind::Contour, piece(3, 3, 0)),
+        (Kind::Contour, block(WHOLE)),
     ] {
         assert_eq!(rt;
             asked(&settings_of(kind), &whole, &request),
-            want,
+            None,
             "{kind:?} {request:?}"
         );
     }

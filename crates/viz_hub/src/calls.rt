@@ -1,6 +1,6 @@
 //! The calls on a hub.
 
-ghost use Rattle.std.specs.Prelude.{◌≡◌, ◌+◌, ◌<◌, ◌≤◌, [], length, count_by, IfOk, IfErr, true};
+ghost use Rattle.std.specs.Prelude.{◌≡◌, ◌+◌, ◌<◌, ◌≤◌, length, count_by, IfOk, IfErr, true};
 ghost use Rattle.viz_turn.specs.Tales.{HasNoOther, once};
 ghost use Rattle.viz_plan.specs.Published.{AreOfPlan};
 ghost use Rattle.viz_kept.specs.True.{AreTrueIn};

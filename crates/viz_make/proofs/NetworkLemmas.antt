@@ -1,5 +1,5 @@
 -- The network in which a made volume is contoured, and what lies upstream of its contour.
-use Rattle.std.proofs.Common.{◌≡◌, ℕ, zero, suc, pos, false, List, [], ◌∷◌, None, Some, refl, ap, ◌∙◌}
+use Rattle.std.proofs.Common.{◌≡◌, ℕ, zero, suc, pos, true, false, List, [], ◌∷◌, None, Some, refl, ap, ◌∙◌}
 use Rattle.std.specs.Prelude.{replicate}
 use Rattle.viz_base.specs.declared.node.Pick.TheVariants.{First}
 use Rattle.viz_kinds.specs.declared.settings.Settings.TheVariants as settings
@@ -25,10 +25,10 @@ abbrev pub iso_node : Node
 iso_node = record {
   id = record { 0 = iso_id };
   settings = settings.Contour 1 (middle ∷ replicate 7 (pos 0));
-  release = false;
+  release = true;
   inputs = Some (record { 0 = 1 }) ∷ replicate 7 None;
   file = None;
-  stamp = 5;
+  stamp = 6;
 }
 
 -- both, with their names

@@ -3,7 +3,8 @@
 ghost use Rattle.std.specs.Prelude.{◌≡◌, IfOk, OnOk};
 ghost use Rattle.viz_network.specs.Applies.{IsPast};
 ghost use Rattle.viz_network.specs.History.{after};
-ghost use Rattle.viz_make.specs.Steps.Contouring.{middle_value, network_with};
+ghost use Rattle.viz_network.specs.declared.edit.Edit.TheVariants.{Set};
+ghost use Rattle.viz_make.specs.Steps.Contouring.{iso, network_with, value_of};
 
 use std::alloc::{AllocError, Global};
 use viz_base::{Bytes, NodeId, Shared, Word};
@@ -15,13 +16,13 @@ pub const CONTOUR: NodeId = NodeId(3);
 /// The level of the contour that is audited.
 const MIDDLE: i64 = 128;
 
-/// The level as the value of a parameter.
-fn middle_value() -> Value
-    ensures { result ≡ middle_value }
+/// A number as the value of a parameter.
+fn value_of(number: i64) -> Value
+    ensures { result ≡ value_of number }
 {
     Value::Numbers {
         count: 1,
-        items: [MIDDLE, 0, 0, 0, 0, 0, 0, 0],
+        items: [number, 0, 0, 0, 0, 0, 0, 0],
     }
 }
 
@@ -36,7 +37,17 @@ fn go_on(net: &mut Net, at: u32, edit: &Edit) -> Result<(), AllocError>
     }
 }
 
-/// The network with this text as its file.
+/// The network behind the value of a parameter of the contour.
+fn set_contour(net: &mut Net, at: u32, param: Param, number: i64) -> Result<(), AllocError>
+    requires later { IsPast at net.old }
+    ensures { OnOk result (net.new ≡ after at (Set iso param (value_of number)) net.old) }
+{
+    let node = Word::new(b"iso").unwrap();
+    let value = value_of(number);
+    go_on(net, at, &Edit::Set { node, param, value })
+}
+
+/// The network with this text as its file. What its contour gives is released: it is asked for once.
 pub fn network_with(alloc: Global, text: Shared<Bytes>) -> Result<Net, AllocError>
     ensures { IfOk result (λ net. net ≡ network_with text) }
 {
@@ -58,16 +69,7 @@ pub fn network_with(alloc: Global, text: Shared<Bytes>) -> Result<Net, AllocErro
             port,
         },
     )?;
-    let value = middle_value();
-    let param = Param::Levels;
-    go_on(
-        &mut net,
-        5,
-        &Edit::Set {
-            node: iso,
-            param,
-            value,
-        },
-    )?;
+    set_contour(&mut net, 5, Param::Levels, MIDDLE)?;
+    set_contour(&mut net, 6, Param::Release, 1)?;
     Ok(net)
 }

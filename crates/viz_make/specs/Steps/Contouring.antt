@@ -1,5 +1,5 @@
 -- The network in which a made volume is contoured. Only private contracts and proofs speak of it.
-use Rattle.std.specs.Prelude.{ℕ, pos, List, [], ◌∷◌, replicate, codes}
+use Rattle.std.specs.Prelude.{ℕ, ℤ, pos, List, [], ◌∷◌, replicate, codes}
 use Rattle.viz_dataset.specs.Images.{corner, IsImage, IsOrigin}
 use Rattle.viz_kinds.specs.declared.kind.Kind.TheVariants as kind
 use Rattle.viz_kinds.specs.declared.param.Param.TheVariants as param
@@ -23,15 +23,15 @@ source = codes "src"
 abbrev pub iso : List ℕ
 iso = codes "iso"
 
--- the middle as the value of a parameter
-abbrev pub middle_value : Value
-middle_value = Numbers 1 (middle ∷ replicate 7 (pos 0))
+-- one number as the value of a parameter
+abbrev pub value_of : ℤ → Value
+value_of n = Numbers 1 (n ∷ replicate 7 (pos 0))
 
--- the source and its file, the contour behind it, and its level
+-- the source and its file, the contour behind it, its level, and that its parts needn't stay
 abbrev pub edits_with : List ℕ → List Edit
 edits_with text =
     Add kind.File source ∷ Load source text ∷ Add kind.Contour iso ∷ Connect source iso 1
-    ∷ Set iso param.Levels middle_value ∷ []
+    ∷ Set iso param.Levels (value_of middle) ∷ Set iso param.Release (value_of (pos 1)) ∷ []
 
 -- the network of these edits
 abbrev pub network_with : List ℕ → Network
