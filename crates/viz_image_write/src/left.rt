@@ -89,9 +89,8 @@ pub fn left_long(block: &mut [u8], end: usize, n: &i64) -> usize
     ensures written { drop result block.new ≡ bytes_of I64 n.now ++ drop end block.old }
     ensures at { result + 8 ≡ end }
 {
-    let at = end - 8;
-    block[at..end].copy_from_slice(&n.to_be_bytes());
-    at
+    block[end - 8..end].copy_from_slice(&n.to_be_bytes());
+    end - 8
 }
 
 /// Puts the 32 bits of a count there, the highest byte first.
@@ -102,7 +101,6 @@ pub fn left_int(block: &mut [u8], end: usize, n: u32) -> usize
     ensures written { drop result block.new ≡ bytes_of I32 (pos n) ++ drop end block.old }
     ensures at { result + 4 ≡ end }
 {
-    let at = end - 4;
-    block[at..end].copy_from_slice(&n.to_be_bytes());
-    at
+    block[end - 4..end].copy_from_slice(&n.to_be_bytes());
+    end - 4
 }
