@@ -1,20 +1,65 @@
 -- Values as text and as bytes, one more at a time.
-use Rattle.std.proofs.Common.{◌≡◌, ℕ, ℤ, suc, ◌-◌, ◌+◌, ◌<◌, List, [], ◌∷◌, ◌++◌, length, min, get_or, take, drop, map, sym, ap, ◌∙◌, append_assoc, arith}
+use Rattle.std.proofs.Common.{◌≡◌, ℕ, ℤ, suc, ◌-◌, ◌+◌, ◌<◌, ◌≤◌, List, [], ◌∷◌, ◌++◌, length, min, take, drop, map, refl, sym, ap, ap₂, ◌∙◌, append_assoc, arith}
 use Rattle.std.specs.List.{flat_map}
 use Rattle.std.specs.Fmt.{signed_decimal}
-use Rattle.std.proofs.lemmas.List.{take_min, drop_min, length-map, get_or-map, map-append, take-map, drop-map, take-append-drop}
+use Rattle.std.proofs.lemmas.List.{take_min, drop_min, length-map, map-append, take-map, drop-map, take-append-drop, drop-drop, length-drop}
 use Rattle.std.proofs.lemmas.Grind.{flat_map-append}
 use Rattle.viz_image_write.specs.ImageText.{spaced_number, row_text, rows_text}
-use Rattle.viz_image_write.proofs.PassLemmas.{appended, lines_more}
+use Rattle.viz_image_write.proofs.PassLemmas.{appended}
 
--- one number more is written behind a space
-pub others_more : {X : Type 0} (value : X → ℤ) (old text mid new : List ℕ) (xs : List X) (i : ℕ) (x : X) → i < length xs → x ≡ get_or xs i x
-    → text ≡ old ++ flat_map spaced_number (take i (map value xs)) → mid ≡ text ++ 32 ∷ [] → new ≡ mid ++ signed_decimal (value x)
-    → new ≡ old ++ flat_map spaced_number (take (i + 1) (map value xs))
-others_more {X} value old text mid new xs i x lt is so_far space digits =
-    let long : i < length (map value xs) = omega (arith, length-map xs value) in
-    let item : value x ≡ get_or (map value xs) i (value x) = sym (get_or-map value xs i x (value x) lt ∙ ap value (sym is)) in
-    lines_more spaced_number old text new (map value xs) i (value x) long item so_far (appended text mid new (32 ∷ []) (signed_decimal (value x)) space digits)
+-- a row is its numbers, each behind a space, without the first space, and a newline
+pub row_is : (xs : List ℤ) → row_text xs ≡ drop 1 (flat_map spaced_number xs) ++ 10 ∷ []
+row_is [] = refl
+row_is (n ∷ ns) = refl
+
+-- a row is written
+pub row_written : (xs : List ℤ) (old mid new : List ℕ)
+    → mid ≡ old ++ drop 1 (flat_map spaced_number xs) → new ≡ mid ++ 10 ∷ []
+    → new ≡ old ++ row_text xs
+row_written xs old mid new e f =
+    appended old mid new (drop 1 (flat_map spaced_number xs)) (10 ∷ []) e f
+    ∙ ap (λ (t : List ℕ). old ++ t) (sym (row_is xs))
+
+-- the first number of some stands in the block
+pub starts_within : (start : ℕ) (block : List ℕ) (xs : List ℤ) → 0 < length xs
+    → drop start block ≡ flat_map spaced_number xs → start + 1 ≤ length block
+starts_within start block [] some is = absurd (omega (arith, some))
+starts_within start block (x ∷ xs) some is =
+    let long : length (drop start block) ≡ length (flat_map spaced_number (x ∷ xs)) =
+    ap length is in
+    let more : 0 < length (drop start block) = omega (arith, long) in
+    omega (arith, more, length-drop start block)
+
+-- without its space it stands behind that
+pub behind_space : (start : ℕ) (block written : List ℕ) → drop start block ≡ written
+    → drop (start + 1) block ≡ drop 1 written
+behind_space start block written is = sym (drop-drop 1 start block) ∙ ap (drop 1) is
+
+-- some numbers, and further ones
+numbers_are : (xs ys : List ℤ) → 0 < length xs
+    → drop 1 (flat_map spaced_number (xs ++ ys))
+    ≡ drop 1 (flat_map spaced_number xs) ++ flat_map spaced_number ys
+numbers_are [] ys some = absurd (omega (arith, some))
+numbers_are (x ∷ xs) ys some =
+    ap (λ (t : List ℕ). signed_decimal x ++ t) (flat_map-append spaced_number xs ys)
+    ∙ sym (append_assoc (signed_decimal x) (flat_map spaced_number xs) (flat_map spaced_number ys))
+
+-- the first numbers of a row are written, and the others
+pub numbers_written : {X : Type 0} (value : X → ℤ) (n : ℕ) (row front behind : List X)
+    (old mid new : List ℕ) → 0 < length front → front ≡ take n row → behind ≡ drop n row
+    → mid ≡ old ++ drop 1 (flat_map spaced_number (map value front))
+    → new ≡ mid ++ flat_map spaced_number (map value behind)
+    → new ≡ old ++ drop 1 (flat_map spaced_number (map value row))
+numbers_written {X} value n row front behind old mid new some front-is behind-is e f =
+    let xs = map value front in
+    let ys = map value behind in
+    let whole : xs ++ ys ≡ map value row =
+    sym (map-append value front behind)
+    ∙ ap (map value) (ap₂ (λ (s t : List X). s ++ t) front-is behind-is ∙ take-append-drop n row) in
+    let long : 0 < length xs = omega (arith, some, length-map front value) in
+    appended old mid new (drop 1 (flat_map spaced_number xs)) (flat_map spaced_number ys) e f
+    ∙ ap (λ (t : List ℕ). old ++ t) (sym (numbers_are xs ys long)
+    ∙ ap (λ (l : List ℤ). drop 1 (flat_map spaced_number l)) whole)
 
 -- the rows behind the first one
 rows_text-suc : (rows i width : ℕ) (left : List ℤ) → i < rows

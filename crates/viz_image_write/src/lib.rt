@@ -9,11 +9,13 @@ mod counts;
 mod digits;
 mod image;
 mod image_heads;
+mod left;
 mod rows;
 mod stop;
 mod style;
 
 pub use counts::counts_fit;
 pub use image::write_image;
+pub use left::{Block, left_byte, left_count, left_int, left_long, left_number};
 pub use stop::WriteStop;
 pub use style::Style;

@@ -1,42 +1,133 @@
 //! The values of an image: a line for each row, or their bytes.
 
-ghost use Rattle.std.specs.Prelude.{◌≡◌, ◌++◌, map, OnOk};
+ghost use Rattle.std.specs.Prelude.{◌≡◌, ◌≤◌, ◌<◌, ◌+◌, ◌++◌, map, drop, length, OnOk};
 ghost use Rattle.std.specs.List.{flat_map};
 ghost use Rattle.viz_column.specs.Bytes.{block_of};
 ghost use Rattle.viz_image_write.specs.ImageText.{spaced_number, row_text, rows_text, values_text};
 
 use crate::digits::Digits;
-use itoa::Buffer;
+use crate::left::{Block, left_byte};
 use std::alloc::{AllocError, Global};
 use viz_column::{Column, Lent, Number};
 
 /// So many numbers are turned into bytes at once.
 const CHUNK: usize = 1 << 15;
 
-/// The numbers of a row behind its first one.
+/// So many numbers are turned into words at once.
+const NUMBERS: usize = 2_048;
+
+/// A number behind a space, in front of what stands from `end` on.
+#[inline(always)]
+fn left_spaced<T: Digits>(block: &mut [u8], end: usize, n: T) -> usize
+    requires room { 22 ≤ end }
+    requires within { end ≤ length block.old }
+    ensures written { drop result block.new
+        ≡ spaced_number (T.value n) ++ drop end block.old }
+    ensures at { result ≤ end }
+    ensures most { end ≤ result + 22 }
+{
+    let at = n.put_left(block, end);
+    left_byte(block, at, b' ')
+}
+
+/// Numbers, each behind a space, at the end of a block, and where they begin.
+fn fill<T: Digits>(block: &mut [u8], values: &[T]) -> usize
+    requires few { length values.now ≤ 2048 }
+    requires room { length block.old ≡ 65536 }
+    ensures written { drop result block.new ≡ flat_map spaced_number (map T.value values.now) }
+    ensures at { result ≤ 65536 }
+{
+    let mut end = block.len();
+    let n = values.len();
+    for k in 0..n {
+        end = left_spaced(block, end, values[n - 1 - k]);
+    }
+    end
+}
+
+/// The same without the space in front of the first.
+fn fill_front<T: Digits>(block: &mut [u8], values: &[T]) -> usize
+    requires some { 0 < length values.now }
+    requires few { length values.now ≤ 2048 }
+    requires room { length block.old ≡ 65536 }
+    ensures written { drop result block.new
+        ≡ drop 1 (flat_map spaced_number (map T.value values.now)) }
+    ensures at { result ≤ 65536 }
+{
+    let start = fill(block, values);
+    start + 1
+}
+
+/// The first numbers of a row.
+fn put_front<T: Digits>(
+    text: &mut Vec<u8>,
+    block: &mut Block,
+    values: &[T],
+) -> Result<(), AllocError>
+    requires some { 0 < length values.now }
+    requires few { length values.now ≤ 2048 }
+    ensures { OnOk result (text.new.items
+        ≡ text.old.items ++ drop 1 (flat_map spaced_number (map T.value values.now))) }
+{
+    let start = fill_front(&mut block.bytes, values);
+    text.extend_from_slice(&block.bytes[start..])
+}
+
+/// Further numbers of a row.
+fn put_part<T: Digits>(
+    text: &mut Vec<u8>,
+    block: &mut Block,
+    values: &[T],
+) -> Result<(), AllocError>
+    requires few { length values.now ≤ 2048 }
+    ensures { OnOk result (text.new.items
+        ≡ text.old.items ++ flat_map spaced_number (map T.value values.now)) }
+{
+    let start = fill(&mut block.bytes, values);
+    text.extend_from_slice(&block.bytes[start..])
+}
+
+/// All numbers of a row behind its first ones.
 fn put_others<T: Digits>(
     text: &mut Vec<u8>,
-    buffer: &mut Buffer,
+    block: &mut Block,
     values: &[T],
 ) -> Result<(), AllocError>
     ensures { OnOk result (text.new.items
         ≡ text.old.items ++ flat_map spaced_number (map T.value values.now)) }
 {
-    for n in values {
-        text.push(b' ')?;
-        n.put(text, buffer)?;
+    let mut left = values;
+    while !left.is_empty() {
+        let (front, behind) = left.split_at(NUMBERS.min(left.len()));
+        put_part(text, block, front)?;
+        left = behind;
     }
     Ok(())
 }
 
+/// The numbers of a row, a space between two.
+fn put_numbers<T: Digits>(
+    text: &mut Vec<u8>,
+    block: &mut Block,
+    row: &[T],
+) -> Result<(), AllocError>
+    ensures { OnOk result (text.new.items
+        ≡ text.old.items ++ drop 1 (flat_map spaced_number (map T.value row.now))) }
+{
+    if row.is_empty() {
+        return Ok(());
+    }
+    let (front, behind) = row.split_at(NUMBERS.min(row.len()));
+    put_front(text, block, front)?;
+    put_others(text, block, behind)?;
+    Ok(())
+}
+
 /// One row of values as a line.
-fn put_row<T: Digits>(text: &mut Vec<u8>, buffer: &mut Buffer, row: &[T]) -> Result<(), AllocError>
+fn put_row<T: Digits>(text: &mut Vec<u8>, block: &mut Block, row: &[T]) -> Result<(), AllocError>
     ensures { OnOk result (text.new.items ≡ text.old.items ++ row_text (map T.value row.now)) }
 {
-    if let Some((first, others)) = row.split_first() {
-        first.put(text, buffer)?;
-        put_others(text, buffer, others)?;
-    }
+    put_numbers(text, block, row)?;
     text.push(b'\n')?;
     Ok(())
 }
@@ -44,6 +135,7 @@ fn put_row<T: Digits>(text: &mut Vec<u8>, buffer: &mut Buffer, row: &[T]) -> Res
 /// So many rows of so many values.
 fn put_rows<T: Digits>(
     text: &mut Vec<u8>,
+    block: &mut Block,
     rows: u64,
     width: usize,
     values: &[T],
@@ -51,11 +143,10 @@ fn put_rows<T: Digits>(
     ensures { OnOk result (text.new.items
         ≡ text.old.items ++ rows_text rows width (map T.value values.now)) }
 {
-    let mut buffer = Buffer::new();
     let mut left = values;
     for _ in 0..rows {
         let (row, behind) = left.split_at(width.min(left.len()));
-        put_row(text, &mut buffer, row)?;
+        put_row(text, block, row)?;
         left = behind;
     }
     Ok(())
@@ -92,7 +183,8 @@ fn put_values<T: Digits>(
         put_block(alloc, text, values)?;
         text.push(b'\n')?;
     } else {
-        put_rows(text, rows, width, values)?;
+        let mut block = Block::new(alloc)?;
+        put_rows(text, &mut block, rows, width, values)?;
     }
     Ok(())
 }

@@ -1,5 +1,5 @@
 -- A pass over the cells of a sheet, and over the sheets, one more at a time.
-use Rattle.std.proofs.Common.{◌≡◌, get_or, take, ℕ, pos, true, false, ◌+◌, ◌<◌, ◌^◌, List, [], ◌∷◌, ◌++◌, length, get_or, map, drop, refl, sym, ap, ap₂, ◌∙◌, append_assoc, arith}
+use Rattle.std.proofs.Common.{◌≡◌, get_or, ℕ, pos, true, false, ◌+◌, ◌<◌, ◌^◌, List, [], ◌∷◌, ◌++◌, length, get_or, map, drop, refl, sym, ap, ap₂, ◌∙◌, append_assoc, arith}
 use Rattle.std.specs.List.{All, flat_map}
 use Rattle.std.specs.Fmt.{decimal}
 use Rattle.std.proofs.lemmas.List.{drop_more, length-map}
@@ -11,7 +11,6 @@ use Rattle.viz_image_write.specs.ImageText.{spaced_number}
 use Rattle.viz_sheet.specs.Sheet.{AreAscending}
 use Rattle.viz_sheet.specs.Ranked.{IsCell, by_names, ranks_of}
 use Rattle.viz_sheet.proofs.RankLemmas.{ranks-at}
-use Rattle.viz_image_write.proofs.PassLemmas.{appended, lines_more}
 use Rattle.viz_mesh_write.specs.Cells.{moved}
 use Rattle.viz_mesh_write.specs.Steps.Passes.{IsMovable, index_text, index_bytes, cell_row, cell_rows}
 use Rattle.viz_mesh_write.specs.Steps.SheetCells.{CellsData, total_points, points_by}
@@ -21,17 +20,31 @@ row_is first ranks =
     ap₂ (λ (s t : List ℕ). s ++ t) (ap decimal (sym (length-map ranks (λ r. first + r)))) (sym (flat_map-map spaced_number (λ (n : ℕ). pos n) (moved first ranks) ∙ flat_map-map (λ (n : ℕ). spaced_number (pos n)) (λ r. first + r) ranks))
 
 -- a cell is written in words
-pub cell_words : (first : ℕ) (ranks old count all new : List ℕ) → count ≡ old ++ decimal (length ranks) → all ≡ count ++ flat_map (index_text first) ranks → new ≡ all ++ 10 ∷ [] → new ≡ old ++ cell_row false first ranks
-cell_words first ranks old count all new e f g =
-    appended old all new (decimal (length (moved first ranks)) ++ flat_map spaced_number (map (λ (n : ℕ). pos n) (moved first ranks))) (10 ∷ [])
-    (appended old count all (decimal (length ranks)) (flat_map (index_text first) ranks) e f ∙ ap (λ (t : List ℕ). old ++ t) (row_is first ranks)) g
+pub cell_words : (first : ℕ) (ranks behind line indices new : List ℕ) → line ≡ 10 ∷ behind
+    → indices ≡ flat_map (index_text first) ranks ++ line → new ≡ decimal (length ranks) ++ indices
+    → new ≡ cell_row false first ranks ++ behind
+cell_words first ranks behind line indices new e f h =
+    let count = decimal (length ranks) in
+    let words = flat_map (index_text first) ranks in
+    let numbers = decimal (length (moved first ranks))
+    ++ flat_map spaced_number (map (λ (n : ℕ). pos n) (moved first ranks)) in
+    h ∙ ap (λ (t : List ℕ). count ++ t) (f ∙ ap (λ (t : List ℕ). words ++ t) e)
+    ∙ sym (append_assoc count words (10 ∷ behind))
+    ∙ ap (λ (t : List ℕ). t ++ 10 ∷ behind) (row_is first ranks)
+    ∙ sym (append_assoc numbers (10 ∷ []) behind)
 
 -- a cell is written in bytes
-pub cell_bytes : (first : ℕ) (ranks old count new : List ℕ) → count ≡ old ++ bytes_of I32 (pos (length ranks)) → new ≡ count ++ flat_map (index_bytes first) ranks → new ≡ old ++ cell_row true first ranks
-cell_bytes first ranks old count new e f =
+pub cell_bytes : (first : ℕ) (ranks behind indices new : List ℕ)
+    → indices ≡ flat_map (index_bytes first) ranks ++ behind
+    → new ≡ bytes_of I32 (pos (length ranks)) ++ indices
+    → new ≡ cell_row true first ranks ++ behind
+cell_bytes first ranks behind indices new e f =
     let number : ℕ → List ℕ = λ (n : ℕ). bytes_of I32 (pos n) in
-    appended old count new (number (length ranks)) (flat_map (index_bytes first) ranks) e f
-    ∙ ap₂ (λ (s t : List ℕ). old ++ (s ++ t)) (ap number (sym (length-map ranks (λ r. first + r)))) (sym (flat_map-map (bytes_of I32) (λ (n : ℕ). pos n) (moved first ranks) ∙ flat_map-map number (λ r. first + r) ranks))
+    f ∙ ap (λ (t : List ℕ). number (length ranks) ++ t) e
+    ∙ sym (append_assoc (number (length ranks)) (flat_map (index_bytes first) ranks) behind)
+    ∙ ap₂ (λ (s t : List ℕ). s ++ t ++ behind) (ap number (sym (length-map ranks (λ r. first + r))))
+    (sym (flat_map-map (bytes_of I32) (λ (n : ℕ). pos n) (moved first ranks)
+    ∙ flat_map-map number (λ r. first + r) ranks))
 
 -- the ranks of cells by names are the cells by ranks
 pub ranks_again : (names : List (List ℕ)) (cells : List (List ℕ)) → AreAscending names → All (IsCell (length names)) cells → map (ranks_of names) (by_names names cells) ≡ cells
@@ -69,9 +82,3 @@ sheet_cells_more seen row text new all first sheets i s lt is so_far put =
     let here = flat_map (row first) (seen s).cells in
     let rest = cell_rows row (first + (seen s).points) (map seen (drop (i + 1) sheets)) in
     ap (λ (t : List ℕ). t ++ rest) put ∙ append_assoc text here rest ∙ sym (ap (λ (ss : List CellsData). text ++ cell_rows row first ss) (next_sheet seen sheets i s lt is)) ∙ so_far
-
--- one cell more is written
-pub cell_more : {X : Type 0} (list : X → List ℕ) (row : List ℕ → List ℕ) (old text new ranks : List ℕ) (cells : List X) (i : ℕ) (c : X) → i < length cells → c ≡ get_or cells i c → ranks ≡ list c
-    → text ≡ old ++ flat_map (λ x. row (list x)) (take i cells) → new ≡ text ++ row ranks → new ≡ old ++ flat_map (λ x. row (list x)) (take (i + 1) cells)
-cell_more {X} list row old text new ranks cells i c lt is same so_far put =
-    lines_more (λ (x : X). row (list x)) old text new cells i c lt is so_far (put ∙ ap (λ (rs : List ℕ). text ++ row rs) same)

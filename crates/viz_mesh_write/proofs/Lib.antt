@@ -1,3 +1,4 @@
+mod BlockLemmas
 mod PointLemmas
 mod CellLemmas
 pub mod TallyLemmas

@@ -3,7 +3,7 @@ use Rattle.std.proofs.Common.{◌≡◌, ℕ, zero, suc, ◌+◌, ◌<◌, ℤ, 
 use Rattle.std.specs.List.{All, flat_map}
 use Rattle.std.proofs.lemmas.List.{flat_map_more, take_more}
 use Rattle.std.proofs.lemmas.List.Concat.{flat_map-append}
-use Rattle.std.proofs.lemmas.List.Elements.{All-more, All-get_or, All-append, All-nil, All-cons, All-head, All-tail}
+use Rattle.std.proofs.lemmas.List.Elements.{All-append, All-nil, All-cons, All-head, All-tail}
 use Rattle.viz_column.specs.declared.kind.Kind8.TheVariants.{I64}
 use Rattle.viz_fraction.specs.Points.{Point}
 use Rattle.viz_sheet.specs.Sheet.{SheetData}
@@ -31,15 +31,17 @@ All-part P f [] i d lt h = absurd (omega (arith, lt))
 All-part P f (x ∷ xs) zero d lt h = All-front P (f x) (flat_map f xs) h
 All-part P f (x ∷ xs) (suc i) d lt h = All-part P f xs i d (omega (arith, lt)) (All-behind P (f x) (flat_map f xs) h)
 
--- one point more has numbers that fit
-pub fits_more : (numbers : Point → List ℤ) (points : List Point) (i : ℕ) (p : Point) → i < length points → p ≡ get_or points i p → FitRows numbers (take i points) → FitsRow (numbers p) → FitRows numbers (take (i + 1) points)
-fits_more numbers points i p lt is so_far here =
-    record { each = All-more (λ q. FitsRow (numbers q)) points i p lt so_far.each (subst (λ q. FitsRow (numbers q)) is here) }
+-- the numbers of these points fit
+pub rows_fit : (numbers : Point → List ℤ) (ps points : List Point) → ps ≡ points
+    → All (λ p. FitsRow (numbers p)) ps → FitRows numbers points
+rows_fit numbers ps points same fits =
+    record { each = subst (λ (l : List Point). All (λ p. FitsRow (numbers p)) l) same fits }
 
--- where those of one point don't fit, those of all don't
-pub no_fit : (numbers : Point → List ℤ) (points : List Point) (i : ℕ) (p : Point) → i < length points → p ≡ get_or points i p → (FitsRow (numbers p) → ⊥) → FitRows numbers points → ⊥
-no_fit numbers points i p lt is misses all =
-    misses (subst (λ q. FitsRow (numbers q)) (sym is) (All-get_or (λ q. FitsRow (numbers q)) points i p lt all.each))
+-- where they do, those of each do
+pub rows_fit_back : (numbers : Point → List ℤ) (ps points : List Point) → ps ≡ points
+    → FitRows numbers points → All (λ p. FitsRow (numbers p)) ps
+rows_fit_back numbers ps points same fits =
+    subst (λ (l : List Point). All (λ p. FitsRow (numbers p)) l) (sym same) fits.each
 
 -- the rows of one sheet more
 pub sheet_more : (numbers : Point → List ℤ) (binary : Bool) (old text new : List ℕ) (sheets : List SheetData) (i : ℕ) (s : SheetData) (points : List Point) → i < length sheets → s ≡ get_or sheets i s → points ≡ s.points

@@ -1,37 +1,46 @@
 //! The rows of cells and of their types.
 
 ghost use Rattle.std.specs.Prelude.{◌≡◌, ◌<◌, ◌≤◌, ◌+◌, ◌^◌, ◌++◌, ℕ, Bool, List, All, OnOk};
-ghost use Rattle.std.specs.Prelude.{length, map, true, false, pos};
+ghost use Rattle.std.specs.Prelude.{◌∷◌, [], length, drop, map, true, false, pos};
+ghost use Rattle.viz_mesh_write.specs.Rows.{row_of};
 ghost use Rattle.std.specs.List.{flat_map};
 ghost use Rattle.viz_sheet.specs.Arrays.{ranks_in};
 ghost use Rattle.viz_column.specs.declared.kind.Kind8.TheVariants.{I32};
-ghost use Rattle.viz_column.specs.Bytes.{bytes_of};
 ghost use Rattle.viz_mesh_write.specs.MeshText.{type_of};
 ghost use Rattle.viz_mesh_write.specs.Steps.Passes.{IsMovable, cell_row, row_of_size, type_row};
 ghost use Rattle.viz_mesh_write.specs.Steps.Passes.{cell_rows, index_text, index_bytes};
 ghost use Rattle.viz_mesh_write.specs.Steps.SheetCells.{points_by};
 
 use crate::cell_ranks::CellRanks;
-use crate::numbers::{put_count, put_int};
 use crate::sheet_cells::SheetCells;
 use std::alloc::AllocError;
+use viz_image_write::{Block, left_byte, left_count, left_int};
 use viz_sheet::Ranks;
+
+/// So many rows are made at once; each has at most 128 bytes.
+pub(crate) const ROWS: usize = 512;
 
 /// What is written of each cell. A function that is generic in it has no `match` in its loop.
 pub(crate) trait CellRow {
     ghost written: { Self → Bool → ℕ → List ℕ → List ℕ };
 
-    /// The row of a cell, with so many points in front of those of its sheet.
-    fn put(
+    /// Puts the row of a cell, with so many points in front of those of its sheet, in front of what
+    /// stands from `end` on, and returns where it begins.
+    fn put_left(
         &self,
-        text: &mut Vec<u8>,
+        block: &mut [u8],
+        end: usize,
         binary: bool,
         first: u32,
         ranks: &[u32],
-    ) -> Result<(), AllocError>
-        requires { IsMovable first ranks.now }
-        ensures { OnOk result (text.new.items
-            ≡ text.old.items ++ written self.now binary first ranks.now) };
+    ) -> usize
+        requires movable { IsMovable first ranks.now }
+        requires room { 128 ≤ end }
+        requires within { end ≤ length block.old }
+        ensures written { drop result block.new
+            ≡ written self.now binary first ranks.now ++ drop end block.old }
+        ensures at { result ≤ end }
+        ensures most { end ≤ result + 128 };
 }
 
 /// The numbers of each cell.
@@ -41,14 +50,16 @@ pub(crate) struct Every;
 impl CellRow for Every {
     ghost written = { λ _ binary first cell. cell_row binary first cell };
 
-    fn put(
+    #[inline(always)]
+    fn put_left(
         &self,
-        text: &mut Vec<u8>,
+        block: &mut [u8],
+        end: usize,
         binary: bool,
         first: u32,
         ranks: &[u32],
-    ) -> Result<(), AllocError> {
-        put_cell(text, binary, first, ranks)
+    ) -> usize {
+        left_cell(block, end, binary, first, ranks)
     }
 }
 
@@ -61,14 +72,16 @@ pub(crate) struct OfSize {
 impl CellRow for OfSize {
     ghost written = { λ s binary first cell. row_of_size s.size binary first cell };
 
-    fn put(
+    #[inline(always)]
+    fn put_left(
         &self,
-        text: &mut Vec<u8>,
+        block: &mut [u8],
+        end: usize,
         binary: bool,
         first: u32,
         ranks: &[u32],
-    ) -> Result<(), AllocError> {
-        put_of_size(text, binary, self.size, first, ranks)
+    ) -> usize {
+        left_of_size(block, end, binary, self.size, first, ranks)
     }
 }
 
@@ -79,91 +92,145 @@ pub(crate) struct Types;
 impl CellRow for Types {
     ghost written = { λ _ binary first cell. type_row binary first cell };
 
-    fn put(
+    #[inline(always)]
+    fn put_left(
         &self,
-        text: &mut Vec<u8>,
+        block: &mut [u8],
+        end: usize,
         binary: bool,
         _first: u32,
         ranks: &[u32],
-    ) -> Result<(), AllocError> {
-        put_type(text, binary, ranks)
+    ) -> usize {
+        left_type(block, end, binary, ranks)
     }
+}
+
+/// An index behind a space.
+#[inline(always)]
+fn left_index_word(block: &mut [u8], end: usize, first: u32, rank: u32) -> usize
+    requires below { first + rank < 2 ^ 31 }
+    requires room { 21 ≤ end }
+    requires within { end ≤ length block.old }
+    ensures written { drop result block.new ≡ index_text first rank ++ drop end block.old }
+    ensures at { result ≤ end }
+    ensures most { end ≤ result + 21 }
+{
+    let at = left_count(block, end, u64::from(first + rank));
+    left_byte(block, at, b' ')
 }
 
 /// The indices of a cell, each behind a space.
-fn put_index_words(text: &mut Vec<u8>, first: u32, ranks: &[u32]) -> Result<(), AllocError>
-    requires { All (λ r. first + r < 2 ^ 31) ranks.now }
-    ensures { OnOk result (text.new.items
-        ≡ text.old.items ++ flat_map (index_text first) ranks.now) }
+#[inline(always)]
+fn left_index_words(block: &mut [u8], end: usize, first: u32, ranks: &[u32]) -> usize
+    requires most { length ranks.now ≤ 4 }
+    requires below { All (λ r. first + r < 2 ^ 31) ranks.now }
+    requires room { 84 ≤ end }
+    requires within { end ≤ length block.old }
+    ensures written { drop result block.new
+        ≡ flat_map (index_text first) ranks.now ++ drop end block.old }
+    ensures at { result ≤ end }
+    ensures most { end ≤ result + 84 }
 {
-    for rank in ranks {
-        text.push(b' ')?;
-        put_count(text, u64::from(first + *rank))?;
+    let mut at = end;
+    let n = ranks.len();
+    for k in 0..n {
+        at = left_index_word(block, at, first, ranks[n - 1 - k]);
     }
-    Ok(())
+    at
 }
 
 /// The bytes of the indices of a cell.
-fn put_index_bytes(text: &mut Vec<u8>, first: u32, ranks: &[u32]) -> Result<(), AllocError>
-    requires { All (λ r. first + r < 2 ^ 31) ranks.now }
-    ensures { OnOk result (text.new.items
-        ≡ text.old.items ++ flat_map (index_bytes first) ranks.now) }
+#[inline(always)]
+fn left_index_bytes(block: &mut [u8], end: usize, first: u32, ranks: &[u32]) -> usize
+    requires most { length ranks.now ≤ 4 }
+    requires below { All (λ r. first + r < 2 ^ 31) ranks.now }
+    requires room { 16 ≤ end }
+    requires within { end ≤ length block.old }
+    ensures written { drop result block.new
+        ≡ flat_map (index_bytes first) ranks.now ++ drop end block.old }
+    ensures at { result ≤ end }
+    ensures most { end ≤ result + 16 }
 {
-    for rank in ranks {
-        put_int(text, first + *rank)?;
+    let mut at = end;
+    let n = ranks.len();
+    for k in 0..n {
+        at = left_int(block, at, first + ranks[n - 1 - k]);
     }
-    Ok(())
+    at
 }
 
 /// The line of a cell.
-fn put_cell_words(text: &mut Vec<u8>, first: u32, ranks: &[u32]) -> Result<(), AllocError>
-    requires { IsMovable first ranks.now }
-    ensures { OnOk result (text.new.items ≡ text.old.items ++ cell_row false first ranks.now) }
+#[inline(always)]
+fn left_cell_words(block: &mut [u8], end: usize, first: u32, ranks: &[u32]) -> usize
+    requires movable { IsMovable first ranks.now }
+    requires room { 128 ≤ end }
+    requires within { end ≤ length block.old }
+    ensures written { drop result block.new
+        ≡ cell_row false first ranks.now ++ drop end block.old }
+    ensures at { result ≤ end }
+    ensures most { end ≤ result + 128 }
 {
-    put_count(text, ranks.len() as u64)?;
-    put_index_words(text, first, ranks)?;
-    text.push(b'\n')?;
-    Ok(())
+    let newline = left_byte(block, end, b'\n');
+    let indices = left_index_words(block, newline, first, ranks);
+    left_count(block, indices, ranks.len() as u64)
 }
 
 /// The bytes of a cell.
-fn put_cell_bytes(text: &mut Vec<u8>, first: u32, ranks: &[u32]) -> Result<(), AllocError>
-    requires { IsMovable first ranks.now }
-    ensures { OnOk result (text.new.items ≡ text.old.items ++ cell_row true first ranks.now) }
+#[inline(always)]
+fn left_cell_bytes(block: &mut [u8], end: usize, first: u32, ranks: &[u32]) -> usize
+    requires movable { IsMovable first ranks.now }
+    requires room { 128 ≤ end }
+    requires within { end ≤ length block.old }
+    ensures written { drop result block.new
+        ≡ cell_row true first ranks.now ++ drop end block.old }
+    ensures at { result ≤ end }
+    ensures most { end ≤ result + 128 }
 {
-    put_int(text, ranks.len() as u32)?;
-    put_index_bytes(text, first, ranks)?;
-    Ok(())
+    let indices = left_index_bytes(block, end, first, ranks);
+    left_int(block, indices, ranks.len() as u32)
 }
 
 /// The row of a cell.
-fn put_cell(text: &mut Vec<u8>, binary: bool, first: u32, ranks: &[u32]) -> Result<(), AllocError>
-    requires { IsMovable first ranks.now }
-    ensures { OnOk result (text.new.items ≡ text.old.items ++ cell_row binary first ranks.now) }
+#[inline(always)]
+fn left_cell(block: &mut [u8], end: usize, binary: bool, first: u32, ranks: &[u32]) -> usize
+    requires movable { IsMovable first ranks.now }
+    requires room { 128 ≤ end }
+    requires within { end ≤ length block.old }
+    ensures written { drop result block.new
+        ≡ cell_row binary first ranks.now ++ drop end block.old }
+    ensures at { result ≤ end }
+    ensures most { end ≤ result + 128 }
 {
     if binary {
-        put_cell_bytes(text, first, ranks)
+        left_cell_bytes(block, end, first, ranks)
     } else {
-        put_cell_words(text, first, ranks)
+        left_cell_words(block, end, first, ranks)
     }
 }
 
 /// The row of a cell, where it has so many points.
-fn put_of_size(
-    text: &mut Vec<u8>,
+#[inline(always)]
+fn left_of_size(
+    block: &mut [u8],
+    end: usize,
     binary: bool,
     size: usize,
     first: u32,
     ranks: &[u32],
-) -> Result<(), AllocError>
-    requires { IsMovable first ranks.now }
-    ensures { OnOk result (text.new.items
-        ≡ text.old.items ++ row_of_size size binary first ranks.now) }
+) -> usize
+    requires movable { IsMovable first ranks.now }
+    requires room { 128 ≤ end }
+    requires within { end ≤ length block.old }
+    ensures written { drop result block.new
+        ≡ row_of_size size binary first ranks.now ++ drop end block.old }
+    ensures at { result ≤ end }
+    ensures most { end ≤ result + 128 }
 {
     if ranks.len() == size {
-        put_cell(text, binary, first, ranks)?;
+        left_cell(block, end, binary, first, ranks)
+    } else {
+        end
     }
-    Ok(())
 }
 
 /// VTK's type of a cell of so many points.
@@ -179,23 +246,83 @@ fn type_of(size: usize) -> u32
     }
 }
 
+/// The line of a type.
+#[inline(always)]
+fn left_type_line(block: &mut [u8], end: usize, number: u32) -> usize
+    requires room { 128 ≤ end }
+    requires within { end ≤ length block.old }
+    ensures written { drop result block.new
+        ≡ row_of false I32 (pos number ∷ []) ++ drop end block.old }
+    ensures at { result ≤ end }
+    ensures most { end ≤ result + 128 }
+{
+    let newline = left_byte(block, end, b'\n');
+    left_count(block, newline, u64::from(number))
+}
+
 /// The row of a cell's type.
-fn put_type(text: &mut Vec<u8>, binary: bool, ranks: &[u32]) -> Result<(), AllocError>
-    ensures { OnOk result (text.new.items ≡ text.old.items ++ type_row binary 0 ranks.now) }
+#[inline(always)]
+fn left_type(block: &mut [u8], end: usize, binary: bool, ranks: &[u32]) -> usize
+    requires room { 128 ≤ end }
+    requires within { end ≤ length block.old }
+    ensures written { drop result block.new
+        ≡ type_row binary 0 ranks.now ++ drop end block.old }
+    ensures at { result ≤ end }
+    ensures most { end ≤ result + 128 }
 {
     let number = type_of(ranks.len());
     if binary {
-        put_int(text, number)?;
+        left_int(block, end, number)
     } else {
-        put_count(text, u64::from(number))?;
-        text.push(b'\n')?;
+        left_type_line(block, end, number)
     }
-    Ok(())
+}
+
+/// The rows of cells of one type at the end of a block, and where they begin.
+fn fill<R: CellRow, C: CellRanks>(
+    block: &mut [u8],
+    binary: bool,
+    what: &R,
+    first: u32,
+    cells: &[C],
+) -> usize
+    requires movable { All (λ cell. IsMovable first (C.list cell)) cells.now }
+    requires few { length cells.now ≤ 512 }
+    requires room { length block.old ≡ 65536 }
+    ensures written { drop result block.new
+        ≡ flat_map (λ cell. R.written what.now binary first (C.list cell)) cells.now }
+    ensures at { result ≤ 65536 }
+{
+    let mut end = block.len();
+    let n = cells.len();
+    for k in 0..n {
+        end = what.put_left(block, end, binary, first, cells[n - 1 - k].list());
+    }
+    end
+}
+
+/// The rows of some cells of one type.
+fn put_part<R: CellRow, C: CellRanks>(
+    text: &mut Vec<u8>,
+    block: &mut Block,
+    binary: bool,
+    what: &R,
+    first: u32,
+    cells: &[C],
+) -> Result<(), AllocError>
+    requires movable { All (λ cell. IsMovable first (C.list cell)) cells.now }
+    requires few { length cells.now ≤ 512 }
+    ensures { OnOk result (text.new.items ≡ text.old.items
+        ++ flat_map (λ cell. R.written what.now binary first (C.list cell)) cells.now) }
+{
+    let start = fill(&mut block.bytes, binary, what, first, cells);
+    text.extend_from_slice(&block.bytes[start..])
 }
 
 /// The rows of cells of one type.
 fn put_cells<R: CellRow, C: CellRanks>(
     text: &mut Vec<u8>,
+    block: &mut Block,
     binary: bool,
     what: &R,
     first: u32,
@@ -205,8 +332,11 @@ fn put_cells<R: CellRow, C: CellRanks>(
     ensures { OnOk result (text.new.items ≡ text.old.items
         ++ flat_map (λ cell. R.written what.now binary first (C.list cell)) cells.now) }
 {
-    for cell in cells {
-        what.put(text, binary, first, cell.list())?;
+    let mut left = cells;
+    while !left.is_empty() {
+        let (front, behind) = left.split_at(ROWS.min(left.len()));
+        put_part(text, block, binary, what, first, front)?;
+        left = behind;
     }
     Ok(())
 }
@@ -214,6 +344,7 @@ fn put_cells<R: CellRow, C: CellRanks>(
 /// The rows of cells by ranks.
 fn put_ranks<R: CellRow>(
     text: &mut Vec<u8>,
+    block: &mut Block,
     binary: bool,
     what: &R,
     first: u32,
@@ -224,17 +355,18 @@ fn put_ranks<R: CellRow>(
         ≡ text.old.items ++ flat_map (R.written what.now binary first) (ranks_in ranks.now)) }
 {
     match ranks {
-        Ranks::Vertices(cells) => put_cells(text, binary, what, first, cells),
-        Ranks::Lines(cells) => put_cells(text, binary, what, first, cells),
-        Ranks::Triangles(cells) => put_cells(text, binary, what, first, cells),
-        Ranks::Tetrahedra(cells) => put_cells(text, binary, what, first, cells),
-        Ranks::Any(cells) => put_cells(text, binary, what, first, cells),
+        Ranks::Vertices(cells) => put_cells(text, block, binary, what, first, cells),
+        Ranks::Lines(cells) => put_cells(text, block, binary, what, first, cells),
+        Ranks::Triangles(cells) => put_cells(text, block, binary, what, first, cells),
+        Ranks::Tetrahedra(cells) => put_cells(text, block, binary, what, first, cells),
+        Ranks::Any(cells) => put_cells(text, block, binary, what, first, cells),
     }
 }
 
 /// The rows of the cells of a sheet.
 fn put_sheet_cells<R: CellRow, S: SheetCells>(
     text: &mut Vec<u8>,
+    block: &mut Block,
     binary: bool,
     what: &R,
     first: u32,
@@ -244,12 +376,13 @@ fn put_sheet_cells<R: CellRow, S: SheetCells>(
     ensures { OnOk result (text.new.items ≡ text.old.items
         ++ flat_map (R.written what.now binary first) (S.seen sheet.now).cells) }
 {
-    put_ranks(text, binary, what, first, sheet.cells())
+    put_ranks(text, block, binary, what, first, sheet.cells())
 }
 
 /// The rows of the cells of all sheets.
 pub(crate) fn put_all_cells<R: CellRow, S: SheetCells>(
     text: &mut Vec<u8>,
+    block: &mut Block,
     binary: bool,
     what: &R,
     sheets: &[S],
@@ -260,7 +393,7 @@ pub(crate) fn put_all_cells<R: CellRow, S: SheetCells>(
 {
     let mut first: u32 = 0;
     for sheet in sheets {
-        put_sheet_cells(text, binary, what, first, sheet)?;
+        put_sheet_cells(text, block, binary, what, first, sheet)?;
         first += sheet.points() as u32;
     }
     Ok(())

@@ -16,7 +16,7 @@ use crate::sections::put_cells_text;
 use crate::tally::{Tally, counted};
 use std::alloc::{AllocError, Global};
 use viz_base::Bytes;
-use viz_image_write::{Style, WriteStop};
+use viz_image_write::{Block, Style, WriteStop};
 use viz_sheet::{Mesh, Sheet};
 
 /// The room for all lines in front of numbers.
@@ -73,6 +73,7 @@ fn is_grid(tally: &Tally, _sheets: &[Sheet]) -> bool
 /// The points.
 pub(crate) fn put_points_text(
     text: &mut Vec<u8>,
+    block: &mut Block,
     binary: bool,
     digits: u8,
     n: u64,
@@ -88,7 +89,7 @@ pub(crate) fn put_points_text(
     ensures few { result ≢ Err WriteStop.TooMany }
 {
     put_points_line(text, n)?;
-    put_points(text, binary, &Coordinates { digits }, sheets)?;
+    put_points(text, block, binary, &Coordinates { digits }, sheets)?;
     put_end(text, binary, n)?;
     Ok(())
 }
@@ -96,6 +97,7 @@ pub(crate) fn put_points_text(
 /// The scalars, where there are points.
 pub(crate) fn put_scalars_text(
     text: &mut Vec<u8>,
+    block: &mut Block,
     binary: bool,
     n: u64,
     sheets: &[Sheet],
@@ -112,7 +114,7 @@ pub(crate) fn put_scalars_text(
         return Ok(());
     }
     put_scalars_head(text, n)?;
-    put_points(text, binary, &Scalar, sheets)?;
+    put_points(text, block, binary, &Scalar, sheets)?;
     put_end(text, binary, n)?;
     Ok(())
 }
@@ -120,6 +122,7 @@ pub(crate) fn put_scalars_text(
 /// The cells of sheets.
 fn put_sheets(
     text: &mut Vec<u8>,
+    block: &mut Block,
     binary: bool,
     tally: &Tally,
     sheets: &[Sheet],
@@ -128,13 +131,14 @@ fn put_sheets(
     ensures { OnOk result (text.new.items
         ≡ text.old.items ++ cells_text binary (cells_of sheets.now)) }
 {
-    put_cells_text(text, binary, tally, sheets)
+    put_cells_text(text, block, binary, tally, sheets)
 }
 
 /// The whole text.
 #[tactic(auto, unfolding(crate::specs::MeshText::mesh_text))]
 fn put_mesh(
     text: &mut Vec<u8>,
+    block: &mut Block,
     binary: bool,
     digits: u8,
     tally: &Tally,
@@ -149,9 +153,9 @@ fn put_mesh(
     ensures few { result ≢ Err WriteStop.TooMany }
 {
     put_head(text, binary, digits, tally, sheets)?;
-    put_points_text(text, binary, digits, tally.points, sheets)?;
-    put_sheets(text, binary, tally, sheets)?;
-    put_scalars_text(text, binary, tally.points, sheets)?;
+    put_points_text(text, block, binary, digits, tally.points, sheets)?;
+    put_sheets(text, block, binary, tally, sheets)?;
+    put_scalars_text(text, block, binary, tally.points, sheets)?;
     Ok(())
 }
 
@@ -170,8 +174,16 @@ fn mesh_bytes(
         → ¬ FitNumbers style.now.digits sheets.now }
     ensures few { ¬ IsErrOf result WriteStop.TooMany }
 {
+    let mut block = Block::new(alloc)?;
     let mut text = Vec::with_capacity(alloc, room(style.binary, tally) as usize)?;
-    put_mesh(&mut text, style.binary, style.digits, tally, sheets)?;
+    put_mesh(
+        &mut text,
+        &mut block,
+        style.binary,
+        style.digits,
+        tally,
+        sheets,
+    )?;
     Ok(text)
 }
 

@@ -1,21 +1,13 @@
 //! Numbers as words and as bytes, and rows of them.
 
-ghost use Rattle.std.specs.Prelude.{◌≡◌, ◌++◌, ◌∷◌, [], OnOk, pos, true, false};
+ghost use Rattle.std.specs.Prelude.{◌≡◌, ◌≤◌, ◌+◌, ◌++◌, ◌∷◌, [], OnOk, true, false, length, drop};
 ghost use Rattle.std.specs.Fmt.{decimal, signed_decimal};
-ghost use Rattle.viz_column.specs.declared.kind.Kind8.TheVariants.{I32, I64};
-ghost use Rattle.viz_column.specs.Bytes.{bytes_of};
+ghost use Rattle.viz_column.specs.declared.kind.Kind8.TheVariants.{I64};
 ghost use Rattle.viz_mesh_write.specs.Rows.{row_of, block_end};
 
 use itoa::Buffer;
 use std::alloc::AllocError;
-
-/// A number in words.
-fn put_number(text: &mut Vec<u8>, n: &i64) -> Result<(), AllocError>
-    ensures { OnOk result (text.new.items ≡ text.old.items ++ signed_decimal n.now) }
-{
-    let mut buffer = Buffer::new();
-    text.extend_from_slice(buffer.format(*n).as_bytes())
-}
+use viz_image_write::{left_byte, left_long, left_number};
 
 /// A count in words.
 pub(crate) fn put_count(text: &mut Vec<u8>, n: u64) -> Result<(), AllocError>
@@ -25,74 +17,103 @@ pub(crate) fn put_count(text: &mut Vec<u8>, n: u64) -> Result<(), AllocError>
     text.extend_from_slice(buffer.format(n).as_bytes())
 }
 
-/// The 64 bits of a number, the highest byte first.
-fn put_long(text: &mut Vec<u8>, n: &i64) -> Result<(), AllocError>
-    ensures { OnOk result (text.new.items ≡ text.old.items ++ bytes_of I64 n.now) }
-{
-    text.extend_from_slice(&n.to_be_bytes())
-}
-
-/// The 32 bits of a number, the highest byte first.
-pub(crate) fn put_int(text: &mut Vec<u8>, n: u32) -> Result<(), AllocError>
-    ensures { OnOk result (text.new.items ≡ text.old.items ++ bytes_of I32 (pos n)) }
-{
-    text.extend_from_slice(&n.to_be_bytes())
-}
-
 /// Three numbers as words, on a line.
-fn put_three_words(text: &mut Vec<u8>, x: &i64, y: &i64, z: &i64) -> Result<(), AllocError>
-    ensures { OnOk result (text.new.items
-        ≡ text.old.items ++ row_of false I64 (x.now ∷ y.now ∷ z.now ∷ [])) }
+#[inline(always)]
+fn left_three_words(block: &mut [u8], end: usize, x: &i64, y: &i64, z: &i64) -> usize
+    requires room { 128 ≤ end }
+    requires within { end ≤ length block.old }
+    ensures written { drop result block.new
+        ≡ row_of false I64 (x.now ∷ y.now ∷ z.now ∷ []) ++ drop end block.old }
+    ensures at { result ≤ end }
+    ensures most { end ≤ result + 128 }
 {
-    put_number(text, x)?;
-    text.push(b' ')?;
-    put_number(text, y)?;
-    text.push(b' ')?;
-    put_number(text, z)?;
-    text.push(b'\n')?;
-    Ok(())
+    let newline = left_byte(block, end, b'\n');
+    let third = left_word(block, newline, z);
+    let second = left_word(block, third, y);
+    left_number(block, second, x)
+}
+
+/// A number behind a space.
+#[inline(always)]
+fn left_word(block: &mut [u8], end: usize, n: &i64) -> usize
+    requires room { 22 ≤ end }
+    requires within { end ≤ length block.old }
+    ensures written { drop result block.new ≡ 32 ∷ signed_decimal n.now ++ drop end block.old }
+    ensures at { result ≤ end }
+    ensures most { end ≤ result + 22 }
+{
+    let at = left_number(block, end, n);
+    left_byte(block, at, b' ')
 }
 
 /// The bytes of three numbers.
-fn put_three_longs(text: &mut Vec<u8>, x: &i64, y: &i64, z: &i64) -> Result<(), AllocError>
-    ensures { OnOk result (text.new.items
-        ≡ text.old.items ++ row_of true I64 (x.now ∷ y.now ∷ z.now ∷ [])) }
+#[inline(always)]
+fn left_three_longs(block: &mut [u8], end: usize, x: &i64, y: &i64, z: &i64) -> usize
+    requires room { 128 ≤ end }
+    requires within { end ≤ length block.old }
+    ensures written { drop result block.new
+        ≡ row_of true I64 (x.now ∷ y.now ∷ z.now ∷ []) ++ drop end block.old }
+    ensures at { result ≤ end }
+    ensures most { end ≤ result + 128 }
 {
-    put_long(text, x)?;
-    put_long(text, y)?;
-    put_long(text, z)?;
-    Ok(())
+    let third = left_long(block, end, z);
+    let second = left_long(block, third, y);
+    left_long(block, second, x)
 }
 
 /// A row of three numbers.
-pub(crate) fn put_three(
-    text: &mut Vec<u8>,
+#[inline(always)]
+pub(crate) fn left_three(
+    block: &mut [u8],
+    end: usize,
     binary: bool,
     x: &i64,
     y: &i64,
     z: &i64,
-) -> Result<(), AllocError>
-    ensures { OnOk result (text.new.items
-        ≡ text.old.items ++ row_of binary I64 (x.now ∷ y.now ∷ z.now ∷ [])) }
+) -> usize
+    requires room { 128 ≤ end }
+    requires within { end ≤ length block.old }
+    ensures written { drop result block.new
+        ≡ row_of binary I64 (x.now ∷ y.now ∷ z.now ∷ []) ++ drop end block.old }
+    ensures at { result ≤ end }
+    ensures most { end ≤ result + 128 }
 {
     if binary {
-        put_three_longs(text, x, y, z)
+        left_three_longs(block, end, x, y, z)
     } else {
-        put_three_words(text, x, y, z)
+        left_three_words(block, end, x, y, z)
     }
 }
 
+/// A number as words, on a line.
+#[inline(always)]
+fn left_line(block: &mut [u8], end: usize, n: &i64) -> usize
+    requires room { 128 ≤ end }
+    requires within { end ≤ length block.old }
+    ensures written { drop result block.new
+        ≡ row_of false I64 (n.now ∷ []) ++ drop end block.old }
+    ensures at { result ≤ end }
+    ensures most { end ≤ result + 128 }
+{
+    let newline = left_byte(block, end, b'\n');
+    left_number(block, newline, n)
+}
+
 /// A row of one number.
-pub(crate) fn put_one(text: &mut Vec<u8>, binary: bool, n: &i64) -> Result<(), AllocError>
-    ensures { OnOk result (text.new.items ≡ text.old.items ++ row_of binary I64 (n.now ∷ [])) }
+#[inline(always)]
+pub(crate) fn left_one(block: &mut [u8], end: usize, binary: bool, n: &i64) -> usize
+    requires room { 128 ≤ end }
+    requires within { end ≤ length block.old }
+    ensures written { drop result block.new
+        ≡ row_of binary I64 (n.now ∷ []) ++ drop end block.old }
+    ensures at { result ≤ end }
+    ensures most { end ≤ result + 128 }
 {
     if binary {
-        put_long(text, n)?;
+        left_long(block, end, n)
     } else {
-        put_number(text, n)?;
-        text.push(b'\n')?;
+        left_line(block, end, n)
     }
-    Ok(())
 }
 
 /// What stands behind so many rows: in BINARY a newline, where there is one.

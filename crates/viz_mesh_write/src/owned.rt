@@ -13,12 +13,13 @@ use crate::sheet_cells::all_own_cells;
 use crate::tally::{Tally, counted};
 use std::alloc::{AllocError, Global};
 use viz_base::Bytes;
-use viz_image_write::{Style, WriteStop};
+use viz_image_write::{Block, Style, WriteStop};
 use viz_sheet::{Mesh, Sheet};
 
 /// The scalars, where there are points, as new bytes.
 fn scalars_bytes(
     alloc: Global,
+    block: &mut Block,
     binary: bool,
     n: u64,
     sheets: &[Sheet],
@@ -33,7 +34,7 @@ fn scalars_bytes(
 {
     let long = if binary { 8 } else { LONG_WORD };
     let mut text = Vec::with_capacity(alloc, (ROOM_OF_HEADS + long * n) as usize)?;
-    put_scalars_text(&mut text, binary, n, sheets)?;
+    put_scalars_text(&mut text, block, binary, n, sheets)?;
     Ok(text)
 }
 
@@ -41,6 +42,7 @@ fn scalars_bytes(
 fn put_own_sheets(
     alloc: Global,
     text: &mut Vec<u8>,
+    block: &mut Block,
     binary: bool,
     tally: &Tally,
     sheets: Vec<Sheet>,
@@ -50,7 +52,7 @@ fn put_own_sheets(
         ≡ text.old.items ++ cells_text binary (cells_of sheets.items)) }
 {
     let cells = all_own_cells(alloc, sheets)?;
-    put_cells_text(text, binary, tally, &cells)
+    put_cells_text(text, block, binary, tally, &cells)
 }
 
 /// The whole text of sheets that are given up on the way: their names and points before the text of
@@ -59,6 +61,7 @@ fn put_own_sheets(
 fn put_own_mesh(
     alloc: Global,
     text: &mut Vec<u8>,
+    block: &mut Block,
     style: &Style,
     tally: &Tally,
     sheets: Vec<Sheet>,
@@ -73,9 +76,9 @@ fn put_own_mesh(
 {
     let Style { binary, digits } = *style;
     put_head(text, binary, digits, tally, &sheets)?;
-    put_points_text(text, binary, digits, tally.points, &sheets)?;
-    let scalars = scalars_bytes(alloc, binary, tally.points, &sheets)?;
-    put_own_sheets(alloc, text, binary, tally, sheets)?;
+    put_points_text(text, block, binary, digits, tally.points, &sheets)?;
+    let scalars = scalars_bytes(alloc, block, binary, tally.points, &sheets)?;
+    put_own_sheets(alloc, text, block, binary, tally, sheets)?;
     text.extend_from_slice(&scalars)?;
     Ok(())
 }
@@ -95,8 +98,9 @@ fn own_mesh_bytes(
         → ¬ FitNumbers style.now.digits sheets.items }
     ensures few { ¬ IsErrOf result WriteStop.TooMany }
 {
+    let mut block = Block::new(alloc)?;
     let mut text = Vec::with_capacity(alloc, room(style.binary, tally) as usize)?;
-    put_own_mesh(alloc, &mut text, style, tally, sheets)?;
+    put_own_mesh(alloc, &mut text, &mut block, style, tally, sheets)?;
     Ok(text)
 }
 

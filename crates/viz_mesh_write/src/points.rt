@@ -1,7 +1,7 @@
 //! The coordinates and scalars of points, a row for each.
 
-ghost use Rattle.std.specs.Prelude.{◌≡◌, ◌≢◌, ◌≤◌, ◌++◌, ◌↔◌, ℤ, List, Err, OnOk, IfOk, IsOk};
-ghost use Rattle.std.specs.Prelude.{IsErrOf, FitsSigned};
+ghost use Rattle.std.specs.Prelude.{◌≡◌, ◌≢◌, ◌≤◌, ◌+◌, ◌++◌, ◌↔◌, ℤ, List, Err, OnOk, IfOk};
+ghost use Rattle.std.specs.Prelude.{IsOk, IsErrOf, FitsSigned, length, drop};
 ghost use Rattle.std.specs.Int.{w64};
 ghost use Rattle.viz_column.specs.declared.kind.Kind8.TheVariants.{I64};
 ghost use Rattle.viz_fraction.specs.Points.{Point};
@@ -11,24 +11,70 @@ ghost use Rattle.viz_mesh_write.specs.Cells.{points_of};
 ghost use Rattle.viz_mesh_write.specs.Fits.{FitsRow, FitRows};
 ghost use Rattle.viz_mesh_write.specs.MeshText.{coordinates, scalar, scalars};
 ghost use Rattle.viz_mesh_write.specs.Rows.{row_of};
-ghost use Rattle.viz_mesh_write.specs.Steps.Passes.{point_rows};
+ghost use Rattle.viz_mesh_write.specs.Steps.Passes.{point_rows, rows_by, FitBy};
 
-use crate::numbers::{put_one, put_three};
-use viz_fraction::{Point5, TooWide, fixed};
-use viz_image_write::WriteStop;
+use crate::cell_rows::ROWS;
+use crate::numbers::{left_one, left_three};
+use viz_fraction::{Point5, SmallPoint, TooWide, fixed};
+use viz_image_write::{Block, WriteStop};
 use viz_sheet::{Places, Sheet};
+
+/// A point of either width, made wide.
+pub(crate) trait WidePoint {
+    ghost point: { Self → Point };
+
+    /// The same point.
+    fn wide(&self) -> Point5
+        ensures { result ≡ point self.now };
+}
+
+impl WidePoint for SmallPoint {
+    ghost point = { λ p. p };
+
+    #[inline(always)]
+    fn wide(&self) -> Point5 {
+        small_wide(self)
+    }
+}
+
+impl WidePoint for Point5 {
+    ghost point = { λ p. p };
+
+    #[inline(always)]
+    fn wide(&self) -> Point5 {
+        *self
+    }
+}
+
+/// A small point, made wide.
+#[inline(always)]
+fn small_wide(p: &SmallPoint) -> Point5
+    ensures { result ≡ p.now }
+{
+    p.wide()
+}
 
 /// What is written of each point. A function that is generic in it has no `match` in its loop.
 pub(crate) trait PointNumbers {
     ghost numbers: { Self → Point → List ℤ };
 
-    /// The row of a point.
-    fn put(&self, text: &mut Vec<u8>, binary: bool, p: &Point5) -> Result<(), WriteStop>
-        ensures ok { OnOk result (text.new.items
-            ≡ text.old.items ++ row_of binary I64 (numbers self.now p.now)) }
+    /// Puts the row of a point in front of what stands from `end` on, and returns where it begins.
+    fn put_left(
+        &self,
+        block: &mut [u8],
+        end: usize,
+        binary: bool,
+        p: &Point5,
+    ) -> Result<usize, WriteStop>
+        requires room { 128 ≤ end }
+        requires within { end ≤ length block.old }
+        ensures ok { IfOk result (λ at. drop at block.new
+            ≡ row_of binary I64 (numbers self.now p.now) ++ drop end block.old) }
+        ensures at { IfOk result (λ at. at ≤ end) }
+        ensures most { IfOk result (λ at. end ≤ at + 128) }
         ensures fits { OnOk result (FitsRow (numbers self.now p.now)) }
         ensures too_wide { IsErrOf result WriteStop.TooWide → ¬ FitsRow (numbers self.now p.now) }
-        ensures few { result ≢ Err WriteStop.TooMany };
+        ensures few { ¬ IsErrOf result WriteStop.TooMany };
 }
 
 /// The coordinates, at so many places.
@@ -41,8 +87,15 @@ pub(crate) struct Coordinates {
 impl PointNumbers for Coordinates {
     ghost numbers = { λ c p. coordinates c.digits p };
 
-    fn put(&self, text: &mut Vec<u8>, binary: bool, p: &Point5) -> Result<(), WriteStop> {
-        put_coordinates(text, binary, self.digits, p)
+    #[inline(always)]
+    fn put_left(
+        &self,
+        block: &mut [u8],
+        end: usize,
+        binary: bool,
+        p: &Point5,
+    ) -> Result<usize, WriteStop> {
+        left_coordinates(block, end, binary, self.digits, p)
     }
 }
 
@@ -53,8 +106,15 @@ pub(crate) struct Scalar;
 impl PointNumbers for Scalar {
     ghost numbers = { λ _ p. scalars p };
 
-    fn put(&self, text: &mut Vec<u8>, binary: bool, p: &Point5) -> Result<(), WriteStop> {
-        put_scalar(text, binary, p)
+    #[inline(always)]
+    fn put_left(
+        &self,
+        block: &mut [u8],
+        end: usize,
+        binary: bool,
+        p: &Point5,
+    ) -> Result<usize, WriteStop> {
+        left_scalar(block, end, binary, p)
     }
 }
 
@@ -94,42 +154,122 @@ fn written_scalar(p: &Point5) -> Result<i64, TooWide>
 }
 
 /// The row of a point's coordinates.
-fn put_coordinates(
-    text: &mut Vec<u8>,
+#[inline(always)]
+fn left_coordinates(
+    block: &mut [u8],
+    end: usize,
     binary: bool,
     digits: u8,
     p: &Point5,
-) -> Result<(), WriteStop>
-    requires { digits ≤ 9 }
-    ensures ok { OnOk result (text.new.items
-        ≡ text.old.items ++ row_of binary I64 (coordinates digits p.now)) }
+) -> Result<usize, WriteStop>
+    requires digits { digits ≤ 9 }
+    requires room { 128 ≤ end }
+    requires within { end ≤ length block.old }
+    ensures ok { IfOk result (λ at. drop at block.new
+        ≡ row_of binary I64 (coordinates digits p.now) ++ drop end block.old) }
+    ensures at { IfOk result (λ at. at ≤ end) }
+    ensures most { IfOk result (λ at. end ≤ at + 128) }
     ensures fits { OnOk result (FitsRow (coordinates digits p.now)) }
     ensures too_wide { IsErrOf result WriteStop.TooWide → ¬ FitsRow (coordinates digits p.now) }
-    ensures few { result ≢ Err WriteStop.TooMany }
+    ensures few { ¬ IsErrOf result WriteStop.TooMany }
 {
     let x = written_x(p, digits)?;
     let y = written_y(p, digits)?;
     let z = written_z(p, digits)?;
-    put_three(text, binary, &x, &y, &z)?;
-    Ok(())
+    Ok(left_three(block, end, binary, &x, &y, &z))
 }
 
 /// The row of a point's scalar.
-fn put_scalar(text: &mut Vec<u8>, binary: bool, p: &Point5) -> Result<(), WriteStop>
-    ensures ok { OnOk result (text.new.items
-        ≡ text.old.items ++ row_of binary I64 (scalars p.now)) }
+#[inline(always)]
+fn left_scalar(block: &mut [u8], end: usize, binary: bool, p: &Point5) -> Result<usize, WriteStop>
+    requires room { 128 ≤ end }
+    requires within { end ≤ length block.old }
+    ensures ok { IfOk result (λ at. drop at block.new
+        ≡ row_of binary I64 (scalars p.now) ++ drop end block.old) }
+    ensures at { IfOk result (λ at. at ≤ end) }
+    ensures most { IfOk result (λ at. end ≤ at + 128) }
     ensures fits { OnOk result (FitsRow (scalars p.now)) }
     ensures too_wide { IsErrOf result WriteStop.TooWide → ¬ FitsRow (scalars p.now) }
-    ensures few { result ≢ Err WriteStop.TooMany }
+    ensures few { ¬ IsErrOf result WriteStop.TooMany }
 {
     let scalar = written_scalar(p)?;
-    put_one(text, binary, &scalar)?;
+    Ok(left_one(block, end, binary, &scalar))
+}
+
+/// The rows of points at the end of a block, and where they begin.
+fn fill<N: PointNumbers, P: WidePoint>(
+    block: &mut [u8],
+    binary: bool,
+    what: &N,
+    points: &[P],
+) -> Result<usize, WriteStop>
+    requires few { length points.now ≤ 512 }
+    requires room { length block.old ≡ 65536 }
+    ensures ok { IfOk result (λ at. drop at block.new
+        ≡ rows_by P.point (N.numbers what.now) binary points.now) }
+    ensures at { IfOk result (λ at. at ≤ 65536) }
+    ensures fits { OnOk result (FitBy P.point (N.numbers what.now) points.now) }
+    ensures too_wide { IsErrOf result WriteStop.TooWide
+        → ¬ FitBy P.point (N.numbers what.now) points.now }
+    ensures few { ¬ IsErrOf result WriteStop.TooMany }
+{
+    let mut end = block.len();
+    let n = points.len();
+    for k in 0..n {
+        end = what.put_left(block, end, binary, &points[n - 1 - k].wide())?;
+    }
+    Ok(end)
+}
+
+/// The rows of some points.
+fn put_part<N: PointNumbers, P: WidePoint>(
+    text: &mut Vec<u8>,
+    block: &mut Block,
+    binary: bool,
+    what: &N,
+    points: &[P],
+) -> Result<(), WriteStop>
+    requires few { length points.now ≤ 512 }
+    ensures ok { OnOk result (text.new.items
+        ≡ text.old.items ++ rows_by P.point (N.numbers what.now) binary points.now) }
+    ensures fits { OnOk result (FitBy P.point (N.numbers what.now) points.now) }
+    ensures too_wide { IsErrOf result WriteStop.TooWide
+        → ¬ FitBy P.point (N.numbers what.now) points.now }
+    ensures few { result ≢ Err WriteStop.TooMany }
+{
+    let start = fill(&mut block.bytes, binary, what, points)?;
+    text.extend_from_slice(&block.bytes[start..])?;
+    Ok(())
+}
+
+/// The rows of points of one width.
+fn put_width<N: PointNumbers, P: WidePoint>(
+    text: &mut Vec<u8>,
+    block: &mut Block,
+    binary: bool,
+    what: &N,
+    points: &[P],
+) -> Result<(), WriteStop>
+    ensures ok { OnOk result (text.new.items
+        ≡ text.old.items ++ rows_by P.point (N.numbers what.now) binary points.now) }
+    ensures fits { OnOk result (FitBy P.point (N.numbers what.now) points.now) }
+    ensures too_wide { IsErrOf result WriteStop.TooWide
+        → ¬ FitBy P.point (N.numbers what.now) points.now }
+    ensures few { result ≢ Err WriteStop.TooMany }
+{
+    let mut left = points;
+    while !left.is_empty() {
+        let (front, behind) = left.split_at(ROWS.min(left.len()));
+        put_part(text, block, binary, what, front)?;
+        left = behind;
+    }
     Ok(())
 }
 
 /// The rows of the points of one sheet.
 fn put_sheet_points<N: PointNumbers>(
     text: &mut Vec<u8>,
+    block: &mut Block,
     binary: bool,
     what: &N,
     places: &Places,
@@ -141,15 +281,16 @@ fn put_sheet_points<N: PointNumbers>(
         → ¬ FitRows (N.numbers what.now) (points_in places.now) }
     ensures few { result ≢ Err WriteStop.TooMany }
 {
-    for rank in 0..places.len() {
-        what.put(text, binary, &places.get(rank))?;
+    match places {
+        Places::Small(points) => put_width(text, block, binary, what, points),
+        Places::Wide(points) => put_width(text, block, binary, what, points),
     }
-    Ok(())
 }
 
 /// The rows of all points.
 pub(crate) fn put_points<N: PointNumbers>(
     text: &mut Vec<u8>,
+    block: &mut Block,
     binary: bool,
     what: &N,
     sheets: &[Sheet],
@@ -162,7 +303,7 @@ pub(crate) fn put_points<N: PointNumbers>(
     ensures few { result ≢ Err WriteStop.TooMany }
 {
     for sheet in sheets {
-        put_sheet_points(text, binary, what, sheet.places())?;
+        put_sheet_points(text, block, binary, what, sheet.places())?;
     }
     Ok(())
 }

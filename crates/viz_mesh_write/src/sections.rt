@@ -15,10 +15,12 @@ use crate::numbers::put_end;
 use crate::sheet_cells::SheetCells;
 use crate::tally::Tally;
 use std::alloc::AllocError;
+use viz_image_write::Block;
 
 /// The rows of cells, and what stands behind so many.
 fn put_block<R: CellRow, S: SheetCells>(
     text: &mut Vec<u8>,
+    block: &mut Block,
     binary: bool,
     what: &R,
     n: u64,
@@ -29,7 +31,7 @@ fn put_block<R: CellRow, S: SheetCells>(
         ++ (cell_rows (R.written what.now binary) 0 (map S.seen sheets.now)
         ++ block_end binary n)) }
 {
-    put_all_cells(text, binary, what, sheets)?;
+    put_all_cells(text, block, binary, what, sheets)?;
     put_end(text, binary, n)?;
     Ok(())
 }
@@ -37,6 +39,7 @@ fn put_block<R: CellRow, S: SheetCells>(
 /// The cells of so many points as a section, where there are any.
 fn put_some_section<S: SheetCells>(
     text: &mut Vec<u8>,
+    block: &mut Block,
     binary: bool,
     keyword: &[u8],
     size: usize,
@@ -55,7 +58,7 @@ fn put_some_section<S: SheetCells>(
         return Ok(());
     }
     put_section_line(text, keyword, n, (size as u64 + 1) * n)?;
-    put_block(text, binary, &OfSize { size }, n, sheets)?;
+    put_block(text, block, binary, &OfSize { size }, n, sheets)?;
     Ok(())
 }
 
@@ -63,6 +66,7 @@ fn put_some_section<S: SheetCells>(
 #[tactic(auto, unfolding(crate::specs::MeshText::parts_text))]
 fn put_parts<S: SheetCells>(
     text: &mut Vec<u8>,
+    block: &mut Block,
     binary: bool,
     tally: &Tally,
     sheets: &[S],
@@ -75,15 +79,16 @@ fn put_parts<S: SheetCells>(
     ensures { OnOk result (text.new.items
         ≡ text.old.items ++ parts_text binary (indices_by S.seen sheets.now)) }
 {
-    put_some_section(text, binary, b"VERTICES", 1, tally.vertices, sheets)?;
-    put_some_section(text, binary, b"LINES", 2, tally.lines, sheets)?;
-    put_some_section(text, binary, b"POLYGONS", 3, tally.triangles, sheets)?;
+    put_some_section(text, block, binary, b"VERTICES", 1, tally.vertices, sheets)?;
+    put_some_section(text, block, binary, b"LINES", 2, tally.lines, sheets)?;
+    put_some_section(text, block, binary, b"POLYGONS", 3, tally.triangles, sheets)?;
     Ok(())
 }
 
 /// The cells of polydata.
 fn put_poly<S: SheetCells>(
     text: &mut Vec<u8>,
+    block: &mut Block,
     binary: bool,
     tally: &Tally,
     sheets: &[S],
@@ -97,7 +102,7 @@ fn put_poly<S: SheetCells>(
     if tally.cells() == 0 {
         put_section_line(text, b"POLYGONS", 0, 0)?;
     } else {
-        put_parts(text, binary, tally, sheets)?;
+        put_parts(text, block, binary, tally, sheets)?;
     }
     Ok(())
 }
@@ -105,6 +110,7 @@ fn put_poly<S: SheetCells>(
 /// The types of the cells of a grid.
 fn put_types<S: SheetCells>(
     text: &mut Vec<u8>,
+    block: &mut Block,
     binary: bool,
     n: u64,
     sheets: &[S],
@@ -115,13 +121,14 @@ fn put_types<S: SheetCells>(
         ≡ text.old.items ++ types_text binary (indices_by S.seen sheets.now)) }
 {
     put_types_line(text, n)?;
-    put_block(text, binary, &Types, n, sheets)?;
+    put_block(text, block, binary, &Types, n, sheets)?;
     Ok(())
 }
 
 /// The cells of a grid, and their types.
 fn put_grid<S: SheetCells>(
     text: &mut Vec<u8>,
+    block: &mut Block,
     binary: bool,
     tally: &Tally,
     sheets: &[S],
@@ -133,14 +140,15 @@ fn put_grid<S: SheetCells>(
 {
     let n = tally.cells();
     put_section_line(text, b"CELLS", n, tally.size())?;
-    put_block(text, binary, &Every, n, sheets)?;
-    put_types(text, binary, n, sheets)?;
+    put_block(text, block, binary, &Every, n, sheets)?;
+    put_types(text, block, binary, n, sheets)?;
     Ok(())
 }
 
 /// The cells: of a grid where a tetrahedron is there, and else of polydata.
 pub(crate) fn put_cells_text<S: SheetCells>(
     text: &mut Vec<u8>,
+    block: &mut Block,
     binary: bool,
     tally: &Tally,
     sheets: &[S],
@@ -151,8 +159,8 @@ pub(crate) fn put_cells_text<S: SheetCells>(
         ≡ text.old.items ++ cells_text binary (indices_by S.seen sheets.now)) }
 {
     if tally.tetrahedra == 0 {
-        put_poly(text, binary, tally, sheets)
+        put_poly(text, block, binary, tally, sheets)
     } else {
-        put_grid(text, binary, tally, sheets)
+        put_grid(text, block, binary, tally, sheets)
     }
 }

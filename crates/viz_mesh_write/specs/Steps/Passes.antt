@@ -8,12 +8,21 @@ use Rattle.viz_column.specs.declared.kind.Kind8.TheVariants.{I32, I64}
 use Rattle.viz_column.specs.Bytes.{bytes_of}
 use Rattle.viz_mesh_write.specs.Cells.{moved}
 use Rattle.viz_mesh_write.specs.Rows.{row_of}
+use Rattle.viz_mesh_write.specs.Fits.{FitsRow}
 use Rattle.viz_mesh_write.specs.MeshText.{cell_numbers, type_of}
 use Rattle.viz_mesh_write.specs.Steps.SheetCells.{CellsData}
 
 -- the written numbers of points, a row for each
 abbrev pub point_rows : (Point → List ℤ) → Bool → List Point → List ℕ
 point_rows numbers binary points = flat_map (λ p. row_of binary I64 (numbers p)) points
+
+-- the same of what is seen as points
+abbrev pub rows_by : {X : Type 0} → (X → Point) → (Point → List ℤ) → Bool → List X → List ℕ
+rows_by point numbers binary items = flat_map (λ x. row_of binary I64 (numbers (point x))) items
+
+-- the written numbers of each of them fit signed 64 bits
+abbrev pub FitBy : {X : Type 0} → (X → Point) → (Point → List ℤ) → List X → Type 0
+FitBy point numbers items = All (λ x. FitsRow (numbers (point x))) items
 
 -- a cell by ranks can be written with so many points in front
 pub record IsMovable (first : ℕ) (cell : List ℕ) : Type 0 where

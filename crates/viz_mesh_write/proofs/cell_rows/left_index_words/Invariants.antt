@@ -1,0 +1,12 @@
+use Rattle.std.proofs.Common.{◌≡◌, ◌≤◌, ◌*◌, ◌+◌, ◌-◌, ◌++◌, length, drop}
+use Rattle.std.specs.List.{flat_map}
+use Rattle.viz_mesh_write.specs.Steps.Passes.{index_text}
+use Rattle.viz_mesh_write.proofs.cell_rows.left_index_words.Given as goal
+
+-- the last indices stand in front of what stood there
+abbrev pub invariant-loop-k : goal.invariant-loop-k
+invariant-loop-k l = (drop l.at l.block
+    ≡ flat_map (index_text l.first) (drop (length l.ranks - l.k) l.ranks) ++ drop l.end l.fn.block)
+    × (length l.block ≡ length l.fn.block)
+    × (l.at ≤ l.end)
+    × (l.end ≤ l.at + 21 * l.k)
