@@ -1,6 +1,6 @@
 -- The text of a written image (VTK User's Guide, "Simple legacy formats"; docs/FORMATS.md,
 -- "Written files").
-use Rattle.std.specs.Prelude.{ℕ, ℤ, pos, zero, suc, ◌*◌, Bool, true, false, List, [], ◌∷◌, ◌++◌}
+use Rattle.std.specs.Prelude.{ℕ, ℤ, zero, suc, ◌*◌, Bool, true, false, List, [], ◌∷◌, ◌++◌}
 use Rattle.std.specs.Prelude.{take, drop, codes}
 use Rattle.std.specs.List.{flat_map}
 use Rattle.std.specs.Fmt.{decimal, signed_decimal}

@@ -1,24 +1,15 @@
-//! The rows of cells and of their types.
+//! The row of a cell and that of its type, in front of what stands at the end of a block.
 
-ghost use Rattle.std.specs.Prelude.{◌≡◌, ◌<◌, ◌≤◌, ◌+◌, ◌^◌, ◌++◌, ℕ, Bool, List, All, OnOk};
-ghost use Rattle.std.specs.Prelude.{◌∷◌, [], length, drop, map, true, false, pos};
-ghost use Rattle.viz_mesh_write.specs.Rows.{row_of};
+ghost use Rattle.std.specs.Prelude.{◌≡◌, ◌<◌, ◌≤◌, ◌+◌, ◌^◌, ◌++◌, ◌∷◌, [], ℕ, Bool, List, All};
+ghost use Rattle.std.specs.Prelude.{length, drop, true, false, pos};
 ghost use Rattle.std.specs.List.{flat_map};
-ghost use Rattle.viz_sheet.specs.Arrays.{ranks_in};
 ghost use Rattle.viz_column.specs.declared.kind.Kind8.TheVariants.{I32};
 ghost use Rattle.viz_mesh_write.specs.MeshText.{type_of};
+ghost use Rattle.viz_mesh_write.specs.Rows.{row_of};
 ghost use Rattle.viz_mesh_write.specs.Steps.Passes.{IsMovable, cell_row, row_of_size, type_row};
-ghost use Rattle.viz_mesh_write.specs.Steps.Passes.{cell_rows, index_text, index_bytes};
-ghost use Rattle.viz_mesh_write.specs.Steps.SheetCells.{points_by};
+ghost use Rattle.viz_mesh_write.specs.Steps.Passes.{index_text, index_bytes};
 
-use crate::cell_ranks::CellRanks;
-use crate::sheet_cells::SheetCells;
-use std::alloc::AllocError;
-use viz_image_write::{Block, left_byte, left_count, left_int};
-use viz_sheet::Ranks;
-
-/// So many rows are made at once; each has at most 128 bytes.
-pub(crate) const ROWS: usize = 512;
+use viz_image_write::{left_byte, left_count, left_int};
 
 /// What is written of each cell. A function that is generic in it has no `match` in its loop.
 pub(crate) trait CellRow {
@@ -276,125 +267,4 @@ fn left_type(block: &mut [u8], end: usize, binary: bool, ranks: &[u32]) -> usize
     } else {
         left_type_line(block, end, number)
     }
-}
-
-/// The rows of cells of one type at the end of a block, and where they begin.
-fn fill<R: CellRow, C: CellRanks>(
-    block: &mut [u8],
-    binary: bool,
-    what: &R,
-    first: u32,
-    cells: &[C],
-) -> usize
-    requires movable { All (λ cell. IsMovable first (C.list cell)) cells.now }
-    requires few { length cells.now ≤ 512 }
-    requires room { length block.old ≡ 65536 }
-    ensures written { drop result block.new
-        ≡ flat_map (λ cell. R.written what.now binary first (C.list cell)) cells.now }
-    ensures at { result ≤ 65536 }
-{
-    let mut end = block.len();
-    let n = cells.len();
-    for k in 0..n {
-        end = what.put_left(block, end, binary, first, cells[n - 1 - k].list());
-    }
-    end
-}
-
-/// The rows of some cells of one type.
-fn put_part<R: CellRow, C: CellRanks>(
-    text: &mut Vec<u8>,
-    block: &mut Block,
-    binary: bool,
-    what: &R,
-    first: u32,
-    cells: &[C],
-) -> Result<(), AllocError>
-    requires movable { All (λ cell. IsMovable first (C.list cell)) cells.now }
-    requires few { length cells.now ≤ 512 }
-    ensures { OnOk result (text.new.items ≡ text.old.items
-        ++ flat_map (λ cell. R.written what.now binary first (C.list cell)) cells.now) }
-{
-    let start = fill(&mut block.bytes, binary, what, first, cells);
-    text.extend_from_slice(&block.bytes[start..])
-}
-
-/// The rows of cells of one type.
-fn put_cells<R: CellRow, C: CellRanks>(
-    text: &mut Vec<u8>,
-    block: &mut Block,
-    binary: bool,
-    what: &R,
-    first: u32,
-    cells: &[C],
-) -> Result<(), AllocError>
-    requires { All (λ cell. IsMovable first (C.list cell)) cells.now }
-    ensures { OnOk result (text.new.items ≡ text.old.items
-        ++ flat_map (λ cell. R.written what.now binary first (C.list cell)) cells.now) }
-{
-    let mut left = cells;
-    while !left.is_empty() {
-        let (front, behind) = left.split_at(ROWS.min(left.len()));
-        put_part(text, block, binary, what, first, front)?;
-        left = behind;
-    }
-    Ok(())
-}
-
-/// The rows of cells by ranks.
-fn put_ranks<R: CellRow>(
-    text: &mut Vec<u8>,
-    block: &mut Block,
-    binary: bool,
-    what: &R,
-    first: u32,
-    ranks: &Ranks,
-) -> Result<(), AllocError>
-    requires { All (IsMovable first) (ranks_in ranks.now) }
-    ensures { OnOk result (text.new.items
-        ≡ text.old.items ++ flat_map (R.written what.now binary first) (ranks_in ranks.now)) }
-{
-    match ranks {
-        Ranks::Vertices(cells) => put_cells(text, block, binary, what, first, cells),
-        Ranks::Lines(cells) => put_cells(text, block, binary, what, first, cells),
-        Ranks::Triangles(cells) => put_cells(text, block, binary, what, first, cells),
-        Ranks::Tetrahedra(cells) => put_cells(text, block, binary, what, first, cells),
-        Ranks::Any(cells) => put_cells(text, block, binary, what, first, cells),
-    }
-}
-
-/// The rows of the cells of a sheet.
-fn put_sheet_cells<R: CellRow, S: SheetCells>(
-    text: &mut Vec<u8>,
-    block: &mut Block,
-    binary: bool,
-    what: &R,
-    first: u32,
-    sheet: &S,
-) -> Result<(), AllocError>
-    requires { first + (S.seen sheet.now).points < 2 ^ 31 }
-    ensures { OnOk result (text.new.items ≡ text.old.items
-        ++ flat_map (R.written what.now binary first) (S.seen sheet.now).cells) }
-{
-    put_ranks(text, block, binary, what, first, sheet.cells())
-}
-
-/// The rows of the cells of all sheets.
-pub(crate) fn put_all_cells<R: CellRow, S: SheetCells>(
-    text: &mut Vec<u8>,
-    block: &mut Block,
-    binary: bool,
-    what: &R,
-    sheets: &[S],
-) -> Result<(), AllocError>
-    requires { points_by S.seen sheets.now < 2 ^ 31 }
-    ensures { OnOk result (text.new.items ≡ text.old.items
-        ++ cell_rows (R.written what.now binary) 0 (map S.seen sheets.now)) }
-{
-    let mut first: u32 = 0;
-    for sheet in sheets {
-        put_sheet_cells(text, block, binary, what, first, sheet)?;
-        first += sheet.points() as u32;
-    }
-    Ok(())
 }

@@ -6,12 +6,14 @@
 //! `specs/Fits.antt`; the rule is that of docs/FORMATS.md, "Written meshes".
 #![tactic(auto)]
 
+mod cell_passes;
 mod cell_ranks;
 mod cell_rows;
 mod heads;
 mod mesh;
 mod numbers;
 mod owned;
+mod point_rows;
 mod points;
 mod sections;
 mod sheet_cells;

@@ -11,7 +11,8 @@ ghost use Rattle.viz_mesh_write.specs.Steps.Tallies.{AreSmall, IsReady};
 
 use crate::heads::{put_dataset, put_form, put_points_line, put_scalars_head, put_title};
 use crate::numbers::put_end;
-use crate::points::{Coordinates, Scalar, put_points};
+use crate::point_rows::{Coordinates, Scalar};
+use crate::points::put_points;
 use crate::sections::put_cells_text;
 use crate::tally::{Tally, counted};
 use std::alloc::{AllocError, Global};

@@ -9,6 +9,9 @@ use itoa::Buffer;
 use std::alloc::AllocError;
 use viz_image_write::{left_byte, left_long, left_number};
 
+/// So many rows are made at once; each has at most 128 bytes.
+pub(crate) const ROWS: usize = 512;
+
 /// A count in words.
 pub(crate) fn put_count(text: &mut Vec<u8>, n: u64) -> Result<(), AllocError>
     ensures { OnOk result (text.new.items ≡ text.old.items ++ decimal n) }

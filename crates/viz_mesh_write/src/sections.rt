@@ -9,7 +9,8 @@ ghost use Rattle.viz_mesh_write.specs.Steps.Passes.{cell_rows};
 ghost use Rattle.viz_mesh_write.specs.Steps.SheetCells.{points_by, indices_by};
 ghost use Rattle.viz_mesh_write.specs.Steps.Tallies.{AreCounted};
 
-use crate::cell_rows::{CellRow, Every, OfSize, Types, put_all_cells};
+use crate::cell_passes::put_all_cells;
+use crate::cell_rows::{CellRow, Every, OfSize, Types};
 use crate::heads::{put_section_line, put_types_line};
 use crate::numbers::put_end;
 use crate::sheet_cells::SheetCells;

@@ -1,6 +1,6 @@
 use Rattle.std.proofs.Common.{◌≡◌, ◌≤◌, ◌*◌, ◌+◌, ◌-◌, length, drop}
 use Rattle.std.specs.List.{flat_map}
-use Rattle.viz_mesh_write.proofs.cell_rows.fill.Given as goal
+use Rattle.viz_mesh_write.proofs.cell_passes.fill.Given as goal
 
 -- the rows of the last cells stand at the end
 abbrev pub invariant-loop-k : goal.invariant-loop-k

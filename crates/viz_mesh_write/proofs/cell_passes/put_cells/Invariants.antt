@@ -1,7 +1,7 @@
 use Rattle.std.proofs.Common.{◌≡◌, ◌++◌, length}
 use Rattle.std.specs.List.{All, flat_map}
 use Rattle.viz_mesh_write.specs.Steps.Passes.{IsMovable}
-use Rattle.viz_mesh_write.proofs.cell_rows.put_cells.Given as goal
+use Rattle.viz_mesh_write.proofs.cell_passes.put_cells.Given as goal
 
 -- the cells so far, and those to come
 abbrev pub invariant-loop-left : goal.invariant-loop-left

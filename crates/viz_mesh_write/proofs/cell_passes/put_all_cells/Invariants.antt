@@ -1,7 +1,7 @@
 use Rattle.std.proofs.Common.{◌≡◌, ◌+◌, ◌++◌, map, drop}
 use Rattle.viz_mesh_write.specs.Steps.Passes.{cell_rows}
 use Rattle.viz_mesh_write.specs.Steps.SheetCells.{points_by}
-use Rattle.viz_mesh_write.proofs.cell_rows.put_all_cells.Given as goal
+use Rattle.viz_mesh_write.proofs.cell_passes.put_all_cells.Given as goal
 
 -- the cells so far, and those to come; the points in front, and those to come
 abbrev pub invariant-loop-sheet : goal.invariant-loop-sheet

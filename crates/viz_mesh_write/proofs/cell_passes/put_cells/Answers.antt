@@ -1,6 +1,6 @@
 use Rattle.viz_mesh_write.specs.Steps.Passes.{IsMovable}
 use Rattle.viz_mesh_write.proofs.BlockLemmas.{part_step, in_front, in_rest}
-use Rattle.viz_mesh_write.proofs.cell_rows.put_cells.Goals as goal
+use Rattle.viz_mesh_write.proofs.cell_passes.put_cells.Goals as goal
 
 pub put_part-requires-clause-movable : goal.put_part-requires-clause-movable
 put_part-requires-clause-movable g c =
