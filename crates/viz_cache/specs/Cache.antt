@@ -1,8 +1,11 @@
 -- A cache of bounded size that drops the entry used least recently: the list of its entries after
 -- each call (docs/DEFINITIONS.md, "Kept parts").
-use Rattle.std.specs.Prelude.{ℕ, ◌-◌, Bool, List, [], ◌∷◌, Option, if◌then◌else◌, take, find}
+use Rattle.std.specs.Prelude.{◌≡◌, ℕ, ◌-◌, Bool, List, [], ◌∷◌, Option, if◌then◌else◌, take, find}
+use Rattle.std.specs.Prelude.{length, option_map, slice_get}
 use Rattle.std.specs.List.{list_any}
 use Rattle.std.specs.Option.{option_map_or}
+use Rattle.viz_parts.specs.declared.request.Part.{Part}
+use Rattle.viz_parts.specs.declared.request.Part.TheVariants.{Image, Mesh}
 use Rattle.viz_parts.specs.declared.stored.Key.{Key}
 use Rattle.viz_parts.specs.declared.stored.Stored.{Stored}
 use Rattle.viz_cache.specs.Keys.{same_key}
@@ -35,3 +38,24 @@ brought_first key entries = option_map_or (λ e. e ∷ without key entries)
 abbrev pub with_item : ℕ → Stored → List Stored → List Stored
 with_item capacity item entries = item ∷ (if has_key item.key entries then without item.key entries
     else take (capacity - 1) entries)
+
+-- the key of the entry that was used least recently
+abbrev pub last_key : List Stored → Option Key
+last_key entries = option_map (λ e. e.key) (slice_get entries (length entries - 1))
+
+-- the entry of a key has another part, where it stands
+abbrev pub replaced : Key → Part → List Stored → List Stored
+replaced key part [] = []
+replaced key part (e ∷ es) = if same_key key e.key then record { key = e.key; part = part } ∷ es
+    else e ∷ replaced key part es
+
+-- a part of no sheets
+abbrev pub IsEmptyPart : Part → Type 0
+IsEmptyPart (Image image) = ⊥
+IsEmptyPart (Mesh sheets) = sheets.items ≡ []
+
+-- the part of a key is given up: its entry stands where it stood, with an empty part
+pub record GivesUp (key : Key) (old new : List Stored) : Type 0 where
+  pub part : Part
+  pub empty : IsEmptyPart part
+  pub entries : new ≡ replaced key part old

@@ -1,5 +1,5 @@
 -- A history with one entry more.
-use Rattle.std.proofs.Common.{◌≡◌, ℕ, suc, ◌+◌, ◌<◌, List, [], ◌∷◌, ◌++◌, cond, length, length-append, append_assoc, append-nil, Result, Ok, Err, sym, ap, subst, ◌∙◌, arith}
+use Rattle.std.proofs.Common.{◌≡◌, ℕ, suc, ◌+◌, ◌<◌, List, [], ◌∷◌, ◌++◌, cond, length, length-append, append_assoc, append-nil, Result, Ok, sym, ap, subst, ◌∙◌, arith}
 use Rattle.std.proofs.lemmas.List.{length-map, map-append}
 use Rattle.viz_parts.specs.declared.stored.Stored.{Stored}
 use Rattle.viz_kept.specs.True.{AreTrueOf}
@@ -20,7 +20,7 @@ use Rattle.viz_entries.specs.History.{entry, by_of, edits_of, network_of, own_of
 use Rattle.viz_history.specs.Machine.{State, Replies}
 use Rattle.viz_history.specs.Kept.{IsKept}
 
-edits_length : (h : List Entry) → length (edits_of h) ≡ length h
+pub edits_length : (h : List Entry) → length (edits_of h) ≡ length h
 edits_length h = length-map h (λ e. e.edit)
 
 -- the next position is past all stamps of the network

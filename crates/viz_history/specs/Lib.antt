@@ -1,3 +1,4 @@
 pub mod Machine
 pub mod Publishing
 pub mod Kept
+pub mod Steps

@@ -11,7 +11,7 @@ use Rattle.viz_history.specs.declared.answer.EditAnswer.TheVariants.{Done, Refus
 use Rattle.viz_history.specs.declared.pinned.Pinned.{Pinned}
 use Rattle.viz_history.specs.declared.publishing.Kept.{Kept}
 use Rattle.viz_entries.specs.History.{entry, network_of}
-use Rattle.viz_history.specs.Publishing.{TakesIn, all_brought}
+use Rattle.viz_history.specs.Publishing.{TakesIn, GivesOvertakenUp, all_brought}
 
 -- the history, the most entries that it may have, the most parts that may be kept, the kept parts
 -- with the most recently used first, and for how many entries there is room
@@ -63,12 +63,15 @@ pub record IsPinOf (s : State) (p : Pinned) : Type 0 where
   pub network : p.net ≡ network_of s.history
   pub entries : p.entries ≡ s.cache
 
--- the used parts go first, and then the made ones are taken in; all else is as before, no less room
+-- the used parts go first, then the made ones are taken in, and then overtaken ones are given up;
+-- all else is as before, no less room
 pub record Publishes (used : List Key) (made : List Stored) (old : State) (count : Kept)
     (new : State) : Type 0 where
   pub history : new.history ≡ old.history
   pub limit : new.limit ≡ old.limit
   pub capacity : new.capacity ≡ old.capacity
   pub spare : old.spare ≤ new.spare
+  pub taken : List Stored
   pub takes : TakesIn (network_of old.history) old.capacity made (all_brought used old.cache) count
-      new.cache
+      taken
+  pub gives_up : GivesOvertakenUp (network_of old.history) (length old.history) taken new.cache

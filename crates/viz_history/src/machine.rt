@@ -9,7 +9,7 @@ ghost use Rattle.viz_history.specs.Machine.{IsFirst, IsPinOf, Stays, Replies, Pu
 
 use crate::answer::EditAnswer;
 use crate::pinned::Pinned;
-use crate::publishing::{Kept, bring_all, take_in};
+use crate::publishing::{Kept, bring_all, give_overtaken_up, take_in};
 use std::alloc::{AllocError, Global};
 use std::marker::Model;
 use viz_base::Items;
@@ -138,14 +138,19 @@ impl Core {
     /// Takes made parts in: brings the parts that were used to the front, in their order, and then
     /// puts the made ones in front, in theirs. A part whose node is gone or was stamped since is
     /// stale, and isn't kept; one that memory has no room for is dropped. Parts are shared, and
-    /// aren't copied.
+    /// aren't copied. The part of each entry that is stale by now is given up, so that its memory
+    /// goes; the entry keeps its place.
     pub fn publish(&mut self, used: &[Key], made: &[Stored]) -> Kept
         requires made { AreTrueOf (edits_of self.old.history) made.now }
         ensures publishes { Publishes used.now made.now self.old result self.new }
         ensures count { result.kept + result.stale + result.unkept ≡ length made.now }
     {
         bring_all(&mut self.cache, used);
-        take_in(&mut self.cache, &self.net, made)
+        // One sweep of the network serves all parts.
+        let stamps = self.net.stamps();
+        let kept = take_in(&mut self.cache, &stamps, made);
+        give_overtaken_up(&mut self.cache, &stamps, self.history.len() as u32);
+        kept
     }
 
     /// The number of entries.

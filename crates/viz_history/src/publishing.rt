@@ -1,11 +1,13 @@
-//! What becomes of published parts.
+//! What becomes of published parts, and of those that they overtake.
 
 ghost use Rattle.std.specs.Prelude.{◌≡◌, ◌+◌, ◌-◌, ◌^◌, ◌<◌, List, [], ◌∷◌, ◌++◌, length};
 ghost use Rattle.viz_parts.specs.declared.stored.Stored.{Stored as Item};
-ghost use Rattle.viz_history.specs.Publishing.{all_brought, is_stale, TakesIn};
+ghost use Rattle.viz_history.specs.Publishing.{all_brought, is_lost, is_overtaken};
+ghost use Rattle.viz_history.specs.Publishing.{GivesOvertakenUp, TakesIn};
+ghost use Rattle.viz_history.specs.Steps.Walk.{GivesUpIf, PassesOver};
 
 use viz_cache::Cache;
-use viz_network::{Net, Stamps};
+use viz_network::Stamps;
 use viz_parts::{Key, Stored};
 
 /// How many made parts were kept, how many were stale, and how many memory had no room for.
@@ -26,11 +28,11 @@ pub fn bring_all(cache: &mut Cache, used: &[Key])
     }
 }
 
-// Whether the node of a part is gone, or has another stamp.
-fn finds_stale(stamps: &Stamps<'_>, item: &Stored) -> bool
-    ensures { result ≡ is_stale stamps.now item.now }
+// Whether the node of a key is gone, or has another stamp.
+fn finds_lost(stamps: &Stamps<'_>, key: &Key) -> bool
+    ensures { result ≡ is_lost stamps.now key.now }
 {
-    stamps.of(item.key.node) != Some(item.key.stamp)
+    stamps.of(key.node) != Some(key.stamp)
 }
 
 // Takes a part in, and counts it.
@@ -44,7 +46,7 @@ fn take_one(cache: &mut Cache, stamps: &Stamps<'_>, item: &Stored, count: Kept) 
     ensures count { result.kept + result.stale + result.unkept
         ≡ count.kept + count.stale + count.unkept + 1 }
 {
-    if finds_stale(stamps, item) {
+    if finds_lost(stamps, &item.key) {
         return Kept {
             stale: count.stale + 1,
             ..count
@@ -62,21 +64,55 @@ fn take_one(cache: &mut Cache, stamps: &Stamps<'_>, item: &Stored, count: Kept) 
     }
 }
 
-/// Takes the parts in, one after the other: a stale one is dropped, and any other goes first. One
-/// sweep of the network serves all parts.
-pub fn take_in(cache: &mut Cache, net: &Net, made: &[Stored]) -> Kept
-    ensures takes { TakesIn net.now cache.old.capacity made.now cache.old.entries result cache.new.entries }
+/// Takes the parts in, one after the other: a stale one is dropped, and any other goes first.
+pub fn take_in(cache: &mut Cache, stamps: &Stamps<'_>, made: &[Stored]) -> Kept
+    ensures takes { TakesIn stamps.now cache.old.capacity made.now cache.old.entries result
+        cache.new.entries }
     ensures capacity { cache.new.capacity ≡ cache.old.capacity }
     ensures count { result.kept + result.stale + result.unkept ≡ length made.now }
 {
-    let stamps = net.stamps();
     let mut count = Kept {
         kept: 0,
         stale: 0,
         unkept: 0,
     };
     for item in made {
-        count = take_one(cache, &stamps, item, count);
+        count = take_one(cache, stamps, item, count);
     }
     count
+}
+
+// Gives the part of a key up if it is overtaken. No stamp is past the history; that it is tested
+// spares an invariant.
+fn give_up_one(cache: &mut Cache, stamps: &Stamps<'_>, at: u32, key: &Key)
+    ensures entries { GivesUpIf (is_overtaken stamps.now at key.now) key.now cache.old.entries
+        cache.new.entries }
+    ensures capacity { cache.new.capacity ≡ cache.old.capacity }
+{
+    if finds_lost(stamps, key) && key.stamp <= at {
+        cache.give_up(key);
+    }
+}
+
+// Brings the last entry to the front, without its part if it is overtaken.
+fn pass_over(cache: &mut Cache, stamps: &Stamps<'_>, at: u32)
+    ensures last { (front : List Item) (last : Item) → cache.old.entries ≡ front ++ last ∷ []
+        → PassesOver stamps.now at front last cache.new.entries }
+    ensures capacity { cache.new.capacity ≡ cache.old.capacity }
+{
+    if let Some(key) = cache.last() {
+        give_up_one(cache, stamps, at, &key);
+        cache.find(&key);
+    }
+}
+
+/// Gives the parts of overtaken entries up. Each entry goes from the last place to the first in its
+/// turn, so that in the end all stand where they stood.
+pub fn give_overtaken_up(cache: &mut Cache, stamps: &Stamps<'_>, at: u32)
+    ensures entries { GivesOvertakenUp stamps.now at cache.old.entries cache.new.entries }
+    ensures capacity { cache.new.capacity ≡ cache.old.capacity }
+{
+    for _ in 0..cache.len() {
+        pass_over(cache, stamps, at);
+    }
 }

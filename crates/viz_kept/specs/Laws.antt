@@ -1,5 +1,5 @@
 -- What is true of a history stays true, and in its network (VTK User's Guide: modification times).
-use Rattle.std.specs.Prelude.{List, ◌++◌, Ok}
+use Rattle.std.specs.Prelude.{◌≤◌, List, ◌++◌, length, Ok}
 use Rattle.viz_parts.specs.declared.stored.Stored.{Stored}
 use Rattle.viz_dataset.specs.declared.dataset.Dataset.{Dataset}
 use Rattle.viz_network.specs.declared.edit.Edit.{Edit}
@@ -7,7 +7,8 @@ use Rattle.viz_network.specs.Cone.{cone_of}
 use Rattle.viz_network.specs.History.{net_of}
 use Rattle.viz_network.specs.Network.{Network}
 use Rattle.viz_node_meaning.specs.Scratch.{IsScratch}
-use Rattle.viz_kept.specs.True.{HasStamp, IsDatasetPart, IsTrueIn, AreMadeIn, AreTrueIn, AreTrueOf}
+use Rattle.viz_kept.specs.True.{HasStamp, IsDatasetPart, IsTrueIn, IsTrueOf}
+use Rattle.viz_kept.specs.True.{AreMadeIn, AreTrueIn, AreTrueOf}
 
 -- what is true of a history is true of every longer one
 abbrev pub TrueOfLonger : Type 0
@@ -23,6 +24,12 @@ MadeIsTrue = (edits more : List Edit) (items : List Stored) → AreMadeIn (net_o
 abbrev pub TrueInNetwork : Type 0
 TrueInNetwork = (edits : List Edit) (items : List Stored) → AreTrueOf edits items
     → AreTrueIn (net_of edits) items
+
+-- what stands under an overtaken key is true, whatever the part is: a stamp that isn't past the
+-- history and that the node doesn't have in its network never comes back
+abbrev pub OvertakenIsTrue : Type 0
+OvertakenIsTrue = (edits : List Edit) (item : Stored) → item.key.stamp ≤ length edits
+    → (HasStamp (net_of edits) item.key → ⊥) → IsTrueOf edits item
 
 -- a true part whose node has its stamp is a part of every dataset that the node gives
 abbrev pub TruePartAnswers : Type 0

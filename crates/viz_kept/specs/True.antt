@@ -44,12 +44,9 @@ pub record IsMadeIn (net : Network) (item : Stored) : Type 0 where
 pub record IsTrueIn (net : Network) (item : Stored) : Type 0 where
   pub part : HasStamp net item.key → IsPartIn net item
 
--- it is made in the network of some prefix of the history
+-- it is true in the network of the history, and in that of every longer one
 pub record IsTrueOf (edits : List Edit) (item : Stored) : Type 0 where
-  pub before : List Edit
-  pub later : List Edit
-  pub whole : before ++ later ≡ edits
-  pub made : IsMadeIn (net_of before) item
+  pub each : (more : List Edit) → IsTrueIn (net_of (edits ++ more)) item
 
 -- each is made in the network
 pub record AreMadeIn (net : Network) (items : List Stored) : Type 0 where

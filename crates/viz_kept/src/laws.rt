@@ -3,13 +3,13 @@
 
 ghost use Rattle.viz_kept.specs.Laws.{
   MadeIsTrue,
+  OvertakenIsTrue,
   TrueInNetwork,
   TrueOfLonger,
   TruePartAnswers,
   TruePartIsGiven,
 };
 
-use viz_network::equal_stamps_are_equal_cones;
 use viz_node_meaning::scratch_is_one;
 
 /// What is made in the network of a prefix is true of the history.
@@ -21,9 +21,13 @@ pub fn made_is_true()
 pub fn true_of_longer()
     ensures longer { TrueOfLonger }
     ensures network { TrueInNetwork }
-{
-    equal_stamps_are_equal_cones();
-}
+{}
+
+/// What stands under the key of an overtaken part is true of the history, whatever the part is: its
+/// node never has the key's stamp again.
+pub fn overtaken_is_true()
+    ensures { OvertakenIsTrue }
+{}
 
 /// A true part whose node has its stamp is of a node that gives a dataset, and a part of every
 /// dataset that the node gives.

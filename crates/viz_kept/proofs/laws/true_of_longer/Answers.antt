@@ -5,4 +5,4 @@ pub returns-clause-longer : goal.returns-clause-longer
 returns-clause-longer c = all_longer
 
 pub returns-clause-network : goal.returns-clause-network
-returns-clause-network c = all_true_in c.equal_stamps_are_equal_cones.ensures
+returns-clause-network c = all_true_in
