@@ -16,6 +16,9 @@ const MOST: usize = 3;
 /// Filler behind the entries of a row.
 const NONE: (u32, i64) = (0, 0);
 
+/// What stands for the number of a part that was given up.
+const GIVEN_UP: i64 = -1;
+
 // What is done with a cache.
 #[derive(Clone, Copy, Debug)]
 enum Step {
@@ -23,6 +26,8 @@ enum Step {
     Put(u32, i64),
     // The part under this node is looked for, and is there or isn't.
     Find(u32, bool),
+    // The part under this node is given up.
+    GiveUp(u32),
 }
 
 // The key of a node's whole mesh.
@@ -56,7 +61,7 @@ fn item(alloc: Global, node: u32, number: i64) -> Result<Stored, Fail> {
     })
 }
 
-// The number of a part that is such an image.
+// The number of a part that is such an image, or what stands for it in a part of no sheets.
 fn number_of(part: &Part) -> Option<i128> {
     match part {
         Part::Image(image) => {
@@ -66,7 +71,13 @@ fn number_of(part: &Part) -> Option<i128> {
             }
             Some(column.get(0))
         }
-        Part::Mesh(_) => None,
+        Part::Mesh(sheets) => {
+            if sheets.is_empty() {
+                Some(i128::from(GIVEN_UP))
+            } else {
+                None
+            }
+        }
     }
 }
 
@@ -99,7 +110,20 @@ fn is_done(alloc: Global, cache: &mut Cache, step: Step) -> Result<bool, Fail> {
             Ok(true)
         }
         Step::Find(node, there) => Ok(cache.find(&key(node)) == there),
+        Step::GiveUp(node) => {
+            cache.give_up(&key(node));
+            Ok(true)
+        }
     }
+}
+
+// Whether a cache tells how many entries it has, and the key of the last one.
+fn tells(cache: &Cache, entries: &[Stored]) -> bool {
+    let last = match entries.last() {
+        Some(item) => Some(item.key),
+        None => None,
+    };
+    cache.len() == entries.len() && cache.last() == last
 }
 
 // Does a step, and then compares the entries.
@@ -110,7 +134,7 @@ fn takes(
 ) -> Result<bool, Fail> {
     let done = is_done(alloc, cache, *step)?;
     let entries = cache.entries(alloc)?;
-    Ok(done && lists(&entries, *want))
+    Ok(done && tells(cache, &entries) && lists(&entries, *want))
 }
 
 #[test]
@@ -149,6 +173,27 @@ fn a_cache_of_one_entry_keeps_the_last(rt: HostRuntime) -> Result<(), Fail> {
         (Step::Put(2, 21), [(2, 21), NONE, NONE]),
         (Step::Find(1, false), [(2, 21), NONE, NONE]),
         (Step::Find(2, true), [(2, 21), NONE, NONE]),
+    ] {
+        assert!(rt; takes(alloc, &mut cache, row)?, "{row:?}");
+    }
+    Ok(())
+}
+
+#[test]
+fn an_entry_whose_part_is_given_up_keeps_its_place(rt: HostRuntime) -> Result<(), Fail> {
+    let alloc = rt.alloc();
+    let mut cache = Cache::new(alloc, 3)?;
+    for row in &[
+        (Step::Put(1, 10), [(1, 10), NONE, NONE]),
+        (Step::Put(2, 20), [(2, 20), (1, 10), NONE]),
+        (Step::Put(3, 30), [(3, 30), (2, 20), (1, 10)]),
+        (Step::GiveUp(2), [(3, 30), (2, GIVEN_UP), (1, 10)]),
+        // once more, and a key that isn't there
+        (Step::GiveUp(2), [(3, 30), (2, GIVEN_UP), (1, 10)]),
+        (Step::GiveUp(4), [(3, 30), (2, GIVEN_UP), (1, 10)]),
+        // it is found as ever, and its key takes another part
+        (Step::Find(2, true), [(2, GIVEN_UP), (3, 30), (1, 10)]),
+        (Step::Put(2, 21), [(2, 21), (3, 30), (1, 10)]),
     ] {
         assert!(rt; takes(alloc, &mut cache, row)?, "{row:?}");
     }

@@ -1,12 +1,15 @@
 //! What later updates find kept, and what no update keeps.
 
-use crate::edits::{Plan, network};
+use crate::edits::{Plan, network, node};
 use crate::kinds::SOLID;
+use crate::story::Story;
 use crate::updates::{Row, got, wanted};
 use Plan::{Add, Connect, Load, Set};
+use std::alloc::Global;
 use std::test::Fail;
-use viz_base::OpenGate;
+use viz_base::{NodeId, OpenGate};
 use viz_network::{Kind, Param};
+use viz_parts::{Part, Stored};
 
 // A contour of the mean of an image.
 const SURFACE: [Plan; 7] = [
@@ -68,5 +71,49 @@ fn a_node_with_release_keeps_nothing(rt: HostRuntime) -> Result<(), Fail> {
         let got = got(&rt, rt.alloc(), &mut story, row, &OpenGate)?;
         assert_eq!(rt; got, wanted(row), "row {i}");
     }
+    Ok(())
+}
+
+// A contour, and then the same at another level.
+const LEVELS: [Row<'static>; 2] = [(&[], "iso", 1, 3, 3, 0), (&[LEVEL], "iso", 1, 1, 1, 1)];
+
+// Whether an entry is of this node, and has a part of no sheets or any other, as the row says.
+fn is_left(entry: &Stored, (node, empty): (NodeId, bool)) -> bool {
+    let none = match entry.part.get() {
+        Part::Mesh(sheets) => sheets.is_empty(),
+        Part::Image(_) => false,
+    };
+    entry.key.node == node && none == empty
+}
+
+// Whether these are the kept parts, the most recently used first.
+fn are_left(alloc: Global, story: &Story, want: [(NodeId, bool); 4]) -> bool {
+    let Some(pinned) = story.pin(alloc) else {
+        return false;
+    };
+    let entries = pinned.entries.list();
+    for (i, row) in want.iter().enumerate() {
+        match entries.get(i) {
+            Some(entry) if is_left(entry, *row) => {}
+            _ => return false,
+        }
+    }
+    entries.len() == want.len()
+}
+
+#[test]
+fn an_overtaken_part_is_given_up_where_it_stands(rt: HostRuntime) -> Result<(), Fail> {
+    let alloc = rt.alloc();
+    let mut story = network(alloc, &SURFACE)?;
+    for (i, row) in LEVELS.iter().enumerate() {
+        let got = got(&rt, alloc, &mut story, row, &OpenGate)?;
+        assert_eq!(rt; got, wanted(row), "row {i}");
+    }
+    let src = node(&story, "src")?;
+    let mean = node(&story, "mean")?;
+    let iso = node(&story, "iso")?;
+    // the mean was used by the second contour, whose part is new; the first one's is gone
+    let want = [(iso, false), (mean, false), (iso, true), (src, false)];
+    assert!(rt; are_left(alloc, &story, want));
     Ok(())
 }
