@@ -205,6 +205,7 @@ class Least:
     peak: float = math.inf
     put: str = ""
     runs: int = 0
+    failed: bool = False
 
     def run(self, words, folder, begin):
         """Whether one more run ended well; earlier files, which begin so, are removed first."""
@@ -224,13 +225,19 @@ class Least:
         self.processor = min(self.processor, usage.ru_utime + usage.ru_stime)
         self.wall = min(self.wall, wall)
         self.peak = min(self.peak, peak_of(note, usage) / 1024)
-        return child.returncode == 0
+        good = child.returncode == 0
+        self.failed = self.failed or not good
+        return good
 
     def cell(self):
+        if self.failed:
+            return "failed"
         return "%s s, %s s, %.0f MiB" % (seconds(self.processor), seconds(self.wall), self.peak)
 
     def ratios_to(self, other):
         """In processor time, in wall time and in memory."""
+        if self.failed or other.failed:
+            return ["-"] * 3
         return ["%.2f" % (getattr(self, it) / max(getattr(other, it), 0.0001))
                 for it in ("processor", "wall", "peak")]
 
