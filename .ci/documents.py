@@ -8,7 +8,7 @@ import sys
 
 TOP = os.path.dirname(os.path.dirname(os.path.abspath(__file__)))
 PROVED = ["docs/PROVED.md", "docs/PROVED-OF-DATA.md"]
-PAGES = ["README.md"] + PROVED + [
+PAGES = ["README.md", "bench/README.md"] + PROVED + [
     "docs/%s.md" % page for page in
     ("ARCHITECTURE", "DEFINITIONS", "DEFINITIONS-OF-DATA", "FORMATS", "FILTERS", "USING",
      "DECISIONS", "GLOSSARY", "PROOF-NOTES", "MEASURED")]
