@@ -11,15 +11,17 @@ use std::thread::Threads;
 use viz_base::Gate;
 use viz_network::{Kind, Param};
 
-// A gate that counts who enters.
+// A gate that counts who enters, and adds their numbers up.
 #[derive(Drop)]
 struct Counting {
     entries: AtomicU64,
+    numbers: AtomicU64,
 }
 
 impl Gate for Counting {
-    fn enter(&self, _task: u64) {
+    fn enter(&self, task: u64) {
         self.entries.fetch_add(1, Ordering::SeqCst);
+        self.numbers.fetch_add(task, Ordering::SeqCst);
     }
 }
 
@@ -76,19 +78,26 @@ const ROWS: [(&[Plan<'static>], &str, u32, usize); 11] = [
     (&TWICE, "sum", 2, 5),
 ];
 
-// What an update comes to, and how many tasks entered the gate.
+// What an update comes to, how many tasks entered the gate, and the sum of their numbers.
 fn counted<R: Threads + Sync>(
     rt: &R,
     alloc: Global,
     edits: &[Plan<'_>],
     sink: &str,
     pieces: u32,
-) -> Result<(Outcome, u64), Fail> {
+) -> Result<(Outcome, u64, u64), Fail> {
     let gate = Counting {
         entries: AtomicU64::new(0),
+        numbers: AtomicU64::new(0),
     };
     let outcome = fresh(rt, alloc, edits, sink, (pieces, 2), &gate)?;
-    Ok((outcome, gate.entries.load(Ordering::SeqCst)))
+    let numbers = gate.numbers.load(Ordering::SeqCst);
+    Ok((outcome, gate.entries.load(Ordering::SeqCst), numbers))
+}
+
+// The sum of the numbers from 0 on, so many.
+fn sum_of(count: u64) -> u64 {
+    count.wrapping_mul(count.wrapping_sub(1)) / 2
 }
 
 #[test]
@@ -100,7 +109,8 @@ fn each_task_is_done_once(rt: HostRuntime) -> Result<(), Fail> {
             used: 0,
         };
         let got = counted(&rt, rt.alloc(), edits, sink, pieces)?;
-        assert_eq!(rt; got, (same, tasks as u64), "{sink} in {pieces}");
+        let want = (same, tasks as u64, sum_of(tasks as u64));
+        assert_eq!(rt; got, want, "{sink} in {pieces}");
     }
     Ok(())
 }
