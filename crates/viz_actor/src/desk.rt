@@ -12,7 +12,7 @@ use std::alloc::Global;
 use std::sync::Wait;
 use std::thread::Threads;
 use viz_account::{audit_lines_are_closed, lines_count_edits};
-use viz_base::{ACTORS, Gate, Items, Port, ReadRefusal, WriteRefusal};
+use viz_base::{ACTORS, Gate, Items, LongText, Port, ReadRefusal, WriteRefusal};
 use viz_entries::Entry;
 use viz_journal::journal_text;
 use viz_report::Row;
@@ -42,7 +42,10 @@ fn keep<P: Port>(
         return Ran::Memory;
     };
     drop(entries);
-    match desk.write(alloc, journal, text.list()) {
+    let Ok(text) = LongText::of(alloc, text) else {
+        return Ran::Memory;
+    };
+    match desk.write(alloc, journal, &text) {
         Ok(()) => Ran::Served {
             rows: Items::new(rows),
             kept: true,

@@ -9,6 +9,7 @@ ghost use Rattle.viz_base.specs.Refusals.{IsWithin, NeverTooLong};
 ghost use Rattle.viz_base.specs.Readers.{Gains};
 
 use crate::bytes::Bytes;
+use crate::long_text::LongText;
 use crate::port::Port;
 use crate::refusal::{ReadRefusal, WriteRefusal};
 use std::alloc::{AllocError, Global};
@@ -177,11 +178,21 @@ fn write_all<F: Write>(file: &mut F, bytes: &[u8]) -> Result<(), WriteRefusal>
     Err(WriteRefusal::Failed)
 }
 
-fn write_file<R: Files>(rt: &R, path: &str, bytes: &[u8]) -> Result<(), WriteRefusal> {
+// Writes all parts of a text, one after the other.
+fn write_parts<F: Write>(file: &mut F, text: &LongText) -> Result<(), WriteRefusal>
+    ensures { OnOk result (Appends (F.contents file.old) (F.contents file.new) text.now) }
+{
+    for part in text.parts() {
+        write_all(file, part.get().list())?;
+    }
+    Ok(())
+}
+
+fn write_file<R: Files>(rt: &R, path: &str, text: &LongText) -> Result<(), WriteRefusal> {
     let Ok(mut file) = File::create(rt, path) else {
         return Err(WriteRefusal::Failed);
     };
-    write_all(&mut file, bytes)
+    write_parts(&mut file, text)
 }
 
 impl<'a, R: Files + Sync> DirPort<'a, R> {
@@ -231,12 +242,12 @@ impl<'a, R: Files + Sync> Port for DirPort<'a, R> {
         answer
     }
 
-    fn write(&mut self, alloc: Global, name: &str, bytes: &[u8]) -> Result<(), WriteRefusal> {
+    fn write(&mut self, alloc: Global, name: &str, text: &LongText) -> Result<(), WriteRefusal> {
         let faults = self.faults;
         let Ok(path) = path_of(alloc, &self.folder, name) else {
             return Err(WriteRefusal::Memory);
         };
-        let answer = write_file(self.rt, &path, bytes);
+        let answer = write_file(self.rt, &path, text);
         if let Err(WriteRefusal::Failed) = answer {
             self.faults = faults.saturating_add(1);
         }

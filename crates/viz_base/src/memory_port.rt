@@ -13,6 +13,7 @@ ghost use Rattle.viz_base.specs.MemoryPort.{kept_at, next_kept, next_read, next_
 use crate::bytes::Bytes;
 use crate::call::{Call, WriteAnswer, note_read, write_item};
 use crate::files::{find, replace, taken};
+use crate::long_text::LongText;
 use crate::port::Port;
 use crate::refusal::{ReadRefusal, WriteRefusal};
 use crate::word::Word;
@@ -168,20 +169,20 @@ impl Port for MemoryPort {
         answer
     }
 
-    fn write(&mut self, alloc: Global, name: &str, bytes: &[u8]) -> Result<(), WriteRefusal>
+    fn write(&mut self, alloc: Global, name: &str, text: &LongText) -> Result<(), WriteRefusal>
         ensures answers { IsErrOf result WriteRefusal.Memory
             ⊎ (result ≡ next_write self.old name.now) }
 
         // The file, where it can have the name.
         ensures put { IsName name.now → IsErrOf result WriteRefusal.Memory
-            ⊎ Puts self.old.files self.new.files name.now (left_of (next_kept self.old) bytes.now) }
+            ⊎ Puts self.old.files self.new.files name.now (left_of (next_kept self.old) text.now) }
         ensures no_name { (IsName name.now → ⊥) → self.new.files ≡ self.old.files }
         ensures err { IsErrOf result WriteRefusal.Memory → self.new.files ≡ self.old.files }
 
         // The call and its failure are noted, and nothing else changes.
         ensures after { self.new ≡ record self.old {
           files = self.new.files;
-          calls = self.old.calls ++ write_calls name.now bytes.now result;
+          calls = self.old.calls ++ write_calls name.now text.now result;
           faults = write_faults self.old.faults result;
         } }
         ensures later { self.old.faults ≤ self.new.faults }
@@ -191,6 +192,10 @@ impl Port for MemoryPort {
         let name = name.as_bytes();
         let kept = listed(&self.failing, self.calls.len());
         let answer = write_answer(kept, name);
+        let Ok(bytes) = text.to_bytes(alloc) else {
+            return Err(WriteRefusal::Memory);
+        };
+        let bytes = bytes.list();
         let Ok(item) = write_item(alloc, name, bytes, answer) else {
             return Err(WriteRefusal::Memory);
         };

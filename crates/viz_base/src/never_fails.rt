@@ -10,6 +10,7 @@ ghost use Rattle.viz_base.specs.NeverFails.{present_at};
 use crate::bytes::Bytes;
 use crate::call::{Call, WriteAnswer, note_read, write_item};
 use crate::files::{find, replace, taken};
+use crate::long_text::LongText;
 use crate::memory_port::FileEntry;
 use crate::port::Port;
 use crate::refusal::{ReadRefusal, WriteRefusal};
@@ -97,20 +98,24 @@ impl Port for NeverFails {
         note_read(alloc, &mut self.calls, name, answer)
     }
 
-    fn write(&mut self, alloc: Global, name: &str, bytes: &[u8]) -> Result<(), WriteRefusal>
+    fn write(&mut self, alloc: Global, name: &str, text: &LongText) -> Result<(), WriteRefusal>
         ensures answers { IsErrOf result WriteRefusal.Memory ⊎ (result ≡ Ok tt) }
-        ensures put { OnOk result (Puts self.old.files self.new.files name.now bytes.now) }
+        ensures put { OnOk result (Puts self.old.files self.new.files name.now text.now) }
         ensures no_name { (IsName name.now → ⊥) → IsErrOf result WriteRefusal.Memory }
         ensures err { IsErrOf result WriteRefusal.Memory → self.new.files ≡ self.old.files }
         ensures after { self.new ≡ record self.old {
           files = self.new.files;
-          calls = self.old.calls ++ write_calls name.now bytes.now result;
+          calls = self.old.calls ++ write_calls name.now text.now result;
         } }
     {
         let name = name.as_bytes();
         if Word::new(name).is_none() {
             return Err(WriteRefusal::Memory);
         }
+        let Ok(bytes) = text.to_bytes(alloc) else {
+            return Err(WriteRefusal::Memory);
+        };
+        let bytes = bytes.list();
         let Ok(item) = write_item(alloc, name, bytes, WriteAnswer::Written) else {
             return Err(WriteRefusal::Memory);
         };

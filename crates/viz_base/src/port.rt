@@ -8,6 +8,7 @@ ghost use Rattle.viz_base.specs.Calls.{read_calls, write_calls};
 ghost use Rattle.viz_base.specs.declared.call.Call.{Call};
 
 use crate::bytes::Bytes;
+use crate::long_text::LongText;
 use crate::refusal::{ReadRefusal, WriteRefusal};
 use std::alloc::Global;
 
@@ -56,16 +57,17 @@ pub trait Port {
         ensures later { faults self.old ≤ faults self.new }
         ensures counted { faults self.new < 2 ^ 64 };
 
-    /// Replaces the file of this name by the bytes.
-    fn write(&mut self, alloc: Global, name: &str, bytes: &[u8]) -> Result<(), WriteRefusal>
+    /// Replaces the file of this name by the text: its parts one after
+    /// the other, in one call.
+    fn write(&mut self, alloc: Global, name: &str, text: &LongText) -> Result<(), WriteRefusal>
         ensures written { IsTrue tells_files
-            → OnOk result (files self.new name.now ≡ Some bytes.now) }
+            → OnOk result (files self.new name.now ≡ Some text.now) }
 
         // The refusals.
         ensures failed { IsErrOf result WriteRefusal.Failed
             → Rose (faults self.old) (faults self.new) }
         ensures prefix { IsTrue tells_files → IsErrOf result WriteRefusal.Failed
-            → KeepsPrefix name.now bytes.now (files self.new) }
+            → KeepsPrefix name.now text.now (files self.new) }
         ensures err { IsTrue tells_files → IsErrOf result WriteRefusal.Memory
             → SameFiles (files self.old) (files self.new) }
 
@@ -73,7 +75,7 @@ pub trait Port {
         ensures kept { IsTrue tells_files → SameOthers name.now (files self.old) (files self.new) }
         ensures same_limit { limit self.new ≡ limit self.old }
         ensures told { IsTrue tells_calls
-            → calls self.new ≡ calls self.old ++ write_calls name.now bytes.now result }
+            → calls self.new ≡ calls self.old ++ write_calls name.now text.now result }
         ensures later { faults self.old ≤ faults self.new }
         ensures counted { faults self.new < 2 ^ 64 };
 }

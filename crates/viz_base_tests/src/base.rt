@@ -7,8 +7,8 @@ use std::fs;
 use std::process::Abort;
 use std::test::Fail;
 use viz_base::{
-    Bytes, DirPort, FailAt, FileEntry, Gate, Items, MemoryOut, MemoryPort, NeverFails, OpenGate,
-    Out, Port, Shape, Shared, StdOut, Steps, Word,
+    Bytes, DirPort, FailAt, FileEntry, Gate, Items, LongText, MemoryOut, MemoryPort, NeverFails,
+    OpenGate, Out, Port, Shape, Shared, StdOut, Steps, Word,
 };
 
 const FAILED: &str = "[the read failed]";
@@ -37,12 +37,29 @@ fn reads<P: Port>(
     Ok(())
 }
 
-// Writes each text, and wants it written or not.
-fn writes<P: Port>(rt: &impl Abort, alloc: Global, port: &mut P, rows: &[(&str, &str, bool)]) {
+// The text in parts of one byte each, behind an empty one.
+fn parted(alloc: Global, text: &str) -> Result<LongText, Fail> {
+    let mut parts = LongText::of(alloc, Bytes::new(Vec::new(alloc)))?;
+    for byte in text.as_bytes() {
+        let part = Bytes::new(vec![in alloc; *byte]?);
+        parts.push(Shared::new(alloc, part)?)?;
+    }
+    Ok(parts)
+}
+
+// Writes each text in parts, and wants it written or not.
+fn writes<P: Port>(
+    rt: &impl Abort,
+    alloc: Global,
+    port: &mut P,
+    rows: &[(&str, &str, bool)],
+) -> Result<(), Fail> {
     for (name, text, want) in rows {
-        let written = port.write(alloc, name, text.as_bytes()).is_ok();
+        let text = parted(alloc, text)?;
+        let written = port.write(alloc, name, &text).is_ok();
         assert!(rt; written == *want, "a write to {name}");
     }
+    Ok(())
 }
 
 fn holds(file: Option<&Bytes>, want: &[u8]) -> bool {
@@ -100,7 +117,7 @@ fn a_memory_port_fails_by_its_list(rt: HostRuntime) -> Result<(), Fail> {
             ("c", "new", true),
             ("", "x", false),
         ],
-    );
+    )?;
     reads(
         &rt,
         alloc,
@@ -126,7 +143,7 @@ fn a_missing_file_is_empty_where_nothing_fails(rt: HostRuntime) -> Result<(), Fa
         alloc,
         &mut port,
         &[("c", "new", true), ("", "x", false)],
-    );
+    )?;
     assert!(rt; holds(port.file("c"), b"new") && holds(port.file("d"), b""));
     Ok(())
 }
@@ -161,7 +178,7 @@ fn a_folder_is_read_and_written(rt: HostRuntime) -> Result<(), Fail> {
             alloc,
             &mut port,
             &[("a", text, true), ("sub", text, false)],
-        );
+        )?;
         reads(&rt, alloc, &mut port, &[("a", want)])?;
     }
     fs::remove_dir_all(&rt, folder)?;

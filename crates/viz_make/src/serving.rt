@@ -10,7 +10,7 @@ use crate::came::Came;
 use crate::made::made_of;
 use std::alloc::Global;
 use std::thread::Threads;
-use viz_base::{Gate, Port, WriteRefusal};
+use viz_base::{Gate, LongText, Port, WriteRefusal};
 use viz_extent::Extent;
 
 /// The words of the command.
@@ -38,7 +38,10 @@ fn serve_port<R: Threads + Sync, P: Port, G: Gate + Sync>(
     let Ok((text, made)) = made_of(rt, alloc, command, gate) else {
         return Came::Memory;
     };
-    match port.write(alloc, command.output, text.get().list()) {
+    let Ok(text) = LongText::of_shared(alloc, text) else {
+        return Came::Memory;
+    };
+    match port.write(alloc, command.output, &text) {
         Ok(()) => Came::Written(made),
         Err(WriteRefusal::Failed) => Came::Unwritten,
         Err(WriteRefusal::Memory) => Came::Memory,

@@ -1,4 +1,5 @@
 mod BlockLemmas
+mod PartLemmas
 mod PointLemmas
 mod CellLemmas
 pub mod TallyLemmas

@@ -1,3 +1,5 @@
 pub mod Passes
+pub mod Kinds
+pub mod Parts
 pub mod SheetCells
 pub mod Tallies

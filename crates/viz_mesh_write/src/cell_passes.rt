@@ -4,12 +4,14 @@ ghost use Rattle.std.specs.Prelude.{◌≡◌, ◌<◌, ◌≤◌, ◌+◌, ◌^
 ghost use Rattle.std.specs.List.{flat_map};
 ghost use Rattle.viz_sheet.specs.Arrays.{ranks_in};
 ghost use Rattle.viz_mesh_write.specs.Steps.Passes.{IsMovable, cell_rows};
+ghost use Rattle.viz_mesh_write.specs.Steps.Kinds.{written_by};
 ghost use Rattle.viz_mesh_write.specs.Steps.SheetCells.{points_by};
 
 use crate::cell_ranks::CellRanks;
-use crate::cell_rows::CellRow;
+use crate::cell_rows::{CellRow, OfCells};
 use crate::numbers::ROWS;
 use crate::sheet_cells::SheetCells;
+use crate::target::Target;
 use std::alloc::AllocError;
 use viz_image_write::Block;
 use viz_sheet::Ranks;
@@ -56,7 +58,7 @@ fn put_part<R: CellRow, C: CellRanks>(
 }
 
 /// The rows of cells of one type.
-fn put_cells<R: CellRow, C: CellRanks>(
+pub(crate) fn put_cells<R: CellRow, C: CellRanks>(
     text: &mut Vec<u8>,
     block: &mut Block,
     binary: bool,
@@ -78,7 +80,7 @@ fn put_cells<R: CellRow, C: CellRanks>(
 }
 
 /// The rows of cells by ranks.
-fn put_ranks<R: CellRow>(
+pub(crate) fn put_ranks<R: CellRow>(
     text: &mut Vec<u8>,
     block: &mut Block,
     binary: bool,
@@ -100,36 +102,34 @@ fn put_ranks<R: CellRow>(
 }
 
 /// The rows of the cells of a sheet.
-fn put_sheet_cells<R: CellRow, S: SheetCells>(
-    text: &mut Vec<u8>,
-    block: &mut Block,
+fn put_sheet_cells<T: Target, S: SheetCells>(
+    text: &mut T,
     binary: bool,
-    what: &R,
+    what: &OfCells,
     first: u32,
     sheet: &S,
 ) -> Result<(), AllocError>
     requires { first + (S.seen sheet.now).points < 2 ^ 31 }
-    ensures { OnOk result (text.new.items ≡ text.old.items
-        ++ flat_map (R.written what.now binary first) (S.seen sheet.now).cells) }
+    ensures { OnOk result (T.text text.new ≡ T.text text.old
+        ++ flat_map (written_by what.now binary first) (S.seen sheet.now).cells) }
 {
-    put_ranks(text, block, binary, what, first, sheet.cells())
+    text.put_ranks(binary, what, first, sheet.cells())
 }
 
 /// The rows of the cells of all sheets.
-pub(crate) fn put_all_cells<R: CellRow, S: SheetCells>(
-    text: &mut Vec<u8>,
-    block: &mut Block,
+pub(crate) fn put_all_cells<T: Target, S: SheetCells>(
+    text: &mut T,
     binary: bool,
-    what: &R,
+    what: &OfCells,
     sheets: &[S],
 ) -> Result<(), AllocError>
     requires { points_by S.seen sheets.now < 2 ^ 31 }
-    ensures { OnOk result (text.new.items ≡ text.old.items
-        ++ cell_rows (R.written what.now binary) 0 (map S.seen sheets.now)) }
+    ensures { OnOk result (T.text text.new ≡ T.text text.old
+        ++ cell_rows (written_by what.now binary) 0 (map S.seen sheets.now)) }
 {
     let mut first: u32 = 0;
     for sheet in sheets {
-        put_sheet_cells(text, block, binary, what, first, sheet)?;
+        put_sheet_cells(text, binary, what, first, sheet)?;
         first += sheet.points() as u32;
     }
     Ok(())

@@ -96,6 +96,14 @@ impl CellRow for Types {
     }
 }
 
+/// What is written of cells: the rows of one kind.
+#[derive(Clone, Copy)]
+pub(crate) enum OfCells {
+    Every(Every),
+    OfSize(OfSize),
+    Types(Types),
+}
+
 /// An index behind a space.
 #[inline(always)]
 fn left_index_word(block: &mut [u8], end: usize, first: u32, rank: u32) -> usize

@@ -6,6 +6,7 @@ ghost use Rattle.viz_mesh_write.specs.MeshText.{title_lines, dataset_line, point
 ghost use Rattle.viz_mesh_write.specs.MeshText.{section_line, types_line, scalars_head};
 
 use crate::numbers::put_count;
+use crate::target::Target;
 use std::alloc::AllocError;
 
 /// The version, and the title with the number of places.
@@ -45,50 +46,95 @@ pub(crate) fn put_dataset(text: &mut Vec<u8>, is_grid: bool) -> Result<(), Alloc
 }
 
 /// The number of points, on a line.
-pub(crate) fn put_points_line(text: &mut Vec<u8>, n: u64) -> Result<(), AllocError>
-    ensures { OnOk result (text.new.items ≡ text.old.items ++ points_line n) }
+fn make_points_line(line: &mut Vec<u8>, n: u64) -> Result<(), AllocError>
+    ensures { OnOk result (line.new.items ≡ line.old.items ++ points_line n) }
 {
-    text.extend_from_slice(b"POINTS ")?;
-    put_count(text, n)?;
-    text.extend_from_slice(b" long\n")?;
+    line.extend_from_slice(b"POINTS ")?;
+    put_count(line, n)?;
+    line.extend_from_slice(b" long\n")?;
     Ok(())
 }
 
 /// The keyword of a section, the number of its cells and of all their numbers, on a line.
 #[tactic(auto, unfolding(crate::specs::MeshText::section_line))]
-pub(crate) fn put_section_line(
-    text: &mut Vec<u8>,
+fn make_section_line(
+    line: &mut Vec<u8>,
     keyword: &[u8],
     n: u64,
     size: u64,
 ) -> Result<(), AllocError>
-    ensures { OnOk result (text.new.items ≡ text.old.items ++ section_line keyword.now n size) }
+    ensures { OnOk result (line.new.items ≡ line.old.items ++ section_line keyword.now n size) }
 {
-    text.extend_from_slice(keyword)?;
-    text.push(b' ')?;
-    put_count(text, n)?;
-    text.push(b' ')?;
-    put_count(text, size)?;
-    text.push(b'\n')?;
+    line.extend_from_slice(keyword)?;
+    line.push(b' ')?;
+    put_count(line, n)?;
+    line.push(b' ')?;
+    put_count(line, size)?;
+    line.push(b'\n')?;
     Ok(())
 }
 
 /// The number of types, on a line.
-pub(crate) fn put_types_line(text: &mut Vec<u8>, n: u64) -> Result<(), AllocError>
-    ensures { OnOk result (text.new.items ≡ text.old.items ++ types_line n) }
+fn make_types_line(line: &mut Vec<u8>, n: u64) -> Result<(), AllocError>
+    ensures { OnOk result (line.new.items ≡ line.old.items ++ types_line n) }
 {
-    text.extend_from_slice(b"CELL_TYPES ")?;
-    put_count(text, n)?;
-    text.extend_from_slice(b"\n")?;
+    line.extend_from_slice(b"CELL_TYPES ")?;
+    put_count(line, n)?;
+    line.extend_from_slice(b"\n")?;
     Ok(())
 }
 
 /// The lines in front of the scalars.
-pub(crate) fn put_scalars_head(text: &mut Vec<u8>, n: u64) -> Result<(), AllocError>
-    ensures { OnOk result (text.new.items ≡ text.old.items ++ scalars_head n) }
+fn make_scalars_head(line: &mut Vec<u8>, n: u64) -> Result<(), AllocError>
+    ensures { OnOk result (line.new.items ≡ line.old.items ++ scalars_head n) }
 {
-    text.extend_from_slice(b"POINT_DATA ")?;
-    put_count(text, n)?;
-    text.extend_from_slice(b"\nSCALARS scalars long 1\nLOOKUP_TABLE default\n")?;
+    line.extend_from_slice(b"POINT_DATA ")?;
+    put_count(line, n)?;
+    line.extend_from_slice(b"\nSCALARS scalars long 1\nLOOKUP_TABLE default\n")?;
+    Ok(())
+}
+
+/// Puts the number of points, on a line.
+pub(crate) fn put_points_line<T: Target>(text: &mut T, n: u64) -> Result<(), AllocError>
+    ensures { OnOk result (T.text text.new ≡ T.text text.old ++ points_line n) }
+{
+    let mut line = text.line();
+    make_points_line(&mut line, n)?;
+    text.put(line)?;
+    Ok(())
+}
+
+/// Puts the line of a section.
+pub(crate) fn put_section_line<T: Target>(
+    text: &mut T,
+    keyword: &[u8],
+    n: u64,
+    size: u64,
+) -> Result<(), AllocError>
+    ensures { OnOk result (T.text text.new ≡ T.text text.old ++ section_line keyword.now n size) }
+{
+    let mut line = text.line();
+    make_section_line(&mut line, keyword, n, size)?;
+    text.put(line)?;
+    Ok(())
+}
+
+/// Puts the number of types, on a line.
+pub(crate) fn put_types_line<T: Target>(text: &mut T, n: u64) -> Result<(), AllocError>
+    ensures { OnOk result (T.text text.new ≡ T.text text.old ++ types_line n) }
+{
+    let mut line = text.line();
+    make_types_line(&mut line, n)?;
+    text.put(line)?;
+    Ok(())
+}
+
+/// Puts the lines in front of the scalars.
+pub(crate) fn put_scalars_head<T: Target>(text: &mut T, n: u64) -> Result<(), AllocError>
+    ensures { OnOk result (T.text text.new ≡ T.text text.old ++ scalars_head n) }
+{
+    let mut line = text.line();
+    make_scalars_head(&mut line, n)?;
+    text.put(line)?;
     Ok(())
 }

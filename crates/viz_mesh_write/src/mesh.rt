@@ -11,13 +11,15 @@ ghost use Rattle.viz_mesh_write.specs.Steps.Tallies.{AreSmall, IsReady};
 
 use crate::heads::{put_dataset, put_form, put_points_line, put_scalars_head, put_title};
 use crate::numbers::put_end;
-use crate::point_rows::{Coordinates, Scalar};
+use crate::point_rows::{Coordinates, OfPoints, Scalar};
 use crate::points::put_points;
 use crate::sections::put_cells_text;
+use crate::straight::Straight;
 use crate::tally::{Tally, counted};
+use crate::target::Target;
 use std::alloc::{AllocError, Global};
 use viz_base::Bytes;
-use viz_image_write::{Block, Style, WriteStop};
+use viz_image_write::{Style, WriteStop};
 use viz_sheet::{Mesh, Sheet};
 
 /// The room for all lines in front of numbers.
@@ -45,21 +47,23 @@ pub(crate) fn room(binary: bool, tally: &Tally) -> u64
 }
 
 /// The lines in front of the points.
-pub(crate) fn put_head(
-    text: &mut Vec<u8>,
+pub(crate) fn put_head<T: Target>(
+    text: &mut T,
     binary: bool,
     digits: u8,
     tally: &Tally,
     sheets: &[Sheet],
 ) -> Result<(), AllocError>
     requires { IsReady sheets.now tally.now }
-    ensures { OnOk result (text.new.items ≡ text.old.items
+    ensures { OnOk result (T.text text.new ≡ T.text text.old
         ++ (title_lines digits ++ form_line binary
         ++ dataset_line (has_tetrahedra (cells_of sheets.now)))) }
 {
-    put_title(text, digits)?;
-    put_form(text, binary)?;
-    put_dataset(text, is_grid(tally, sheets))?;
+    let mut line = text.line();
+    put_title(&mut line, digits)?;
+    put_form(&mut line, binary)?;
+    put_dataset(&mut line, is_grid(tally, sheets))?;
+    text.put(line)?;
     Ok(())
 }
 
@@ -72,9 +76,8 @@ fn is_grid(tally: &Tally, _sheets: &[Sheet]) -> bool
 }
 
 /// The points.
-pub(crate) fn put_points_text(
-    text: &mut Vec<u8>,
-    block: &mut Block,
+pub(crate) fn put_points_text<T: Target>(
+    text: &mut T,
     binary: bool,
     digits: u8,
     n: u64,
@@ -82,30 +85,34 @@ pub(crate) fn put_points_text(
 ) -> Result<(), WriteStop>
     requires digits { digits ≤ 9 }
     requires count { n ≡ length (points_of sheets.now) }
-    ensures ok { OnOk result (text.new.items
-        ≡ text.old.items ++ points_text binary digits (points_of sheets.now)) }
+    ensures ok { OnOk result (T.text text.new
+        ≡ T.text text.old ++ points_text binary digits (points_of sheets.now)) }
     ensures fits { OnOk result (FitRows (coordinates digits) (points_of sheets.now)) }
     ensures too_wide { IsErrOf result WriteStop.TooWide
         → ¬ FitRows (coordinates digits) (points_of sheets.now) }
     ensures few { result ≢ Err WriteStop.TooMany }
 {
     put_points_line(text, n)?;
-    put_points(text, block, binary, &Coordinates { digits }, sheets)?;
+    put_points(
+        text,
+        binary,
+        &OfPoints::Coordinates(Coordinates { digits }),
+        sheets,
+    )?;
     put_end(text, binary, n)?;
     Ok(())
 }
 
 /// The scalars, where there are points.
-pub(crate) fn put_scalars_text(
-    text: &mut Vec<u8>,
-    block: &mut Block,
+pub(crate) fn put_scalars_text<T: Target>(
+    text: &mut T,
     binary: bool,
     n: u64,
     sheets: &[Sheet],
 ) -> Result<(), WriteStop>
     requires count { n ≡ length (points_of sheets.now) }
-    ensures ok { OnOk result (text.new.items
-        ≡ text.old.items ++ scalars_text binary (points_of sheets.now)) }
+    ensures ok { OnOk result (T.text text.new
+        ≡ T.text text.old ++ scalars_text binary (points_of sheets.now)) }
     ensures fits { OnOk result (FitRows scalars (points_of sheets.now)) }
     ensures too_wide { IsErrOf result WriteStop.TooWide
         → ¬ FitRows scalars (points_of sheets.now) }
@@ -115,31 +122,29 @@ pub(crate) fn put_scalars_text(
         return Ok(());
     }
     put_scalars_head(text, n)?;
-    put_points(text, block, binary, &Scalar, sheets)?;
+    put_points(text, binary, &OfPoints::Scalar(Scalar), sheets)?;
     put_end(text, binary, n)?;
     Ok(())
 }
 
 /// The cells of sheets.
-fn put_sheets(
-    text: &mut Vec<u8>,
-    block: &mut Block,
+fn put_sheets<T: Target>(
+    text: &mut T,
     binary: bool,
     tally: &Tally,
     sheets: &[Sheet],
 ) -> Result<(), AllocError>
     requires { IsReady sheets.now tally.now }
-    ensures { OnOk result (text.new.items
-        ≡ text.old.items ++ cells_text binary (cells_of sheets.now)) }
+    ensures { OnOk result (T.text text.new
+        ≡ T.text text.old ++ cells_text binary (cells_of sheets.now)) }
 {
-    put_cells_text(text, block, binary, tally, sheets)
+    put_cells_text(text, binary, tally, sheets)
 }
 
 /// The whole text.
 #[tactic(auto, unfolding(crate::specs::MeshText::mesh_text))]
-fn put_mesh(
-    text: &mut Vec<u8>,
-    block: &mut Block,
+pub(crate) fn put_mesh<T: Target>(
+    text: &mut T,
     binary: bool,
     digits: u8,
     tally: &Tally,
@@ -147,16 +152,16 @@ fn put_mesh(
 ) -> Result<(), WriteStop>
     requires digits { digits ≤ 9 }
     requires ready { IsReady sheets.now tally.now }
-    ensures ok { OnOk result (text.new.items
-        ≡ text.old.items ++ mesh_text binary digits sheets.now) }
+    ensures ok { OnOk result (T.text text.new
+        ≡ T.text text.old ++ mesh_text binary digits sheets.now) }
     ensures fits { OnOk result (FitNumbers digits sheets.now) }
     ensures too_wide { IsErrOf result WriteStop.TooWide → ¬ FitNumbers digits sheets.now }
     ensures few { result ≢ Err WriteStop.TooMany }
 {
     put_head(text, binary, digits, tally, sheets)?;
-    put_points_text(text, block, binary, digits, tally.points, sheets)?;
-    put_sheets(text, block, binary, tally, sheets)?;
-    put_scalars_text(text, block, binary, tally.points, sheets)?;
+    put_points_text(text, binary, digits, tally.points, sheets)?;
+    put_sheets(text, binary, tally, sheets)?;
+    put_scalars_text(text, binary, tally.points, sheets)?;
     Ok(())
 }
 
@@ -175,17 +180,9 @@ fn mesh_bytes(
         → ¬ FitNumbers style.now.digits sheets.now }
     ensures few { ¬ IsErrOf result WriteStop.TooMany }
 {
-    let mut block = Block::new(alloc)?;
-    let mut text = Vec::with_capacity(alloc, room(style.binary, tally) as usize)?;
-    put_mesh(
-        &mut text,
-        &mut block,
-        style.binary,
-        style.digits,
-        tally,
-        sheets,
-    )?;
-    Ok(text)
+    let mut made = Straight::with_room(alloc, room(style.binary, tally))?;
+    put_mesh(&mut made, style.binary, style.digits, tally, sheets)?;
+    Ok(made.text)
 }
 
 /// The text of a mesh: a grid where it has a tetrahedron, and else polydata. Points stand by sheet

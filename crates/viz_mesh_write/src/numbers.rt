@@ -5,6 +5,7 @@ ghost use Rattle.std.specs.Fmt.{decimal, signed_decimal};
 ghost use Rattle.viz_column.specs.declared.kind.Kind8.TheVariants.{I64};
 ghost use Rattle.viz_mesh_write.specs.Rows.{row_of, block_end};
 
+use crate::target::Target;
 use itoa::Buffer;
 use std::alloc::AllocError;
 use viz_image_write::{left_byte, left_long, left_number};
@@ -120,11 +121,13 @@ pub(crate) fn left_one(block: &mut [u8], end: usize, binary: bool, n: &i64) -> u
 }
 
 /// What stands behind so many rows: in BINARY a newline, where there is one.
-pub(crate) fn put_end(text: &mut Vec<u8>, binary: bool, rows: u64) -> Result<(), AllocError>
-    ensures { OnOk result (text.new.items ≡ text.old.items ++ block_end binary rows) }
+pub(crate) fn put_end<T: Target>(text: &mut T, binary: bool, rows: u64) -> Result<(), AllocError>
+    ensures { OnOk result (T.text text.new ≡ T.text text.old ++ block_end binary rows) }
 {
     if binary && rows != 0 {
-        text.push(b'\n')?;
+        let mut line = text.line();
+        line.push(b'\n')?;
+        text.put(line)?;
     }
     Ok(())
 }

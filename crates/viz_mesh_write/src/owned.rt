@@ -10,16 +10,17 @@ ghost use Rattle.viz_mesh_write.specs.Steps.Tallies.{IsReady};
 use crate::mesh::{LONG_WORD, ROOM_OF_HEADS, put_head, put_points_text, put_scalars_text, room};
 use crate::sections::put_cells_text;
 use crate::sheet_cells::all_own_cells;
+use crate::straight::Straight;
 use crate::tally::{Tally, counted};
+use crate::target::Target;
 use std::alloc::{AllocError, Global};
 use viz_base::Bytes;
-use viz_image_write::{Block, Style, WriteStop};
+use viz_image_write::{Style, WriteStop};
 use viz_sheet::{Mesh, Sheet};
 
 /// The scalars, where there are points, as new bytes.
 fn scalars_bytes(
     alloc: Global,
-    block: &mut Block,
     binary: bool,
     n: u64,
     sheets: &[Sheet],
@@ -33,42 +34,40 @@ fn scalars_bytes(
     ensures few { ¬ IsErrOf result WriteStop.TooMany }
 {
     let long = if binary { 8 } else { LONG_WORD };
-    let mut text = Vec::with_capacity(alloc, (ROOM_OF_HEADS + long * n) as usize)?;
-    put_scalars_text(&mut text, block, binary, n, sheets)?;
-    Ok(text)
+    let mut made = Straight::with_room(alloc, ROOM_OF_HEADS + long * n)?;
+    put_scalars_text(&mut made, binary, n, sheets)?;
+    Ok(made.text)
 }
 
 /// The cells of sheets whose names and points are given up first.
-fn put_own_sheets(
+fn put_own_sheets<T: Target>(
     alloc: Global,
-    text: &mut Vec<u8>,
-    block: &mut Block,
+    text: &mut T,
     binary: bool,
     tally: &Tally,
     sheets: Vec<Sheet>,
 ) -> Result<(), AllocError>
     requires { IsReady sheets.items tally.now }
-    ensures { OnOk result (text.new.items
-        ≡ text.old.items ++ cells_text binary (cells_of sheets.items)) }
+    ensures { OnOk result (T.text text.new
+        ≡ T.text text.old ++ cells_text binary (cells_of sheets.items)) }
 {
     let cells = all_own_cells(alloc, sheets)?;
-    put_cells_text(text, block, binary, tally, &cells)
+    put_cells_text(text, binary, tally, &cells)
 }
 
 /// The whole text of sheets that are given up on the way: their names and points before the text of
 /// the cells is made, and the cells before the scalars are put behind it.
 #[tactic(auto, unfolding(crate::specs::MeshText::mesh_text))]
-fn put_own_mesh(
+fn put_own_mesh<T: Target>(
     alloc: Global,
-    text: &mut Vec<u8>,
-    block: &mut Block,
+    text: &mut T,
     style: &Style,
     tally: &Tally,
     sheets: Vec<Sheet>,
 ) -> Result<(), WriteStop>
     requires ready { IsReady sheets.items tally.now }
-    ensures ok { OnOk result (text.new.items
-        ≡ text.old.items ++ mesh_text style.now.binary style.now.digits sheets.items) }
+    ensures ok { OnOk result (T.text text.new
+        ≡ T.text text.old ++ mesh_text style.now.binary style.now.digits sheets.items) }
     ensures fits { OnOk result (FitNumbers style.now.digits sheets.items) }
     ensures too_wide { IsErrOf result WriteStop.TooWide
         → ¬ FitNumbers style.now.digits sheets.items }
@@ -76,10 +75,10 @@ fn put_own_mesh(
 {
     let Style { binary, digits } = *style;
     put_head(text, binary, digits, tally, &sheets)?;
-    put_points_text(text, block, binary, digits, tally.points, &sheets)?;
-    let scalars = scalars_bytes(alloc, block, binary, tally.points, &sheets)?;
-    put_own_sheets(alloc, text, block, binary, tally, sheets)?;
-    text.extend_from_slice(&scalars)?;
+    put_points_text(text, binary, digits, tally.points, &sheets)?;
+    let scalars = scalars_bytes(alloc, binary, tally.points, &sheets)?;
+    put_own_sheets(alloc, text, binary, tally, sheets)?;
+    text.put(scalars)?;
     Ok(())
 }
 
@@ -98,10 +97,9 @@ fn own_mesh_bytes(
         → ¬ FitNumbers style.now.digits sheets.items }
     ensures few { ¬ IsErrOf result WriteStop.TooMany }
 {
-    let mut block = Block::new(alloc)?;
-    let mut text = Vec::with_capacity(alloc, room(style.binary, tally) as usize)?;
-    put_own_mesh(alloc, &mut text, &mut block, style, tally, sheets)?;
-    Ok(text)
+    let mut made = Straight::with_room(alloc, room(style.binary, tally))?;
+    put_own_mesh(alloc, &mut made, style, tally, sheets)?;
+    Ok(made.text)
 }
 
 /// The text that `write_mesh` gives, of a mesh that is given up on the way: it and its text are

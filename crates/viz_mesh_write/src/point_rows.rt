@@ -113,6 +113,13 @@ impl PointNumbers for Scalar {
     }
 }
 
+/// What is written of points: the rows of one kind.
+#[derive(Clone, Copy)]
+pub(crate) enum OfPoints {
+    Coordinates(Coordinates),
+    Scalar(Scalar),
+}
+
 /// The coordinate along x, counted in the last place.
 fn written_x(p: &Point5, digits: u8) -> Result<i64, TooWide>
     requires { digits ≤ 9 }

@@ -5,9 +5,11 @@ ghost use Rattle.viz_sheet.specs.Arrays.{points_in};
 ghost use Rattle.viz_mesh_write.specs.Cells.{points_of};
 ghost use Rattle.viz_mesh_write.specs.Fits.{FitRows};
 ghost use Rattle.viz_mesh_write.specs.Steps.Passes.{point_rows, rows_by, FitBy};
+ghost use Rattle.viz_mesh_write.specs.Steps.Kinds.{numbers_by};
 
 use crate::numbers::ROWS;
-use crate::point_rows::{PointNumbers, WidePoint};
+use crate::point_rows::{OfPoints, PointNumbers, WidePoint};
+use crate::target::Target;
 use viz_image_write::{Block, WriteStop};
 use viz_sheet::{Places, Sheet};
 
@@ -58,7 +60,7 @@ fn put_part<N: PointNumbers, P: WidePoint>(
 }
 
 /// The rows of points of one width.
-fn put_width<N: PointNumbers, P: WidePoint>(
+pub(crate) fn put_width<N: PointNumbers, P: WidePoint>(
     text: &mut Vec<u8>,
     block: &mut Block,
     binary: bool,
@@ -82,7 +84,7 @@ fn put_width<N: PointNumbers, P: WidePoint>(
 }
 
 /// The rows of the points of one sheet.
-fn put_sheet_points<N: PointNumbers>(
+pub(crate) fn put_sheet_points<N: PointNumbers>(
     text: &mut Vec<u8>,
     block: &mut Block,
     binary: bool,
@@ -103,22 +105,21 @@ fn put_sheet_points<N: PointNumbers>(
 }
 
 /// The rows of all points.
-pub(crate) fn put_points<N: PointNumbers>(
-    text: &mut Vec<u8>,
-    block: &mut Block,
+pub(crate) fn put_points<T: Target>(
+    text: &mut T,
     binary: bool,
-    what: &N,
+    what: &OfPoints,
     sheets: &[Sheet],
 ) -> Result<(), WriteStop>
-    ensures ok { OnOk result (text.new.items
-        ≡ text.old.items ++ point_rows (N.numbers what.now) binary (points_of sheets.now)) }
-    ensures fits { OnOk result (FitRows (N.numbers what.now) (points_of sheets.now)) }
+    ensures ok { OnOk result (T.text text.new
+        ≡ T.text text.old ++ point_rows (numbers_by what.now) binary (points_of sheets.now)) }
+    ensures fits { OnOk result (FitRows (numbers_by what.now) (points_of sheets.now)) }
     ensures too_wide { IsErrOf result WriteStop.TooWide
-        → ¬ FitRows (N.numbers what.now) (points_of sheets.now) }
+        → ¬ FitRows (numbers_by what.now) (points_of sheets.now) }
     ensures few { result ≢ Err WriteStop.TooMany }
 {
     for sheet in sheets {
-        put_sheet_points(text, block, binary, what, sheet.places())?;
+        text.put_places(binary, what, sheet.places())?;
     }
     Ok(())
 }

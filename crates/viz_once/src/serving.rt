@@ -4,11 +4,11 @@ ghost use Rattle.viz_once.specs.Account.{IsServed, Serves};
 ghost use Rattle.viz_once.specs.Commands.{command_view};
 
 use crate::command::Once;
-use crate::made::made_of;
+use crate::made::{Made, made_of};
 use crate::nodes::name_at;
 use crate::outcome::{Failed, Outcome};
 use std::alloc::Global;
-use viz_base::{Port, ReadRefusal, WriteRefusal};
+use viz_base::{LongText, Port, ReadRefusal, WriteRefusal};
 use viz_network::Stop;
 use viz_report::Reason;
 
@@ -30,11 +30,16 @@ fn serve<P: Port>(alloc: Global, command: &Once<'_>, port: &mut P) -> Outcome
         }
         Err(Stop::Memory) => return Outcome::Memory,
     };
-    match port.write(alloc, command.output, made.text.list()) {
-        Ok(()) => Outcome::Written {
-            cells: made.cells,
-            points: made.points,
-        },
+    let Made {
+        text,
+        cells,
+        points,
+    } = made;
+    let Ok(text) = LongText::of(alloc, text) else {
+        return Outcome::Memory;
+    };
+    match port.write(alloc, command.output, &text) {
+        Ok(()) => Outcome::Written { cells, points },
         Err(WriteRefusal::Failed) => Outcome::Fault(Failed::Write),
         Err(WriteRefusal::Memory) => Outcome::Memory,
     }

@@ -5,7 +5,7 @@ ghost use Rattle.std.specs.Prelude.{false};
 use super::*;
 use std::sync::atomic::{AtomicU64, Ordering};
 use std::thread;
-use viz_base::{ACTORS, Gate, Port, ReadRefusal, WriteRefusal};
+use viz_base::{ACTORS, Gate, LongText, Port, ReadRefusal, WriteRefusal};
 
 const SURFACE: &str = "1 add file src
 1 load src a.vtk
@@ -106,9 +106,9 @@ impl Port for Meeting<'_> {
         self.port.read(alloc, name)
     }
 
-    fn write(&mut self, alloc: Global, name: &str, bytes: &[u8]) -> Result<(), WriteRefusal> {
+    fn write(&mut self, alloc: Global, name: &str, text: &LongText) -> Result<(), WriteRefusal> {
         self.signs.writes.fetch_add(1, Ordering::SeqCst);
-        self.port.write(alloc, name, bytes)
+        self.port.write(alloc, name, text)
     }
 }
 

@@ -6,16 +6,16 @@ use Rattle.viz_mesh_write.proofs.SheetLemmas.{own_cells_again, own_points_again,
 use Rattle.viz_mesh_write.proofs.owned.put_own_sheets.Goals as goal
 
 pub put_cells_text-requires-clause-few : goal.put_cells_text-requires-clause-few
-put_cells_text-requires-clause-few c =
+put_cells_text-requires-clause-few g c =
     let same = c.deref.ensures.value ∙ c.in_ok-cells.ensures in
     subst (λ (n : ℕ). n < 2 ^ 31) (sym (own_points_again c.deref.result.now c.args.sheets.items same)) c.requires.fits.points
 
 pub put_cells_text-requires-clause-ready : goal.put_cells_text-requires-clause-ready
-put_cells_text-requires-clause-ready c =
+put_cells_text-requires-clause-ready g c =
     let same = c.deref.ensures.value ∙ c.in_ok-cells.ensures in
     subst (λ (cells : List (List ℕ)). AreCounted cells c.args.tally.now) (sym (own_cells_again c.deref.result.now c.args.sheets.items same)) (counted_again c.args.sheets.items c.args.tally.now c.requires)
 
 pub returns : goal.returns
-returns c =
+returns g c =
     let same = c.deref.ensures.value ∙ c.in_ok-cells.ensures in
-    subst (λ (cells : List (List ℕ)). OnOk c.put_cells_text.result (c.put_cells_text.new.text.items ≡ c.args.text.now.items ++ cells_text c.args.binary cells)) (own_cells_again c.deref.result.now c.args.sheets.items same) c.put_cells_text.ensures
+    subst (λ (cells : List (List ℕ)). OnOk c.put_cells_text.result ((g.T.Target.text c.put_cells_text.new.text) ≡ (g.T.Target.text c.args.text.now) ++ cells_text c.args.binary cells)) (own_cells_again c.deref.result.now c.args.sheets.items same) c.put_cells_text.ensures

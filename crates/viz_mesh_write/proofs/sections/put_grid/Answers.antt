@@ -14,5 +14,5 @@ returns g c =
     let t = c.args.tally.now in
     let count = c.cells-n.ensures ∙ all_count cells t c.requires.ready in
     let size = c.size.ensures ∙ all_size cells t c.requires.ready in
-    let first = section_is c.args.binary (codes "CELLS") cells c.cells-n.result _ _ c.args.text.now.items c.put_section_line.new.text.items c.put_block.new.text.items count size (every_block c.args.binary c.cells-n.result (map g.S.SheetCells.seen c.args.sheets.now) count) c.in_ok-put_section_line.ensures c.in_ok-put_block.ensures in
-    grid_is c.args.binary cells c.args.text.now.items c.put_block.new.text.items _ first c.in_ok-put_types.ensures
+    let first = section_is c.args.binary (codes "CELLS") cells c.cells-n.result _ _ (g.T.Target.text c.args.text.now) (g.T.Target.text c.put_section_line.new.text) (g.T.Target.text c.put_block.new.text) count size (every_block c.args.binary c.cells-n.result (map g.S.SheetCells.seen c.args.sheets.now) count) c.in_ok-put_section_line.ensures c.in_ok-put_block.ensures in
+    grid_is c.args.binary cells (g.T.Target.text c.args.text.now) (g.T.Target.text c.put_block.new.text) _ first c.in_ok-put_types.ensures

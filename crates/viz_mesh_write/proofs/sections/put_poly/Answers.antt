@@ -17,4 +17,4 @@ put_parts-requires-clause-triangles g c =
 
 pub returns-in_ok-put_section_line : goal.returns-in_ok-put_section_line
 returns-in_ok-put_section_line g c =
-    no_cells c.args.binary (indices_by g.S.SheetCells.seen c.args.sheets.now) c.args.tally.now c.args.text.now.items _ c.requires.ready (search (rules, c.cells.ensures, c.if-cells-eq0.true)) c.in_ok-put_section_line.ensures
+    no_cells c.args.binary (indices_by g.S.SheetCells.seen c.args.sheets.now) c.args.tally.now (g.T.Target.text c.args.text.now) _ c.requires.ready (search (rules, c.cells.ensures, c.if-cells-eq0.true)) c.in_ok-put_section_line.ensures
