@@ -174,3 +174,7 @@ IsGcd-twos w a b g some_a fits_a some_b fits_b h =
 -- a divisor of a number that isn't 0 fits where the number does
 pub IsGcd_le : (a b g : ℕ) → 0 < a → IsGcd a b g → g ≤ a
 IsGcd_le a b g some h = le_of_dvd some h.0
+
+-- the numbers in the other order
+pub gcd-swap : (a b : ℕ) → gcd a b ≡ gcd b a
+gcd-swap a b = gcd_from b a (gcd a b) (IsGcd-swap a b (gcd a b) (gcd_is a b))

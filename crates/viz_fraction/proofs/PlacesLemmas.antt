@@ -1,13 +1,13 @@
 -- Places in lowest terms, and scalars between two wholes.
-use Rattle.std.proofs.Common.{◌≡◌, ℕ, ℤ, List, [], ◌∷◌, pos, negsuc, refl, sym, ap, subst, ◌∙◌, ◌+◌, ◌*◌, ◌<◌, ◌≤◌, arith}
-use Rattle.std.specs.Prelude.{◌+ℤ◌, ◌-ℤ◌, ◌*ℤ◌, ◌<ℤ◌, ◌≤ℤ◌, neg_ℤ, unsigned_abs, int_div}
+use Rattle.std.proofs.Common.{◌≡◌, ℤ, List, [], ◌∷◌, pos, negsuc, refl, sym, ap, ◌∙◌, ◌+◌, ◌*◌, ◌<◌, ◌≤◌, arith}
+use Rattle.std.specs.Prelude.{◌+ℤ◌, ◌-ℤ◌, ◌*ℤ◌, ◌<ℤ◌, ◌≤ℤ◌, neg_ℤ}
 use Rattle.std.proofs.Math.IntN.{*ℤ_comm}
 use Rattle.std.proofs.Math.Nat.{mul-le-mul_right}
 use Rattle.std.proofs.lemmas.Int.{ints}
 use borrow.Author.Differences.{up, down}
 use Rattle.viz_fraction.specs.Divisors.{gcd}
 use Rattle.viz_fraction.specs.Decimals.{IsFloor}
-use Rattle.viz_fraction.specs.Points.{Point, numbers, divisor_of, reduced, divided}
+use Rattle.viz_fraction.specs.Points.{Point, numbers, divisor_of, reduced}
 use Rattle.viz_fraction.specs.Places.{place_divisor, place_of, four_divided, IsSamePosition, EqualPositionsHaveOnePlace}
 use Rattle.viz_fraction.proofs.IntegersLemmas.{cancel, mul_left_comm, mul-neg}
 use Rattle.viz_fraction.proofs.DecimalsLemmas.{less_by_product}

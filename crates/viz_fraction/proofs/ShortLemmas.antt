@@ -1,19 +1,22 @@
 -- Bounds of short ends, and of what their crossings are made of.
-use Rattle.std.proofs.Common.{◌≡◌, ℕ, ◌+◌, ◌*◌, ◌/◌, ◌^◌, ◌<◌, ◌≤◌, ℤ, pos, negsuc, ap₂, subst, sym, arith}
+use Rattle.std.proofs.Common.{◌≡◌, ℕ, ◌+◌, ◌*◌, ◌^◌, ◌<◌, ◌≤◌, ℤ, pos, negsuc, ap₂, refl, subst, sym, arith}
 use Rattle.std.specs.Prelude.{◌+ℤ◌, ◌*ℤ◌, ◌≤ℤ◌, ◌<ℤ◌, unsigned_abs, FitsSigned}
 use Rattle.std.specs.Int.{w32, w64}
-use Rattle.std.proofs.Math.Nat.{mul-le-mul_left, le-mul_of_pos_right}
-use Rattle.std.proofs.lemmas.Int.{ints, unsigned_abs-mul, fits_signed_from_abs, quot_fits}
-use Rattle.viz_fraction.specs.Points.{Point, IsNarrow, IsNarrowPoint, divisor_of, reduced}
+use Rattle.std.proofs.Math.Nat.{mul-le-mul_left, le-mul_of_pos_right, one-dvd}
+use Rattle.std.proofs.lemmas.Int.{ints, unsigned_abs-mul, fits_signed_from_abs}
+use Rattle.std.proofs.lemmas.Nat.Gcd.{dvd_antisymm, le_of_dvd}
+use Prim.Native.Nat.{◌∣◌}
+use Rattle.viz_fraction.specs.Points.{Point, IsNarrow, IsNarrowPoint, IsPoint, numbers, divisor_of}
 use Rattle.viz_fraction.specs.Numbers.{point_of}
 use Rattle.viz_fraction.specs.Small.{IsSmall}
 use Rattle.viz_fraction.specs.Short.{IsShort, IsShortCrossing}
 use Rattle.viz_fraction.specs.declared.crossings.Weights.{Weights}
 use Rattle.viz_fraction.specs.declared.numbers.Numbers.{Numbers}
 use Rattle.viz_fraction.specs.Mixes.{IsLowestWeights, IsNarrowSum, IsNarrowMix, IsShortMix, mixed_of}
-use Rattle.viz_fraction.specs.Crossings.{outside_weight, inside_weight}
+use Rattle.viz_fraction.specs.Crossings.{outside_weight, inside_weight, IsNarrowCrossing}
 use Rattle.viz_fraction.proofs.IntegersLemmas.{abs-sum_le}
-use Rattle.viz_fraction.proofs.PointsLemmas.{divisor_above_0}
+use Rattle.viz_fraction.proofs.PointsLemmas.{divisor_is, weight_above_0}
+use Rattle.viz_fraction.proofs.CrossingsLemmas.{narrow_crossing}
 
 -- a product with a number of 32 bits
 pub abs-product_le : (m z : ℤ) → FitsSigned w32 z → unsigned_abs (m *ℤ z) ≤ unsigned_abs m * 2 ^ 31
@@ -77,20 +80,6 @@ short_is_narrow k a b h =
       w = narrow_sum k.outside k.inside a.w b.w h.weights h.inside.w h.outside.w;
     }
 
--- lowest terms of small numbers are small
-pub reduced_small : (p : Point) → pos 0 <ℤ p.w → IsSmall p → IsSmall (reduced p)
-reduced_small p positive small =
-    let d = divisor_of p in
-    let some = divisor_above_0 p positive in
-    let above : pos 0 <ℤ pos d = omega (arith, ints) in
-    record {
-      x = quot_fits w64 p.x (pos d) small.x above;
-      y = quot_fits w64 p.y (pos d) small.y above;
-      z = quot_fits w64 p.z (pos d) small.z above;
-      s = quot_fits w64 p.s (pos d) small.s above;
-      w = quot_fits w64 p.w (pos d) small.w above;
-    }
-
 -- a weighted sum of positive numbers, whose second weight is positive
 positive_mix : (m n a b : ℤ) → pos 0 ≤ℤ m → pos 0 <ℤ n → pos 0 <ℤ a → pos 0 <ℤ b → pos 0 <ℤ (m *ℤ b +ℤ n *ℤ a)
 positive_mix (pos m) (pos n) (pos a) (pos b) hm hn ha hb =
@@ -119,3 +108,39 @@ short_crossing k na nb la a lb b outside inside is_a is_b =
       λ h. record { weights = subst B both h.weights; inside = subst IsShort is_a h.inside; outside = subst IsShort is_b h.outside },
       λ h. record { weights = subst B (sym both) h.weights; inside = subst IsShort (sym is_a) h.inside; outside = subst IsShort (sym is_b) h.outside },
     )
+
+-- nothing in a short crossing is wide
+pub short_crossing_is_narrow : (la : ℤ) (a : Point) (lb : ℤ) (b : Point) → IsShortCrossing la a lb b → IsNarrowCrossing la a lb b
+short_crossing_is_narrow la a lb b h =
+    let k : Weights = record { outside = pos (outside_weight la lb); inside = pos (inside_weight la lb) } in
+    let na : Numbers = record { x = a.x; y = a.y; z = a.z; s = a.s; w = a.w } in
+    let nb : Numbers = record { x = b.x; y = b.y; z = b.z; s = b.s; w = b.w } in
+    (narrow_crossing k na nb la a lb b refl refl refl refl).0
+    (short_is_narrow k na nb (record { weights = h.weights; inside = h.inside; outside = h.outside }))
+
+-- small numbers of weight 1 are a point
+pub whole_is_point : (x y z s : ℤ) → FitsSigned w64 x → FitsSigned w64 y → FitsSigned w64 z → FitsSigned w64 s → IsPoint (numbers x y z s (pos 1))
+whole_is_point x y z s fits_x fits_y fits_z fits_s =
+    let p = numbers x y z s (pos 1) in
+    record {
+      positive = omega (arith, ints);
+      lowest = dvd_antisymm (divisor_is p).common.w (one-dvd (divisor_of p));
+      narrow = small_is_narrow p (record { x = fits_x; y = fits_y; z = fits_z; s = fits_s; w = omega (arith, ints) });
+    }
+
+-- small numbers whose divisor divides 1 are a point
+pub lowest_is_point : (p : Point) (n : ℕ) → n ≡ 1 → pos 0 <ℤ p.w → IsSmall p → divisor_of p ∣ n → IsPoint p
+lowest_is_point p n one positive small divides =
+    let P : ℕ → Type 0 = λ m. divisor_of p ∣ m in
+    record {
+      positive = positive;
+      lowest = dvd_antisymm (subst P one divides) (one-dvd (divisor_of p));
+      narrow = small_is_narrow p small;
+    }
+
+-- the divisor of small numbers fits 64 bits
+pub divisor_fits : (p : Point) → pos 0 <ℤ p.w → IsSmall p → divisor_of p < 2 ^ 63
+divisor_fits p positive small =
+    let least = le_of_dvd (weight_above_0 p.w positive) (divisor_is p).common.w in
+    let word : FitsSigned w64 p.w = small.w in
+    omega (arith, ints, least)

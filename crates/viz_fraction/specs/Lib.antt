@@ -9,6 +9,7 @@ pub mod Sums
 pub mod Crossings
 pub mod Mixes
 pub mod Steps
+pub mod Words
 pub mod Decimals
 pub mod CaseRows
 pub mod Cases

@@ -55,7 +55,7 @@ fn crossing_at(weights: &Weights, a: &Numbers, b: &Numbers) -> Result<Point5, To
 
 /// The weights of an outside end of value `lb` and an inside end of value `la`.
 #[inline(always)]
-pub(crate) fn weights_of(la: &i128, lb: &i128) -> Weights
+fn weights_of(la: &i128, lb: &i128) -> Weights
     requires outside { lb.now <ℤ pos 0 }
     requires narrow_inside { IsNarrow la.now }
     requires narrow_outside { IsNarrow lb.now }

@@ -37,8 +37,22 @@ pub(crate) fn common_divisor(a: u128, b: u128) -> u128
     word_divisor(y as u64, x as u64) as u128
 }
 
-/// The same for numbers of a machine word: the lesser power of two, and then odd numbers alone.
-fn word_divisor(a: u64, b: u64) -> u64
+/// The same as `with_magnitude` in 64 bits.
+#[inline(always)]
+pub(crate) fn with_word(divisor: u64, magnitude: u64) -> u64
+    ensures { result ≡ gcd divisor magnitude }
+{
+    if divisor == 0 {
+        return magnitude;
+    }
+    if divisor == 1 {
+        return 1;
+    }
+    word_divisor(divisor, magnitude)
+}
+
+/// The same as `common_divisor` in 64 bits: the lesser power of two, and then odd numbers alone.
+pub(crate) fn word_divisor(a: u64, b: u64) -> u64
     requires { 0 < a }
     ensures { result ≡ gcd a b }
 {

@@ -18,8 +18,10 @@ mod places;
 mod points;
 mod products;
 mod short_crossings;
+mod small_crossings;
 mod small_points;
 mod steps;
+mod words;
 
 pub use case_laws::{
     cells_cut_the_simplex, quadrilaterals_have_a_diagonal, triangles_face_outside,
@@ -35,5 +37,5 @@ pub use laws::{
 pub use numbers::WIDEST;
 pub use places::{place, within};
 pub use points::{Point5, TooWide, point};
-pub use short_crossings::small_crossing;
-pub use small_points::{SmallPoint, small};
+pub use small_crossings::small_crossing;
+pub use small_points::{SmallPoint, small, whole};

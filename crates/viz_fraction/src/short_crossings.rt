@@ -1,65 +1,17 @@
-//! Crossings whose weighted sums fit 64 bits, as those on a grid of whole numbers.
-ghost use Rattle.std.specs.Prelude.{◌≡◌, ◌+◌, ◌^◌, ◌<◌, pos, ◌*ℤ◌, ◌≤ℤ◌, ◌<ℤ◌, ◌↔◌, IfSome};
-ghost use Rattle.std.specs.Prelude.{IsSome, IsTrue, FitsSigned, unsigned_abs};
+//! Weighted sums that fit 64 bits, of points that are reckoned with in 128.
+ghost use Rattle.std.specs.Prelude.{◌≡◌, ◌+◌, ◌^◌, ◌<◌, ◌*ℤ◌, ◌↔◌, IsTrue, FitsSigned};
+ghost use Rattle.std.specs.Prelude.{unsigned_abs};
 ghost use Rattle.std.specs.Int.{w32, w64};
-ghost use Rattle.viz_fraction.specs.Points.{IsPoint, reduced};
 ghost use Rattle.viz_fraction.specs.Numbers.{point_of};
 ghost use Rattle.viz_fraction.specs.Small.{IsSmall};
-ghost use Rattle.viz_fraction.specs.Short.{IsShort, IsShortCrossing};
-ghost use Rattle.viz_fraction.specs.Crossings.{crossing_of};
-ghost use Rattle.viz_fraction.specs.Mixes.{mix_of, mixed_of, IsLowestWeights, IsShortMix};
+ghost use Rattle.viz_fraction.specs.Short.{IsShort};
+ghost use Rattle.viz_fraction.specs.Mixes.{mix_of, mixed_of, IsShortMix};
 
-use crate::crossings::{Weights, weights_of};
+use crate::crossings::Weights;
 use crate::numbers::{Numbers, as_word, magnitude};
-use crate::points::{Point5, lowest_terms};
-use crate::small_points::{SmallPoint, narrowed};
-use crate::steps::step_divisor;
 
 /// Weights are light where they are below this together.
 const LIMIT: u128 = 1 << 32;
-
-/// The crossing of a form on the edge from an inside end `a`, where its value is `la`, to an
-/// outside end `b`, where its value is `lb`, where both ends are short, and their weights too;
-/// `crossing` serves elsewhere.
-#[inline(always)]
-pub fn small_crossing(la: i64, a: &SmallPoint, lb: i64, b: &SmallPoint) -> Option<SmallPoint>
-    requires inside { pos 0 ≤ℤ la }
-    requires outside { lb <ℤ pos 0 }
-    ensures value { IfSome result (λ p. p ≡ crossing_of la a.now lb b.now) }
-    ensures some { IsSome result ↔ IsShortCrossing la a.now lb b.now }
-{
-    let weights = weights_of(&i128::from(la), &i128::from(lb));
-    small_crossing_at(&weights, &a.numbers(), &b.numbers())
-}
-
-/// The small crossing of two ends with their weights.
-#[inline(always)]
-fn small_crossing_at(weights: &Weights, a: &Numbers, b: &Numbers) -> Option<SmallPoint>
-    requires inside { IsPoint (point_of a.now) }
-    requires outside { IsPoint (point_of b.now) }
-    requires weights { IsLowestWeights weights.now }
-    ensures value { IfSome result (λ p. p ≡ reduced (point_of (mixed_of weights.now a.now b.now))) }
-    ensures some { IsSome result ↔ IsShortMix weights.now a.now b.now }
-{
-    if !are_short(weights, a, b) {
-        return None;
-    }
-    Some(narrowed(&short_crossing(weights, a, b).numbers()))
-}
-
-/// The crossing of two short ends with their weights.
-#[inline(always)]
-fn short_crossing(weights: &Weights, a: &Numbers, b: &Numbers) -> Point5
-    requires inside { IsPoint (point_of a.now) }
-    requires outside { IsPoint (point_of b.now) }
-    requires weights { IsLowestWeights weights.now }
-    requires short { IsShortMix weights.now a.now b.now }
-    ensures value { result ≡ reduced (point_of (mixed_of weights.now a.now b.now)) }
-    ensures small { IsSmall result }
-{
-    let numbers = short_mixed(weights, a, b);
-    lowest_terms(step_divisor(a, b), &numbers)
-}
 
 /// Both ends fit 32 bits, and so do their weights together.
 #[inline(always)]
