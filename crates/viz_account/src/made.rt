@@ -1,27 +1,36 @@
 //! What is made of a node for its file.
 
-ghost use Rattle.std.specs.Prelude.{IsSome, Ok};
+ghost use Rattle.std.specs.Prelude.{◌<◌, IsSome, Ok};
 ghost use Rattle.viz_network.specs.Network.{node_of};
 ghost use Rattle.viz_node_meaning.specs.Scratch.{IsScratch};
 ghost use Rattle.viz_account.specs.Steps.Made.{IsStop, Makes, MakesNamed};
 
 use crate::answer::Missing;
 use std::alloc::Global;
-use viz_base::{Bytes, NodeId, Shared, Word};
+use std::thread::Threads;
+use viz_base::{LongText, NodeId, Shared, Word};
 use viz_dataset::Dataset;
 use viz_network::{Net, Stop};
-use viz_scratch::{cell_count, point_count, scratch, style_with, text_of, text_with};
+use viz_scratch::{cell_count, point_count, scratch, style_with, text_by_workers, text_of};
 
 /// The text of a node's file, with the numbers of what it has.
 #[derive(Debug, Drop)]
 pub struct Made {
-    pub text: Bytes,
+    pub text: LongText,
     pub cells: u64,
     pub points: u64,
 }
 
-/// The file of a node that gives this dataset.
-pub fn file_by(alloc: Global, net: &Net, node: NodeId, dataset: &Dataset) -> Result<Made, Stop>
+/// The file of a node that gives this dataset, by so many workers.
+pub fn file_by<R: Threads + Sync>(
+    rt: &R,
+    alloc: Global,
+    net: &Net,
+    node: NodeId,
+    dataset: &Dataset,
+    workers: u32,
+) -> Result<Made, Stop>
+    requires workers { 0 < workers }
     requires there { IsSome (node_of net.now node.0) }
     requires given { IsScratch net.now node.0 (Ok dataset.now) }
     ensures { Makes net.now node.0 result }
@@ -29,7 +38,7 @@ pub fn file_by(alloc: Global, net: &Net, node: NodeId, dataset: &Dataset) -> Res
     let style = style_with(&net.node(node).unwrap().settings);
     let cells = cell_count(dataset);
     let points = point_count(dataset);
-    match text_with(alloc, node, &style, dataset) {
+    match text_by_workers(rt, alloc, node, &style, dataset, workers) {
         Ok(text) => match (cells, points) {
             (Some(cells), Some(points)) => Ok(Made {
                 text,
@@ -52,8 +61,8 @@ fn file_with(alloc: Global, net: &Net, node: NodeId, dataset: Shared<Dataset>) -
     let cells = cell_count(dataset.get());
     let points = point_count(dataset.get());
     match text_of(alloc, node, &style, dataset) {
-        Ok(text) => match (cells, points) {
-            (Some(cells), Some(points)) => Ok(Made {
+        Ok(text) => match (cells, points, LongText::of(alloc, text)) {
+            (Some(cells), Some(points), Ok(text)) => Ok(Made {
                 text,
                 cells,
                 points,

@@ -27,7 +27,8 @@ pub struct Planned {
 }
 
 // What an update made that gave this.
-fn planned_by(
+fn planned_by<R: Threads + Sync>(
+    rt: &R,
     alloc: Global,
     net: &Net,
     entries: &[Stored],
@@ -41,7 +42,7 @@ fn planned_by(
     requires plan { IsByPlan net.now entries.now sink.0 shape.now.pieces produced }
     ensures { IsPlanned net.now entries.now shape.now.pieces sink.0 result }
 {
-    let file = file_by(alloc, net, sink, &produced.dataset);
+    let file = file_by(rt, alloc, net, sink, &produced.dataset, shape.workers);
     let ran = produced.ran;
     let parts = parts_of(alloc, net, entries, sink, shape, produced);
     Planned {
@@ -67,7 +68,7 @@ pub fn make_by_plan<R: Threads + Sync, G: Gate + Sync>(
     ensures { IsPlanned net.now entries.now shape.now.pieces sink.0 result }
 {
     match produce(rt, alloc, net, entries, sink, shape, gate) {
-        Ok(produced) => planned_by(alloc, net, entries, sink, shape, produced),
+        Ok(produced) => planned_by(rt, alloc, net, entries, sink, shape, produced),
         Err(stop) => Planned {
             file: Err(stop),
             ran: 0,

@@ -38,7 +38,7 @@ fn write_made<P: Port>(
 ) -> Answer
     ensures { WritesText P.Port file.now made.now ran at result port.old port.new }
 {
-    match port.write(alloc, file, made.text.list()) {
+    match port.write(alloc, file, &made.text) {
         Ok(()) => Answer::Written {
             at,
             cells: made.cells,

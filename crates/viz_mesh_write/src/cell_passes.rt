@@ -109,7 +109,8 @@ fn put_sheet_cells<T: Target, S: SheetCells>(
     first: u32,
     sheet: &S,
 ) -> Result<(), AllocError>
-    requires { first + (S.seen sheet.now).points < 2 ^ 31 }
+    requires needs { T.needs }
+    requires ready { first + (S.seen sheet.now).points < 2 ^ 31 }
     ensures { OnOk result (T.text text.new ≡ T.text text.old
         ++ flat_map (written_by what.now binary first) (S.seen sheet.now).cells) }
 {
@@ -123,7 +124,8 @@ pub(crate) fn put_all_cells<T: Target, S: SheetCells>(
     what: &OfCells,
     sheets: &[S],
 ) -> Result<(), AllocError>
-    requires { points_by S.seen sheets.now < 2 ^ 31 }
+    requires needs { T.needs }
+    requires ready { points_by S.seen sheets.now < 2 ^ 31 }
     ensures { OnOk result (T.text text.new ≡ T.text text.old
         ++ cell_rows (written_by what.now binary) 0 (map S.seen sheets.now)) }
 {

@@ -83,6 +83,7 @@ pub(crate) fn put_points_text<T: Target>(
     n: u64,
     sheets: &[Sheet],
 ) -> Result<(), WriteStop>
+    requires needs { T.needs }
     requires digits { digits ≤ 9 }
     requires count { n ≡ length (points_of sheets.now) }
     ensures ok { OnOk result (T.text text.new
@@ -110,6 +111,7 @@ pub(crate) fn put_scalars_text<T: Target>(
     n: u64,
     sheets: &[Sheet],
 ) -> Result<(), WriteStop>
+    requires needs { T.needs }
     requires count { n ≡ length (points_of sheets.now) }
     ensures ok { OnOk result (T.text text.new
         ≡ T.text text.old ++ scalars_text binary (points_of sheets.now)) }
@@ -134,7 +136,8 @@ fn put_sheets<T: Target>(
     tally: &Tally,
     sheets: &[Sheet],
 ) -> Result<(), AllocError>
-    requires { IsReady sheets.now tally.now }
+    requires needs { T.needs }
+    requires ready { IsReady sheets.now tally.now }
     ensures { OnOk result (T.text text.new
         ≡ T.text text.old ++ cells_text binary (cells_of sheets.now)) }
 {
@@ -150,6 +153,7 @@ pub(crate) fn put_mesh<T: Target>(
     tally: &Tally,
     sheets: &[Sheet],
 ) -> Result<(), WriteStop>
+    requires needs { T.needs }
     requires digits { digits ≤ 9 }
     requires ready { IsReady sheets.now tally.now }
     ensures ok { OnOk result (T.text text.new

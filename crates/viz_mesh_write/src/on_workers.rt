@@ -1,6 +1,7 @@
 //! A text that is made in parts by workers.
 
-ghost use Rattle.std.specs.Prelude.{◌≡◌, ◌<◌, [], IfOk};
+ghost use Rattle.std.specs.Prelude.{◌≡◌, ◌<◌, []};
+ghost use Rattle.std.specs.Thread.{IsSync};
 
 use crate::cell_parts::put_rank_parts;
 use crate::cell_rows::OfCells;
@@ -40,6 +41,8 @@ impl<'a, H: Threads + Sync> OnWorkers<'a, H> {
 
 impl<H: Threads + Sync> Target for OnWorkers<'_, H> {
     ghost text = { λ w. w.text };
+
+    ghost needs = { IsSync H.row };
 
     fn line(&self) -> Vec<u8> {
         Vec::new(self.alloc)

@@ -47,7 +47,8 @@ fn put_own_sheets<T: Target>(
     tally: &Tally,
     sheets: Vec<Sheet>,
 ) -> Result<(), AllocError>
-    requires { IsReady sheets.items tally.now }
+    requires needs { T.needs }
+    requires ready { IsReady sheets.items tally.now }
     ensures { OnOk result (T.text text.new
         ≡ T.text text.old ++ cells_text binary (cells_of sheets.items)) }
 {
@@ -65,6 +66,7 @@ fn put_own_mesh<T: Target>(
     tally: &Tally,
     sheets: Vec<Sheet>,
 ) -> Result<(), WriteStop>
+    requires needs { T.needs }
     requires ready { IsReady sheets.items tally.now }
     ensures ok { OnOk result (T.text text.new
         ≡ T.text text.old ++ mesh_text style.now.binary style.now.digits sheets.items) }

@@ -111,6 +111,7 @@ pub(crate) fn put_points<T: Target>(
     what: &OfPoints,
     sheets: &[Sheet],
 ) -> Result<(), WriteStop>
+    requires needs { T.needs }
     ensures ok { OnOk result (T.text text.new
         ≡ T.text text.old ++ point_rows (numbers_by what.now) binary (points_of sheets.now)) }
     ensures fits { OnOk result (FitRows (numbers_by what.now) (points_of sheets.now)) }

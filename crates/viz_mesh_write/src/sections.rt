@@ -27,7 +27,8 @@ fn put_block<T: Target, S: SheetCells>(
     n: u64,
     sheets: &[S],
 ) -> Result<(), AllocError>
-    requires { points_by S.seen sheets.now < 2 ^ 31 }
+    requires needs { T.needs }
+    requires ready { points_by S.seen sheets.now < 2 ^ 31 }
     ensures { OnOk result (T.text text.new ≡ T.text text.old
         ++ (cell_rows (written_by what.now binary) 0 (map S.seen sheets.now)
         ++ block_end binary n)) }
@@ -46,6 +47,7 @@ fn put_some_section<T: Target, S: SheetCells>(
     n: u64,
     sheets: &[S],
 ) -> Result<(), AllocError>
+    requires needs { T.needs }
     requires few { points_by S.seen sheets.now < 2 ^ 31 }
     requires count { n ≡ length (of_size size (indices_by S.seen sheets.now)) }
     requires fits { (size + 1) * n < 2 ^ 31 }
@@ -70,6 +72,7 @@ fn put_parts<T: Target, S: SheetCells>(
     tally: &Tally,
     sheets: &[S],
 ) -> Result<(), AllocError>
+    requires needs { T.needs }
     requires few { points_by S.seen sheets.now < 2 ^ 31 }
     requires ready { AreCounted (indices_by S.seen sheets.now) tally.now }
     requires vertices { 2 * tally.now.vertices < 2 ^ 31 }
@@ -91,6 +94,7 @@ fn put_poly<T: Target, S: SheetCells>(
     tally: &Tally,
     sheets: &[S],
 ) -> Result<(), AllocError>
+    requires needs { T.needs }
     requires few { points_by S.seen sheets.now < 2 ^ 31 }
     requires ready { AreCounted (indices_by S.seen sheets.now) tally.now }
     requires none { tally.now.tetrahedra ≡ 0 }
@@ -112,6 +116,7 @@ fn put_types<T: Target, S: SheetCells>(
     n: u64,
     sheets: &[S],
 ) -> Result<(), AllocError>
+    requires needs { T.needs }
     requires few { points_by S.seen sheets.now < 2 ^ 31 }
     requires count { n ≡ length (indices_by S.seen sheets.now) }
     ensures { OnOk result (T.text text.new
@@ -129,6 +134,7 @@ fn put_grid<T: Target, S: SheetCells>(
     tally: &Tally,
     sheets: &[S],
 ) -> Result<(), AllocError>
+    requires needs { T.needs }
     requires few { points_by S.seen sheets.now < 2 ^ 31 }
     requires ready { AreCounted (indices_by S.seen sheets.now) tally.now }
     ensures { OnOk result (T.text text.new
@@ -148,6 +154,7 @@ pub(crate) fn put_cells_text<T: Target, S: SheetCells>(
     tally: &Tally,
     sheets: &[S],
 ) -> Result<(), AllocError>
+    requires needs { T.needs }
     requires few { points_by S.seen sheets.now < 2 ^ 31 }
     requires ready { AreCounted (indices_by S.seen sheets.now) tally.now }
     ensures { OnOk result (T.text text.new

@@ -35,6 +35,8 @@ impl Straight {
 impl Target for Straight {
     ghost text = { λ s. s.text.items };
 
+    ghost needs = { Unit {0} };
+
     fn line(&self) -> Vec<u8> {
         Vec::new(self.alloc)
     }

@@ -17,6 +17,9 @@ use viz_sheet::{Places, Ranks};
 pub(crate) trait Target {
     ghost text: { Self → List ℕ };
 
+    /// What rows are made by, as threads: that they may be shared.
+    ghost needs: { Type 0 };
+
     /// A line that is to be put, still empty.
     fn line(&self) -> Vec<u8>
         ensures { result.items ≡ [] };
@@ -32,6 +35,7 @@ pub(crate) trait Target {
         what: &OfPoints,
         places: &Places,
     ) -> Result<(), WriteStop>
+        requires { needs }
         ensures ok { OnOk result (text self.new
             ≡ text self.old ++ point_rows (numbers_by what.now) binary (points_in places.now)) }
         ensures fits { OnOk result (FitRows (numbers_by what.now) (points_in places.now)) }
@@ -47,7 +51,8 @@ pub(crate) trait Target {
         first: u32,
         ranks: &Ranks,
     ) -> Result<(), AllocError>
-        requires { All (IsMovable first) (ranks_in ranks.now) }
+        requires needs { needs }
+        requires movable { All (IsMovable first) (ranks_in ranks.now) }
         ensures { OnOk result (text self.new
             ≡ text self.old ++ flat_map (written_by what.now binary first) (ranks_in ranks.now)) };
 }

@@ -16,4 +16,4 @@ mod written;
 pub use counts::{cell_count, point_count};
 pub use evaluation::scratch;
 pub use laws::files_are_one;
-pub use written::{file_text, style_with, text_of, text_with};
+pub use written::{file_text, style_with, text_by_workers, text_of};

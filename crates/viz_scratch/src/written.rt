@@ -1,6 +1,6 @@
 //! The written file of a node.
 
-ghost use Rattle.std.specs.Prelude.{◌≡◌, IsSome};
+ghost use Rattle.std.specs.Prelude.{◌≡◌, ◌<◌, IsSome};
 ghost use Rattle.viz_network.specs.Network.{node_of};
 ghost use Rattle.viz_node_meaning.specs.Information.{within};
 ghost use Rattle.viz_node_meaning.specs.Scratch.{Answers};
@@ -8,11 +8,12 @@ ghost use Rattle.viz_scratch.specs.Written.{IsFileOf, IsTextOf, style_with, styl
 
 use crate::evaluation::scratch;
 use std::alloc::Global;
-use viz_base::{Bytes, NodeId, Shared};
+use std::thread::Threads;
+use viz_base::{Bytes, LongText, NodeId, Shared};
 use viz_dataset::Dataset;
 use viz_image_write::{Style, WriteStop, write_image};
 use viz_kinds::Settings;
-use viz_mesh_write::{write_mesh, write_owned_mesh};
+use viz_mesh_write::{write_mesh, write_mesh_by_workers, write_owned_mesh};
 use viz_network::{Cause, Fault, Net, Stop};
 
 fn digits_with(digits: u8) -> u8
@@ -54,18 +55,8 @@ fn stopped(node: NodeId, stop: WriteStop) -> Stop
     }
 }
 
-/// The text of a dataset that the node gives, in the style.
-///
-/// # Errors
-///
-/// `Fault` of the node with `TooMany` exactly where the text has too many points or cells, and with
-/// `TooWide` exactly where it hasn't and a written number doesn't fit.
-pub fn text_with(
-    alloc: Global,
-    node: NodeId,
-    style: &Style,
-    dataset: &Dataset,
-) -> Result<Bytes, Stop>
+// The text of a dataset that the node gives, in the style.
+fn text_with(alloc: Global, node: NodeId, style: &Style, dataset: &Dataset) -> Result<Bytes, Stop>
     ensures value { Answers (IsTextOf (style_seen style.now) node.0 dataset.now) result }
 {
     let text = match dataset {
@@ -73,6 +64,35 @@ pub fn text_with(
         Dataset::Mesh(mesh) => write_mesh(alloc, mesh, style),
     };
     match text {
+        Ok(text) => Ok(text),
+        Err(stop) => Err(stopped(node, stop)),
+    }
+}
+
+/// The text of a dataset that the node gives, in the style. That of a mesh is made by so many
+/// workers, and is the same for every number of them.
+///
+/// # Errors
+///
+/// `Fault` of the node with `TooMany` exactly where the text has too many points or cells, and with
+/// `TooWide` exactly where it hasn't and a written number doesn't fit. Want of memory may come in
+/// place of `TooWide` and of a text.
+pub fn text_by_workers<R: Threads + Sync>(
+    rt: &R,
+    alloc: Global,
+    node: NodeId,
+    style: &Style,
+    dataset: &Dataset,
+    workers: u32,
+) -> Result<LongText, Stop>
+    requires { 0 < workers }
+    ensures value { Answers (IsTextOf (style_seen style.now) node.0 dataset.now) result }
+{
+    let Dataset::Mesh(mesh) = dataset else {
+        let text = text_with(alloc, node, style, dataset)?;
+        return Ok(LongText::of(alloc, text)?);
+    };
+    match write_mesh_by_workers(rt, alloc, mesh, style, workers) {
         Ok(text) => Ok(text),
         Err(stop) => Err(stopped(node, stop)),
     }
@@ -92,12 +112,12 @@ fn own_text(alloc: Global, node: NodeId, style: &Style, dataset: Dataset) -> Res
     }
 }
 
-/// The same of an owner that is given up: where it is the one owner of a mesh, the mesh is given up
-/// while its text is made.
+/// The text of a dataset that the node gives, in the style, of an owner that is given up: where it
+/// is the one owner of a mesh, the mesh is given up while its text is made.
 ///
 /// # Errors
 ///
-/// Those of `text_with`.
+/// Those of `text_by_workers`.
 pub fn text_of(
     alloc: Global,
     node: NodeId,

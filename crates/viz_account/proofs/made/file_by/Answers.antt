@@ -5,7 +5,7 @@ use Rattle.viz_account.proofs.MadeLemmas.{text_stopped}
 use Rattle.viz_account.proofs.made.file_by.Goals as goal
 
 pub returns-in-Err : goal.returns-in-Err
-returns-in-Err c =
+returns-in-Err g c =
     let style = c.style_with-style.result in
     let is : style_seen style ≡ style_of (cone_of c.args.net.now c.args.node.0) = search rules in
     text_stopped c.args.net.now c.args.node.0 c.args.dataset.now

@@ -5,7 +5,7 @@ use Rattle.viz_account.proofs.MadeLemmas.{plan_ran}
 use Rattle.viz_account.proofs.planned.planned_by.Goals as goal
 
 pub returns : goal.returns
-returns c =
+returns g c =
     let net = c.args.net.now in
     let sink = c.parts_of-parts.ensures.sink in
     let dataset = c.args.produced.dataset in

@@ -7,11 +7,11 @@ use Rattle.viz_mesh_write.proofs.mesh.put_sheets.Goals as goal
 
 pub put_cells_text-requires-clause-few : goal.put_cells_text-requires-clause-few
 put_cells_text-requires-clause-few g c =
-    subst (λ (n : ℕ). n < 2 ^ 31) (sym (points_again c.args.sheets.now)) c.requires.fits.points
+    subst (λ (n : ℕ). n < 2 ^ 31) (sym (points_again c.args.sheets.now)) c.requires.ready.fits.points
 
 pub put_cells_text-requires-clause-ready : goal.put_cells_text-requires-clause-ready
 put_cells_text-requires-clause-ready g c =
-    subst (λ (cells : List (List ℕ)). AreCounted cells c.args.tally.now) (sym (cells_again c.args.sheets.now)) (counted_again c.args.sheets.now c.args.tally.now c.requires)
+    subst (λ (cells : List (List ℕ)). AreCounted cells c.args.tally.now) (sym (cells_again c.args.sheets.now)) (counted_again c.args.sheets.now c.args.tally.now c.requires.ready)
 
 pub returns : goal.returns
 returns g c =

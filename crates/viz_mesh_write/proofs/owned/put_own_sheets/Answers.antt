@@ -8,12 +8,12 @@ use Rattle.viz_mesh_write.proofs.owned.put_own_sheets.Goals as goal
 pub put_cells_text-requires-clause-few : goal.put_cells_text-requires-clause-few
 put_cells_text-requires-clause-few g c =
     let same = c.deref.ensures.value ∙ c.in_ok-cells.ensures in
-    subst (λ (n : ℕ). n < 2 ^ 31) (sym (own_points_again c.deref.result.now c.args.sheets.items same)) c.requires.fits.points
+    subst (λ (n : ℕ). n < 2 ^ 31) (sym (own_points_again c.deref.result.now c.args.sheets.items same)) c.requires.ready.fits.points
 
 pub put_cells_text-requires-clause-ready : goal.put_cells_text-requires-clause-ready
 put_cells_text-requires-clause-ready g c =
     let same = c.deref.ensures.value ∙ c.in_ok-cells.ensures in
-    subst (λ (cells : List (List ℕ)). AreCounted cells c.args.tally.now) (sym (own_cells_again c.deref.result.now c.args.sheets.items same)) (counted_again c.args.sheets.items c.args.tally.now c.requires)
+    subst (λ (cells : List (List ℕ)). AreCounted cells c.args.tally.now) (sym (own_cells_again c.deref.result.now c.args.sheets.items same)) (counted_again c.args.sheets.items c.args.tally.now c.requires.ready)
 
 pub returns : goal.returns
 returns g c =

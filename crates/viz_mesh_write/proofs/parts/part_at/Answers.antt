@@ -1,5 +1,4 @@
-use Rattle.std.proofs.Common.{◌≡◌, ◌-◌, ◌*◌, ◌∙◌, ap, length, take, drop, rules, sym}
-use Rattle.std.proofs.lemmas.List.{take_min, take_rest, length-drop}
+use Rattle.std.proofs.Common.{rules}
 use Rattle.viz_mesh_write.proofs.PartLemmas.{part_is}
 use Rattle.viz_mesh_write.proofs.parts.part_at.Goals as goal
 
