@@ -1,15 +1,21 @@
 -- Which ends are inside, and the crossing of a name by the values at its ends.
-use Rattle.std.proofs.Common.{◌≡◌, ℕ, ℤ, sym, ap, subst, ◌∙◌}
+use Rattle.std.proofs.Common.{◌≡◌, ℕ, ℤ, pos, Option, Some, None, refl, sym, ap, subst, ◌∙◌, arith}
+use Rattle.std.specs.Prelude.{◌-ℤ◌, ◌*ℤ◌, IsSome, OnSome}
+use Rattle.std.proofs.lemmas.Int.{ints}
 use Rattle.viz_fraction.specs.declared.forms.Form.{Form}
 use Rattle.viz_fraction.specs.Points.{Point}
 use Rattle.viz_fraction.specs.Forms.{contour_form, value_of}
-use Rattle.viz_fraction.specs.Crossings.{edge_crossing}
+use Rattle.viz_fraction.specs.Crossings.{edge_crossing, IsNarrowCrossing}
+use Rattle.viz_fraction.specs.Short.{IsShortCrossing}
+use Rattle.viz_fraction.proofs.ShortLemmas.{short_crossing_is_narrow}
 use Rattle.viz_grid_section.specs.Edges.{Edge}
 use Rattle.viz_dataset.specs.Images.{ImageData}
 use Rattle.viz_contour.specs.declared.crossings.End.{End}
+use Rattle.viz_contour.specs.declared.small_ends.SmallEnd.{SmallEnd}
 use Rattle.viz_meaning.specs.Tetrahedra.{point_of_leaf}
-use Rattle.viz_contour.specs.Steps.Ends.{IsEnd, either_crossing, IsNarrowEither}
+use Rattle.viz_contour.specs.Steps.Ends.{IsEnd, IsSmallEnd, either_crossing, IsNarrowEither}
 use Rattle.viz_meaning.specs.Narrow.{IsNarrowEdge}
+use Rattle.viz_grid_section.proofs.LeafLemmas.{value-contour}
 
 -- the crossing by values is that of the form
 pub either-edge : (f : Form) (p q a b : Point) (la lb : ℤ) → la ≡ value_of f p → lb ≡ value_of f q → a ≡ p → b ≡ q
@@ -44,3 +50,33 @@ pub end-leaf : (level : ℤ) (image : ImageData) (e : End) (leaf : ℕ) → IsEn
     → (e.point ≡ point_of_leaf image leaf) × (e.above ≡ value_of (contour_form level) (point_of_leaf image leaf))
 end-leaf level image e leaf end is =
     (end.point ∙ ap (point_of_leaf image) is, end.above ∙ ap (λ m. value_of (contour_form level) (point_of_leaf image m)) is)
+
+-- and so has an end of 64 bits
+pub small_end-leaf : (level : ℤ) (image : ImageData) (e : SmallEnd) (leaf : ℕ) → IsSmallEnd level image e → e.leaf ≡ leaf
+    → (e.point ≡ point_of_leaf image leaf) × (e.above ≡ value_of (contour_form level) (point_of_leaf image leaf))
+small_end-leaf level image e leaf end is =
+    (end.point ∙ ap (point_of_leaf image) is, end.above ∙ ap (λ m. value_of (contour_form level) (point_of_leaf image m)) is)
+
+-- the form's value at a point of weight 1
+pub small_above : (above s level : ℤ) (p q : Point) → above ≡ s -ℤ level → p.s ≡ s → p.w ≡ pos 1 → p ≡ q → above ≡ value_of (contour_form level) q
+small_above above s level p q is is_s is_w same =
+    let one : level *ℤ pos 1 ≡ level = omega (arith, ints) in
+    is ∙ ap (λ n. n -ℤ level) (sym is_s) ∙ ap (λ n. p.s -ℤ n) (sym (ap (λ w. level *ℤ w) is_w ∙ one))
+    ∙ sym (value-contour level p.x p.y p.z p.s p.w) ∙ ap (value_of (contour_form level)) same
+
+-- nothing in a short crossing between two values is wide
+pub short_is_narrow : (la lb m n : ℤ) (a b : Point) → m ≡ la → n ≡ lb → IsShortCrossing m a n b → IsNarrowCrossing la a lb b
+short_is_narrow la lb m n a b is_m is_n short =
+    let A : ℤ → Type 0 = λ z. IsShortCrossing z a n b in
+    let B : ℤ → Type 0 = λ z. IsShortCrossing la a z b in
+    short_crossing_is_narrow la a lb b (subst B is_n (subst A is_m short))
+
+-- ---- what holds where there is something
+
+pub on_some : {X P : Type 0} (o : Option X) → (IsSome o → P) → OnSome o P
+on_some None found = tt
+on_some (Some x) found = found refl
+
+pub on_some_also : {X P Q : Type 0} (o : Option X) → (P → Q) → OnSome o P → OnSome o Q
+on_some_also None so h = tt
+on_some_also (Some x) so h = so h

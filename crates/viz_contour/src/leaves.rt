@@ -10,7 +10,7 @@ ghost use Rattle.viz_meaning.specs.Tetrahedra.{point_of_leaf};
 ghost use Rattle.viz_contour.specs.Steps.Units.{billions_of, AreUnits};
 
 use viz_dataset::Image;
-use viz_fraction::{Point5, point};
+use viz_fraction::{Point5, SmallPoint, point, whole};
 
 /// So many billionths make 1.
 const BILLION: i128 = 1_000_000_000;
@@ -94,6 +94,34 @@ fn scalar_at(image: &Image, leaf: u32) -> i128
 {
     let _extent = image.extent();
     image.column().get(u64::from(leaf))
+}
+
+/// The number at a leaf, where it fits 64 bits.
+#[inline(always)]
+pub(crate) fn word_at(image: &Image, leaf: u32) -> Option<i64>
+    requires { leaf < count_of image.now.extent }
+    ensures { IfSome result (λ n.
+        n ≡ slice_index_or image.now.values.items leaf (pos 0)) }
+{
+    i64::try_from(scalar_at(image, leaf)).ok()
+}
+
+/// The point of a leaf with its scalar, by an image's units.
+#[inline(always)]
+pub(crate) fn small_leaf_point(image: &Image, units: &Units, leaf: u32, scalar: &i64) -> SmallPoint
+    requires units { AreUnits image.now units.now }
+    requires within { leaf < count_of image.now.extent }
+    requires scalar { scalar.now ≡ slice_index_or image.now.values.items leaf (pos 0) }
+    ensures value { result ≡ point_of_leaf image.now leaf }
+    ensures scalar { result.s ≡ scalar.now }
+    ensures weight { result.w ≡ pos 1 }
+{
+    let extent = image.extent();
+    let (i, j, k) = extent.place_of(u64::from(leaf));
+    let x = coordinate(&units.origin[0], &units.spacing[0], i);
+    let y = coordinate(&units.origin[1], &units.spacing[1], j);
+    let z = coordinate(&units.origin[2], &units.spacing[2], k);
+    whole(x, y, z, *scalar)
 }
 
 /// The point at the indices i, j, k with a scalar, by an image's units.

@@ -8,6 +8,7 @@ mod crossings;
 mod leaves;
 mod levels;
 mod points;
+mod small_ends;
 mod surfaces;
 
 pub use surfaces::contour;

@@ -7,12 +7,18 @@ use Rattle.viz_fraction.specs.Crossings.{crossing_of, IsNarrowCrossing}
 use Rattle.viz_dataset.specs.Images.{ImageData}
 use Rattle.viz_meaning.specs.Tetrahedra.{point_of_leaf}
 use Rattle.viz_contour.specs.declared.crossings.End.{End}
+use Rattle.viz_contour.specs.declared.small_ends.SmallEnd.{SmallEnd}
 
 -- it has the point of its leaf, and the value of the contour's form there
 pub record IsEnd (level : ℤ) (image : ImageData) (e : End) : Type 0 where
   pub point : e.point ≡ point_of_leaf image e.leaf
   pub above : e.above ≡ value_of (contour_form level) (point_of_leaf image e.leaf)
   pub narrow : IsNarrow e.above
+
+-- the same of an end of 64 bits
+pub record IsSmallEnd (level : ℤ) (image : ImageData) (e : SmallEnd) : Type 0 where
+  pub point : e.point ≡ point_of_leaf image e.leaf
+  pub above : e.above ≡ value_of (contour_form level) (point_of_leaf image e.leaf)
 
 -- the crossing between two ends, whichever is inside, by their values
 abbrev pub either_crossing : ℤ → Point → ℤ → Point → Point
