@@ -1,14 +1,14 @@
 -- Cells of names of one leaf fit.
-use Rattle.std.proofs.Common.{◌≡◌, ℕ, ◌<◌, ◌≤◌, [], ◌∷◌, List, length, sym, subst, ◌∙◌, ap, arith}
-use Rattle.std.specs.List.{All, range_with_len}
+use Rattle.std.proofs.Common.{◌≡◌, ℕ, ◌<◌, ◌≤◌, [], ◌∷◌, List, length, sym, subst, ap, arith}
+use Rattle.std.specs.List.{All}
 use Rattle.std.specs.Prelude.{slice_index_or}
 use Rattle.std.proofs.lemmas.List.{length-map}
 use Rattle.std.proofs.lemmas.List.Elements.{All-map, All-weaker}
 use Rattle.std.proofs.lemmas.List.FromFn.{get_or-map-range_with_len}
 use Rattle.viz_fraction.specs.Points.{Point}
 use Rattle.viz_sheet.specs.Kept.{sheet_with}
-use Rattle.viz_sheet.specs.Ranked.{IsCell, leaf_names, names_at, by_names}
-use Rattle.viz_sheet.specs.Sheet.{SheetData, IsFit, most_names}
+use Rattle.viz_sheet.specs.Ranked.{IsCell, leaf_names, names_at}
+use Rattle.viz_sheet.specs.Sheet.{IsFit, most_names}
 
 -- the name at a rank has one leaf
 leaf_at : (count r : ℕ) → r < count → slice_index_or (leaf_names count) r [] ≡ r ∷ []

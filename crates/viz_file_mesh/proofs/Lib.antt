@@ -5,3 +5,4 @@ pub mod MeshLemmas
 pub mod PieceLoops
 pub mod PolyCells
 pub mod ReadCells
+pub mod OwnPieces

@@ -1,6 +1,7 @@
 //! Cells of one size or of any, as a loop over many cells makes them.
 
 ghost use Rattle.std.specs.Prelude.{◌≡◌, ◌≤◌, ◌↔◌, ℕ, List, IfSome, IsSome, length};
+ghost use Rattle.viz_file_mesh.specs.GridPieces.{repeats_none};
 
 use viz_sheet::Mixed;
 
@@ -17,6 +18,10 @@ pub(crate) trait CellIndices: Drop {
         ensures value { IfSome result (λ c. list c ≡ indices.now) }
         ensures some { IsSome result ↔ (length indices.now ≡ size) };
 
+    /// No index is repeated.
+    fn is_apart(&self) -> bool
+        ensures { result ≡ repeats_none (list self.now) };
+
     /// The same cell, among cells of other sizes.
     fn mixed(&self) -> Mixed
         ensures value { result ≡ list self.now };
@@ -32,6 +37,11 @@ impl CellIndices for [u32; 1] {
             [a] => Some([*a]),
             _ => None,
         }
+    }
+
+    fn is_apart(&self) -> bool {
+        let [_only] = *self;
+        true
     }
 
     fn mixed(&self) -> Mixed {
@@ -52,6 +62,11 @@ impl CellIndices for [u32; 2] {
         }
     }
 
+    fn is_apart(&self) -> bool {
+        let [a, b] = *self;
+        a != b
+    }
+
     fn mixed(&self) -> Mixed {
         let [a, b] = *self;
         Mixed::new(2, [a, b, 0, 0])
@@ -70,6 +85,11 @@ impl CellIndices for [u32; 3] {
         }
     }
 
+    fn is_apart(&self) -> bool {
+        let [a, b, c] = *self;
+        !(a == b || a == c) && b != c
+    }
+
     fn mixed(&self) -> Mixed {
         let [a, b, c] = *self;
         Mixed::new(3, [a, b, c, 0])
@@ -86,6 +106,11 @@ impl CellIndices for [u32; 4] {
             [a, b, c, d] => Some([*a, *b, *c, *d]),
             _ => None,
         }
+    }
+
+    fn is_apart(&self) -> bool {
+        let [a, b, c, d] = *self;
+        !(a == b || a == c || a == d) && !(b == c || b == d) && c != d
     }
 
     fn mixed(&self) -> Mixed {

@@ -3,7 +3,6 @@ use Rattle.std.proofs.Common.{◌≡◌, ℕ, ℤ, zero, suc, ◌*◌, Bool, tru
 use Rattle.std.specs.Prelude.{codes}
 use Rattle.viz_column.specs.declared.kind.Kind8.{Kind8}
 use Rattle.viz_column.specs.Kinds.{size_of, fits}
-use Rattle.viz_column.specs.Bytes.{numbers_in}
 use Rattle.viz_column.specs.Numbers.{Numbers}
 use Rattle.viz_lex.specs.declared.fault.FileKind.TheVariants.{ValueRange}
 use Rattle.viz_lex.specs.Reading.{Reading}

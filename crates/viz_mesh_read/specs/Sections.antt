@@ -3,7 +3,6 @@
 use Rattle.std.specs.Prelude.{◌≡◌, ◌<◌, ℕ, ℤ, pos, negsuc, zero, suc, ◌+◌, ◌-◌, ◌^◌, All, Bool}
 use Rattle.std.specs.Prelude.{false, not, ◌&&◌, ◌||◌, ◌==◌, nat_le, nat_lt, unsigned_abs, List, []}
 use Rattle.std.specs.Prelude.{◌∷◌, length}
-use Rattle.std.specs.List.{flat_map}
 use Rattle.viz_column.specs.declared.kind.Kind8.TheVariants.{I32}
 use Rattle.viz_column.specs.Bytes.{number_in}
 use Rattle.viz_lex.specs.declared.fault.FileKind.TheVariants.{Count, Index, TooMany}
@@ -13,6 +12,7 @@ use Rattle.viz_lex.specs.Repeats.{times}
 use Rattle.viz_lex.specs.Items.{number, line_end, block}
 use Rattle.viz_attr.specs.Counts.{is_number, is_at_least, is_below, count_from}
 use Rattle.viz_mesh_read.specs.declared.sections.CellSection.{CellSection}
+pub use Rattle.viz_mesh_read.specs.Numbered.{cell_numbers, numbers_of_cells}
 
 -- nothing stands there, and the place is the value
 abbrev pub here : Rule ℕ
@@ -82,14 +82,6 @@ section binary points = do
   size ← section_size n
   started ← section_start binary
   cells binary points n size
-
--- the numbers of a cell: its count and its indices
-abbrev pub cell_numbers : List ℕ → List ℕ
-cell_numbers indices = length indices ∷ indices
-
--- the numbers of cells, one cell after the other
-abbrev pub numbers_of_cells : List (List ℕ) → List ℕ
-numbers_of_cells cells = flat_map cell_numbers cells
 
 -- a section by its numbers as they stand in the file
 abbrev pub section_numbers : Bool → ℕ → Rule (ℕ × List ℕ)

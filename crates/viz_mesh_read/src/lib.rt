@@ -6,9 +6,12 @@
 #![tactic(auto)]
 
 mod arrays;
+mod blocks;
+mod cell_numbers;
 mod coordinates;
 mod counts;
 mod fields;
+mod fixed_cells;
 mod grids;
 mod laws;
 mod numbers;
@@ -17,6 +20,7 @@ mod poly;
 mod sections;
 mod types;
 
+pub use cell_numbers::{CellArrays, CellNumbers};
 pub use coordinates::{FilePoints, points};
 pub use grids::{GridFile, grid};
 pub use laws::{

@@ -6,6 +6,8 @@ ghost use Rattle.viz_mesh_read.specs.Pieces.{kept, vertex_of, vertices_of, segme
 ghost use Rattle.viz_mesh_read.specs.Pieces.{lines_of, triangle_of, is_triangle, triangles_of};
 ghost use Rattle.viz_mesh_read.specs.Pieces.{first_indices, in_cells, pieces_in, pieces_of};
 
+use crate::cell_numbers::CellArrays;
+use crate::fixed_cells::flattened;
 use crate::poly::PolyCells;
 use crate::sections::CellSection;
 use crate::types::behind_first;
@@ -107,27 +109,85 @@ fn push_triangles(pieces: &mut Vec<[u32; 3]>, cell: &[u32], strip: bool) -> Resu
     Ok(())
 }
 
-/// The vertices of all these cells.
-fn all_vertices(pieces: &mut Vec<[u32; 1]>, cells: &CellSection) -> Result<(), AllocError>
+/// The vertices of so many cells, whose numbers are these.
+fn vertices_in(pieces: &mut Vec<[u32; 1]>, count: u64, numbers: &[u32]) -> Result<(), AllocError>
     ensures { OnOk result (pieces.new.items ≡ pieces.old.items
-        ++ in_cells vertices_of cells.now.count cells.now.numbers.items) }
+        ++ in_cells vertices_of count numbers.now) }
 {
-    let mut left = cells.numbers.as_slice();
-    for _ in 0..cells.count {
+    let mut left = numbers;
+    for _ in 0..count {
         push_vertices(pieces, first_indices(left))?;
         left = behind_first(left);
     }
     Ok(())
 }
 
+/// The vertices of all these cells.
+fn all_vertices(
+    alloc: Global,
+    pieces: &mut Vec<[u32; 1]>,
+    cells: &CellSection,
+) -> Result<(), AllocError>
+    ensures { OnOk result (pieces.new.items ≡ pieces.old.items
+        ++ in_cells vertices_of cells.now.count cells.now.numbers.items) }
+{
+    match cells.numbers.arrays() {
+        CellArrays::Mixed(numbers) => vertices_in(pieces, cells.count, numbers),
+        CellArrays::Triangles(of_three) => {
+            vertices_in(pieces, cells.count, &flattened(alloc, of_three)?)
+        }
+        CellArrays::Tetrahedra(of_four) => {
+            vertices_in(pieces, cells.count, &flattened(alloc, of_four)?)
+        }
+    }
+}
+
+/// The segments of so many cells, whose numbers are these.
+fn lines_in(pieces: &mut Vec<[u32; 2]>, count: u64, numbers: &[u32]) -> Result<(), AllocError>
+    ensures { OnOk result (pieces.new.items ≡ pieces.old.items
+        ++ in_cells lines_of count numbers.now) }
+{
+    let mut left = numbers;
+    for _ in 0..count {
+        push_lines(pieces, first_indices(left))?;
+        left = behind_first(left);
+    }
+    Ok(())
+}
+
 /// The segments of all these cells.
-fn all_lines(pieces: &mut Vec<[u32; 2]>, cells: &CellSection) -> Result<(), AllocError>
+fn all_lines(
+    alloc: Global,
+    pieces: &mut Vec<[u32; 2]>,
+    cells: &CellSection,
+) -> Result<(), AllocError>
     ensures { OnOk result (pieces.new.items ≡ pieces.old.items
         ++ in_cells lines_of cells.now.count cells.now.numbers.items) }
 {
-    let mut left = cells.numbers.as_slice();
-    for _ in 0..cells.count {
-        push_lines(pieces, first_indices(left))?;
+    match cells.numbers.arrays() {
+        CellArrays::Mixed(numbers) => lines_in(pieces, cells.count, numbers),
+        CellArrays::Triangles(of_three) => {
+            lines_in(pieces, cells.count, &flattened(alloc, of_three)?)
+        }
+        CellArrays::Tetrahedra(of_four) => {
+            lines_in(pieces, cells.count, &flattened(alloc, of_four)?)
+        }
+    }
+}
+
+/// The triangles of so many cells, whose numbers are these.
+fn triangles_in(
+    pieces: &mut Vec<[u32; 3]>,
+    count: u64,
+    numbers: &[u32],
+    strip: bool,
+) -> Result<(), AllocError>
+    ensures { OnOk result (pieces.new.items ≡ pieces.old.items
+        ++ in_cells (triangles_of strip) count numbers.now) }
+{
+    let mut left = numbers;
+    for _ in 0..count {
+        push_triangles(pieces, first_indices(left), strip)?;
         left = behind_first(left);
     }
     Ok(())
@@ -135,6 +195,7 @@ fn all_lines(pieces: &mut Vec<[u32; 2]>, cells: &CellSection) -> Result<(), Allo
 
 /// The triangles of all these cells.
 fn all_triangles(
+    alloc: Global,
     pieces: &mut Vec<[u32; 3]>,
     cells: &CellSection,
     strip: bool,
@@ -142,17 +203,20 @@ fn all_triangles(
     ensures { OnOk result (pieces.new.items ≡ pieces.old.items
         ++ in_cells (triangles_of strip) cells.now.count cells.now.numbers.items) }
 {
-    let mut left = cells.numbers.as_slice();
-    for _ in 0..cells.count {
-        push_triangles(pieces, first_indices(left), strip)?;
-        left = behind_first(left);
+    match cells.numbers.arrays() {
+        CellArrays::Mixed(numbers) => triangles_in(pieces, cells.count, numbers, strip),
+        CellArrays::Triangles(of_three) => {
+            triangles_in(pieces, cells.count, &flattened(alloc, of_three)?, strip)
+        }
+        CellArrays::Tetrahedra(of_four) => {
+            triangles_in(pieces, cells.count, &flattened(alloc, of_four)?, strip)
+        }
     }
-    Ok(())
 }
 
 /// How many triangles these cells have at most, where each has three points or more.
 fn room_for(cells: &CellSection) -> usize {
-    let most = cells.numbers.len();
+    let most = cells.numbers.room();
     most.saturating_sub((cells.count as usize).saturating_mul(3).min(most))
 }
 
@@ -161,14 +225,14 @@ fn all_pieces(alloc: Global, cells: &PolyCells) -> Result<PolyPieces, AllocError
         p.vertices.items ++ (p.lines.items ++ p.triangles.items)
         ≡ pieces_in (sections_of cells.now)) }
 {
-    let mut vertices = Vec::with_capacity(alloc, cells.vertices.numbers.len())?;
-    all_vertices(&mut vertices, &cells.vertices)?;
-    let mut lines = Vec::with_capacity(alloc, cells.lines.numbers.len())?;
-    all_lines(&mut lines, &cells.lines)?;
+    let mut vertices = Vec::with_capacity(alloc, cells.vertices.numbers.room())?;
+    all_vertices(alloc, &mut vertices, &cells.vertices)?;
+    let mut lines = Vec::with_capacity(alloc, cells.lines.numbers.room())?;
+    all_lines(alloc, &mut lines, &cells.lines)?;
     let room = room_for(&cells.polygons).saturating_add(room_for(&cells.strips));
     let mut triangles = Vec::with_capacity(alloc, room)?;
-    all_triangles(&mut triangles, &cells.polygons, false)?;
-    all_triangles(&mut triangles, &cells.strips, true)?;
+    all_triangles(alloc, &mut triangles, &cells.polygons, false)?;
+    all_triangles(alloc, &mut triangles, &cells.strips, true)?;
     Ok(PolyPieces {
         vertices,
         lines,

@@ -8,6 +8,7 @@ ghost use Rattle.viz_mesh_read.specs.Poly.{for_each, with_kind, kind_named, none
 ghost use Rattle.viz_mesh_read.specs.Poly.{is_due, sections_of, polydata_of, polydata_numbers};
 ghost use Rattle.viz_mesh_read.specs.PolySteps.{kind_at, sections_at, polydata_at};
 
+use crate::cell_numbers::{CellArrays, CellNumbers};
 use crate::coordinates::{FilePoints, all_points};
 use crate::fields::fields;
 use crate::sections::{CellSection, all_cells};
@@ -122,7 +123,7 @@ fn no_cells(alloc: Global) -> CellSection
 {
     CellSection {
         count: 0,
-        numbers: Vec::new(alloc),
+        numbers: CellNumbers::of(CellArrays::Mixed(Vec::new(alloc))),
     }
 }
 

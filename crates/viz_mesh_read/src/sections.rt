@@ -1,11 +1,14 @@
 //! The cells of a section.
 
-ghost use Rattle.std.specs.Prelude.{◌≡◌, ◌<◌, ◌^◌, length, IfOk};
+ghost use Rattle.std.specs.Prelude.{◌≡◌, ◌<◌, ◌≤◌, ◌^◌, [], length, true};
+ghost use Rattle.viz_lex.specs.Reading.{rest_of, advanced};
 ghost use Rattle.viz_attr.specs.Reads.{ReadsUnlessMemory};
 ghost use Rattle.viz_mesh_read.specs.Geometry.{MeetsBy};
 ghost use Rattle.viz_mesh_read.specs.Steps.{indices_at, cell_at, cells_at, section_at};
 ghost use Rattle.viz_mesh_read.specs.Sections.{section_of, section_numbers};
 
+use crate::blocks::next_cells;
+use crate::cell_numbers::{CellArrays, CellNumbers};
 use crate::counts::{count, section_size};
 use crate::numbers::{index, is_cell_count, section_number, section_start};
 use std::alloc::Global;
@@ -19,7 +22,7 @@ pub struct CellSection {
     /// How many cells there are.
     pub count: u64,
     /// The numbers of the cells, one cell after the other.
-    pub numbers: Vec<u32>,
+    pub numbers: CellNumbers,
 }
 
 /// So many indices, behind the numbers before.
@@ -87,6 +90,81 @@ fn cells(
     Ok(())
 }
 
+/// The numbers of so many cells, one by one: of all they are to be so many.
+fn mixed_cells(
+    alloc: Global,
+    lexer: &mut Lexer<'_>,
+    binary: bool,
+    points: u64,
+    count: u64,
+    size: u64,
+) -> Result<CellNumbers, AttrStop>
+    requires few { points < 2 ^ 31 }
+    requires within { size < 2 ^ 31 }
+    ensures { ReadsUnlessMemory (λ n. n.items) result lexer.new
+        (cells_at binary points size count [] lexer.old) }
+{
+    let left = lexer.bytes().len() as u64 - lexer.place();
+    let room = size.min(left / 2 + 1);
+    let mut numbers = Vec::with_capacity(alloc, room as usize)?;
+    cells(lexer, &mut numbers, binary, points, count, size)?;
+    Ok(CellNumbers::of(CellArrays::Mixed(numbers)))
+}
+
+/// Passes over so many bytes, which are left.
+#[tactic(auto, unfolding(viz_lex::specs::Blocks::block_at))]
+fn pass(lexer: &mut Lexer<'_>, count: u64)
+    requires { count ≤ length (rest_of lexer.old) }
+    ensures { lexer.new ≡ advanced lexer.old count }
+{
+    match lexer.block(count) {
+        Ok(_) => {}
+        Err(_) => unreachable!(),
+    }
+}
+
+/// The numbers of so many cells in BINARY.
+fn block_cells(
+    alloc: Global,
+    lexer: &mut Lexer<'_>,
+    points: u64,
+    count: u64,
+    size: u64,
+) -> Result<CellNumbers, AttrStop>
+    requires few { points < 2 ^ 31 }
+    requires within { size < 2 ^ 31 }
+    requires cells { count < 2 ^ 31 }
+    ensures { ReadsUnlessMemory (λ n. n.items) result lexer.new
+        (cells_at true points size count [] lexer.old) }
+{
+    if let Some(numbers) = next_cells(alloc, lexer, points, count, size)? {
+        pass(lexer, 4 * size);
+        return Ok(numbers);
+    }
+    mixed_cells(alloc, lexer, true, points, count, size)
+}
+
+/// The numbers of so many cells.
+fn cell_numbers(
+    alloc: Global,
+    lexer: &mut Lexer<'_>,
+    binary: bool,
+    points: u64,
+    count: u64,
+    size: u64,
+) -> Result<CellNumbers, AttrStop>
+    requires few { points < 2 ^ 31 }
+    requires within { size < 2 ^ 31 }
+    requires cells { count < 2 ^ 31 }
+    ensures { ReadsUnlessMemory (λ n. n.items) result lexer.new
+        (cells_at binary points size count [] lexer.old) }
+{
+    if binary {
+        return block_cells(alloc, lexer, points, count, size);
+    }
+    mixed_cells(alloc, lexer, binary, points, count, size)
+}
+
 /// A section behind its keyword, in a file of so many points: n size, and n cells.
 #[tactic(auto, unfolding(crate::specs::Steps::section_at))]
 pub(crate) fn all_cells(
@@ -101,10 +179,7 @@ pub(crate) fn all_cells(
     let count = count(lexer)?;
     let size = section_size(lexer, count)?;
     section_start(lexer, binary)?;
-    let left = lexer.bytes().len() as u64 - lexer.place();
-    let room = size.min(left / 2 + 1);
-    let mut numbers = Vec::with_capacity(alloc, room as usize)?;
-    cells(lexer, &mut numbers, binary, points, count, size)?;
+    let numbers = cell_numbers(alloc, lexer, binary, points, count, size)?;
     Ok(CellSection { count, numbers })
 }
 

@@ -1,6 +1,8 @@
 //! The types of the cells of a grid.
 
-ghost use Rattle.std.specs.Prelude.{◌≡◌, None, Some};
+ghost use Rattle.std.specs.Prelude.{◌≡◌, None, Some, drop};
+ghost use Rattle.std.specs.List.{flat_map};
+ghost use Rattle.viz_mesh_read.specs.Numbered.{cell_numbers};
 ghost use Rattle.viz_lex.specs.Reading.{Reads};
 ghost use Rattle.viz_attr.specs.Counts.{is_number};
 ghost use Rattle.viz_attr.specs.Steps.{same_count_at};
@@ -8,6 +10,8 @@ ghost use Rattle.viz_mesh_read.specs.Sections.{section_of};
 ghost use Rattle.viz_mesh_read.specs.Grid.{points_of_type, first_count, behind_first};
 ghost use Rattle.viz_mesh_read.specs.GridSteps.{cell_type_at, cell_types_at, types_at};
 
+use crate::cell_numbers::CellArrays;
+use crate::fixed_cells::FixedCell;
 use crate::numbers::{section_number, section_start};
 use crate::sections::CellSection;
 use viz_lex::{FileFault, FileKind, Lexer};
@@ -89,6 +93,46 @@ fn cell_types(
     Ok(())
 }
 
+/// The size of the cell of an index, and 0 where there is none.
+#[inline(always)]
+fn size_at<C: FixedCell>(cells: &[C], index: u64) -> u32
+    ensures { result
+        ≡ first_count (flat_map (λ c. cell_numbers (C.list c)) (drop index cells.now)) }
+{
+    if index >= cells.len() as u64 {
+        return 0;
+    }
+    cells[index as usize].indices().len() as u32
+}
+
+/// The types of so many cells, whose numbers are those of these cells.
+fn types_of_size<C: FixedCell>(
+    lexer: &mut Lexer<'_>,
+    binary: bool,
+    count: u64,
+    cells: &[C],
+) -> Result<(), FileFault>
+    ensures { Reads (λ done. done) result lexer.new (cell_types_at binary count
+        (flat_map (λ c. cell_numbers (C.list c)) cells.now) lexer.old) }
+{
+    for i in 0..count {
+        cell_type(lexer, binary, size_at(cells, i))?;
+    }
+    Ok(())
+}
+
+/// The types of all cells of a section.
+fn all_types(lexer: &mut Lexer<'_>, binary: bool, cells: &CellSection) -> Result<(), FileFault>
+    ensures { Reads (λ done. done) result lexer.new
+        (cell_types_at binary cells.now.count cells.now.numbers.items lexer.old) }
+{
+    match cells.numbers.arrays() {
+        CellArrays::Mixed(numbers) => cell_types(lexer, binary, cells.count, numbers),
+        CellArrays::Triangles(of_three) => types_of_size(lexer, binary, cells.count, of_three),
+        CellArrays::Tetrahedra(of_four) => types_of_size(lexer, binary, cells.count, of_four),
+    }
+}
+
 /// This very count again: else Count.
 #[tactic(auto, unfolding(viz_attr::specs::Steps::same_count_at))]
 fn same_count(lexer: &mut Lexer<'_>, count: u64) -> Result<(), FileFault>
@@ -117,5 +161,5 @@ pub(crate) fn types(
     lexer.due_keyword(b"CELL_TYPES")?;
     same_count(lexer, cells.count)?;
     section_start(lexer, binary)?;
-    cell_types(lexer, binary, cells.count, &cells.numbers)
+    all_types(lexer, binary, cells)
 }

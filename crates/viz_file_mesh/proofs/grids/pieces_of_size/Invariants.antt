@@ -5,4 +5,4 @@ use Rattle.viz_file_mesh.proofs.grids.pieces_of_size.Given as goal
 
 -- the pieces so far, and those of the cells that are left, are all
 abbrev pub invariant-loop : goal.invariant-loop
-invariant-loop g l = map g.C.CellIndices.list l.pieces.items ++ in_cells grid_piece (l.cells.count - l.counter) l.left ≡ in_cells grid_piece l.fn.cells.count l.fn.cells.numbers.items
+invariant-loop g l = map g.C.CellIndices.list l.pieces.items ++ in_cells grid_piece (l.count - l.counter) l.left ≡ in_cells grid_piece l.fn.count l.fn.numbers

@@ -1,7 +1,0 @@
-use Rattle.std.proofs.Common.{◌≡◌, ◌-◌, ◌++◌}
-use Rattle.viz_mesh_read.specs.Pieces.{in_cells, vertices_of}
-use Rattle.viz_mesh_read.proofs.pieces.all_vertices.Given as goal
-
--- the pieces so far, and those of the cells that are left, are all
-abbrev pub invariant-loop : goal.invariant-loop
-invariant-loop l = l.pieces.items ++ in_cells vertices_of (l.cells.count - l.counter) l.left ≡ l.fn.pieces.items ++ in_cells vertices_of l.fn.cells.count l.fn.cells.numbers.items
