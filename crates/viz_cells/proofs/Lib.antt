@@ -1,3 +1,4 @@
+mod AddedLemmas
 pub mod PieceLemmas
 pub mod NumberLemmas
 pub mod CrossingLemmas

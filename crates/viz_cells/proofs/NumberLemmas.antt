@@ -1,6 +1,6 @@
 -- Keys in order, and cells by the ranks of their keys.
 use Rattle.std.proofs.Common.{◌≡◌, ℕ, ◌+◌, ◌<◌, ◌≤◌, List, [], ◌∷◌, ◌++◌, length, get_or, map, take, Ordering, Less, Equal, Greater, is_lt, is_eq, refl, sym, ap, ap₂, subst, ◌∙◌, true≢false, false, nat_eq, arith, ⊎_elim}
-use Rattle.std.specs.List.{All, Contains, flat_map, dedup}
+use Rattle.std.specs.List.{All, Contains, dedup}
 use Rattle.std.specs.List.Retain.{IsFiltered, DiffersFromLast}
 use Rattle.std.specs.Cmp.{unsigned_ties}
 use Rattle.std.proofs.lemmas.List.Filters.{dedup_is}
@@ -13,7 +13,7 @@ use Rattle.std.proofs.lemmas.List.{take_more, map-append, get_or_default}
 use Rattle.std.proofs.lemmas.List.Elements.{All-nil, All-cons, All-push, All-more, All-head}
 use Rattle.std.proofs.lemmas.List.Sorted.{searchable_from_sorted, Contains-permutation, IsPermutation-sym}
 use Rattle.std.proofs.lemmas.Map.Keys.{Less-from_sorted}
-use Rattle.viz_cells.specs.Steps.Numbered.{AreKeysOf, AreNumbered, IsNumbered, keys_at}
+use Rattle.viz_cells.specs.Steps.Numbered.{AreEndsOf, AreKeysOf, AreNumbered, IsNumbered, keys_at}
 use Rattle.viz_cells.specs.Steps.Keys.{IsEdgeKey, key_name}
 
 -- ---- a search that can't miss
@@ -37,17 +37,17 @@ not_missing keys key i s c point =
 -- ---- keys of cells
 
 -- what `dedup` leaves of sorted keys, which are the keys of cells in another order
-pub keys-from_sort : (pieces : List (List ℕ)) (ends sorted left : List ℕ) → ends ≡ flat_map (λ piece. piece) pieces → IsPermutation ends sorted → IsSorted nat_cmp sorted
+pub keys-from_sort : (pieces : List (List ℕ)) (ends sorted left : List ℕ) → AreEndsOf pieces ends → IsPermutation ends sorted → IsSorted nat_cmp sorted
     → IsFiltered (DiffersFromLast nat_eq) [] sorted left → AreKeysOf pieces left
 keys-from_sort pieces ends sorted left is moved rises kept =
     let e : left ≡ dedup nat_eq sorted = dedup_is nat_eq sorted left kept in
     record {
       ascending = subst (IsStrictlySortedBy nat_cmp) (sym e) (IsStrictlySortedBy-dedup nat_cmp_total unsigned_ties sorted rises);
       members = λ k. (
-        λ c. subst (λ l. Contains l k) is
+        λ c. (is.members k).0
             (Contains-permutation sorted ends k (IsPermutation-sym ends sorted moved) (Contains-from_dedup nat_eq sorted k (subst (λ l. Contains l k) e c))),
         λ c. subst (λ l. Contains l k) (sym e)
-            (Contains-dedup_nat sorted k (Contains-permutation ends sorted k moved (subst (λ l. Contains l k) (sym is) c))),
+            (Contains-dedup_nat sorted k (Contains-permutation ends sorted k moved ((is.members k).1 c))),
       );
     }
 

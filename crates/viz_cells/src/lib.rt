@@ -17,6 +17,7 @@ mod numbering;
 mod piece;
 mod pieces;
 mod sectioning;
+mod starts;
 
 pub use laws::names_are_of_their_cell;
 pub use sectioning::{section, sections};

@@ -1,6 +1,8 @@
 -- What is reckoned of two images, point by point: words of private contracts alone.
-use Rattle.std.specs.Prelude.{◌≡◌, ℕ, ℤ, pos, List, length, slice_index_or}
+use Rattle.std.specs.Prelude.{◌≡◌, true, ℕ, ℤ, pos, List, length, slice_index_or}
+use Rattle.viz_column.specs.declared.kind.Kind8.{Kind8}
 use Rattle.viz_column.specs.declared.kind.Kind8.TheVariants.{I64}
+use Rattle.viz_column.specs.Kinds.{fits}
 use Rattle.viz_column.specs.Numbers.{Numbers}
 use Rattle.viz_extent.specs.Extent.{count_of}
 use Rattle.viz_extent.specs.Numbering.{index_at}
@@ -16,6 +18,10 @@ pub record AreOn (grids : Grids) (xs ys : List ℤ) : Type 0 where
   pub second : length ys ≡ count_of grids.second
   pub in_first : IsPart grids.first grids.out
   pub in_second : IsPart grids.second grids.out
+
+-- 64 bits with a sign hold each number of a kind
+abbrev pub IsSigned : Kind8 → Type 0
+IsSigned kind = (n : ℤ) → fits kind n ≡ true → fits I64 n ≡ true
 
 -- what is reckoned of the two numbers of a point
 abbrev pub reckoned_at : Op → Grids → List ℤ → List ℤ → ℕ → ℕ → ℕ → ℤ

@@ -1,17 +1,18 @@
 //! Arithmetic of two images.
 
 ghost use Rattle.std.specs.Prelude.{◌≡◌, ℕ, ◌+◌, ◌^◌, ◌<◌, ◌≤◌, ◌++◌, pos, length, map, take};
-ghost use Rattle.std.specs.Prelude.{drop, slice_index_or, unsigned_abs, IfOk, OnOk};
+ghost use Rattle.std.specs.Prelude.{drop, slice_index_or, unsigned_abs, IfOk, IsTrue, OnOk};
 ghost use Rattle.viz_extent.specs.Extent.{size_x, size_y, IsOnAxis, Has, count_of};
 ghost use Rattle.viz_extent.specs.Numbering.{index_at};
 ghost use Rattle.viz_extent.specs.Parts.{IsPart};
 ghost use Rattle.viz_meaning.specs.ImageFilters.{reckoned, clamped, arith_of};
 ghost use Rattle.viz_meaning.specs.WholeImages.{GivesOnBoth};
 ghost use Rattle.viz_image_ops.specs.Joined.{joined, run_of, values_on};
-ghost use Rattle.viz_image_ops.specs.Reckoned.{AreOn, AreReckoned, reckoned_at};
+ghost use Rattle.viz_image_ops.specs.Reckoned.{AreOn, AreReckoned, IsSigned, reckoned_at};
 
+use crate::reckoning::{Difference, Greater, Lesser, Reckoning, Sum};
 use std::alloc::{AllocError, Global};
-use viz_column::{Column, Lent, Number};
+use viz_column::{Column, Kind8, Lent, Number};
 use viz_dataset::Image;
 use viz_extent::Extent;
 use viz_meaning::Op;
@@ -167,8 +168,61 @@ fn part_of<T: Number>(numbers: &[T], start: usize, long: usize) -> &[T]
     &numbers[start..start + long]
 }
 
-/// Makes the numbers of a row what is reckoned of two rows, one by one.
+/// Makes the numbers of a row what is reckoned of two rows: in 64 bits where these hold all numbers
+/// of both types.
 fn reckon_row<T: Number, U: Number>(row: &mut [i64], xs: &[T], ys: &[U], op: Op)
+    requires first { length xs.now ≡ length row.old }
+    requires second { length ys.now ≡ length row.old }
+    ensures { (p : ℕ) → p < length row.old → slice_index_or row.new p (pos 0)
+        ≡ clamped (reckoned op (slice_index_or (map T.value xs.now) p (pos 0))
+        (slice_index_or (map U.value ys.now) p (pos 0))) }
+{
+    if !is_signed(T::kind()) || !is_signed(U::kind()) {
+        return reckon_wide(row, xs, ys, op);
+    }
+    match op {
+        Op::Add => reckon_signed::<Sum, T, U>(row, xs, ys),
+        Op::Sub => reckon_signed::<Difference, T, U>(row, xs, ys),
+        Op::Min => reckon_signed::<Lesser, T, U>(row, xs, ys),
+        Op::Max => reckon_signed::<Greater, T, U>(row, xs, ys),
+    }
+}
+
+/// Whether 64 bits with a sign hold each number of a kind.
+fn is_signed(kind: Kind8) -> bool
+    ensures { IsTrue result → IsSigned kind }
+{
+    match kind {
+        Kind8::U64 => false,
+        _ => true,
+    }
+}
+
+/// The same of numbers that 64 bits with a sign hold, so that the loop is compiled to lanes.
+fn reckon_signed<R: Reckoning, T: Number, U: Number>(row: &mut [i64], xs: &[T], ys: &[U])
+    requires first { length xs.now ≡ length row.old }
+    requires second { length ys.now ≡ length row.old }
+    requires signed_first { IsSigned T.kind }
+    requires signed_second { IsSigned U.kind }
+    ensures { (p : ℕ) → p < length row.old → slice_index_or row.new p (pos 0)
+        ≡ clamped (reckoned R.op (slice_index_or (map T.value xs.now) p (pos 0))
+        (slice_index_or (map U.value ys.now) p (pos 0))) }
+{
+    for (p, x) in xs.iter().enumerate() {
+        row[p] = R::of(signed(*x), signed(ys[p]));
+    }
+}
+
+/// A number, in 64 bits with a sign.
+fn signed<T: Number>(number: T) -> i64
+    requires { IsSigned T.kind }
+    ensures { result ≡ T.value number }
+{
+    number.whole() as i64
+}
+
+/// The same in 128 bits, which hold each sum and each difference.
+fn reckon_wide<T: Number, U: Number>(row: &mut [i64], xs: &[T], ys: &[U], op: Op)
     requires first { length xs.now ≡ length row.old }
     requires second { length ys.now ≡ length row.old }
     ensures { (p : ℕ) → p < length row.old → slice_index_or row.new p (pos 0)

@@ -12,6 +12,7 @@ mod cropping;
 mod divisor;
 mod laws;
 mod means;
+mod reckoning;
 mod sampling;
 mod smoothing;
 mod sums;

@@ -1,5 +1,5 @@
 -- Cells by keys, and the same cells by the ranks of the keys.
-use Rattle.std.specs.Prelude.{◌≡◌, ◌↔◌, ℕ, ◌<◌, ◌≤◌, ◌^◌, List, length, map, All, Contains}
+use Rattle.std.specs.Prelude.{◌≡◌, ◌↔◌, ◌⊎◌, ℕ, ◌<◌, ◌≤◌, ◌^◌, List, length, map, All, Contains}
 use Rattle.std.specs.Prelude.{slice_index_or}
 use Rattle.std.specs.List.{flat_map}
 use Rattle.std.specs.List.Sorted.{IsStrictlySortedBy}
@@ -9,6 +9,14 @@ use Rattle.std.specs.Ordering.{nat_cmp}
 pub record AreKeysOf (pieces : List (List ℕ)) (keys : List ℕ) : Type 0 where
   pub ascending : IsStrictlySortedBy nat_cmp keys
   pub members : (k : ℕ) → Contains keys k ↔ Contains (flat_map (λ piece. piece) pieces) k
+
+-- a list with just the keys of cells, in any order and however often
+pub record AreEndsOf (pieces : List (List ℕ)) (ends : List ℕ) : Type 0 where
+  pub members : (k : ℕ) → Contains ends k ↔ Contains (flat_map (λ piece. piece) pieces) k
+
+-- a list with the keys of another one, and some more
+pub record AreAdded (old more new : List ℕ) : Type 0 where
+  pub members : (k : ℕ) → Contains new k ↔ (Contains old k ⊎ Contains more k)
 
 -- few keys that ascend, among them those of all cells
 pub record HasKeys (keys : List ℕ) (pieces : List (List ℕ)) : Type 0 where

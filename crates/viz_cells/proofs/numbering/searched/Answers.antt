@@ -1,5 +1,5 @@
 use Rattle.viz_cells.proofs.NumberLemmas.{not_missing}
-use Rattle.viz_cells.proofs.numbering.rank.Goals as goal
+use Rattle.viz_cells.proofs.numbering.searched.Goals as goal
 
 pub returns-in-Err-clause-value : goal.returns-in-Err-clause-value
 returns-in-Err-clause-value c =

@@ -4,7 +4,7 @@ use Rattle.std.proofs.lemmas.Int.{ints}
 use Rattle.viz_meaning.specs.ImageFilters.{reckoned, clamped}
 use Rattle.viz_image_ops.proofs.ArithLemmas.{made_more}
 use Rattle.viz_image_ops.proofs.SampleLemmas.{value_read}
-use Rattle.viz_image_ops.proofs.arithmetic.reckon_row.Goals as goal
+use Rattle.viz_image_ops.proofs.arithmetic.reckon_wide.Goals as goal
 
 pub loop-p-preserved : goal.loop-p-preserved
 loop-p-preserved g c =
