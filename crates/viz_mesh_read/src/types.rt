@@ -36,6 +36,7 @@ fn is_number(count: u64, n: &i128) -> bool
 
 /// The type of a cell of so many points.
 #[tactic(auto, unfolding(crate::specs::GridSteps::cell_type_at))]
+#[inline(always)]
 fn cell_type(lexer: &mut Lexer<'_>, binary: bool, size: u32) -> Result<(), FileFault>
     ensures { Reads (λ done. done) result lexer.new (cell_type_at binary size lexer.old) }
 {
