@@ -5,7 +5,9 @@ use std::process::Abort;
 use std::test::Fail;
 use viz_column::Kind8;
 use viz_lex::Lexer;
-use viz_mesh_read::{CellSection, GridFile, PolyFile, PolyPieces, grid, polydata, split};
+use viz_mesh_read::{
+    CellArrays, CellSection, GridFile, PolyFile, PolyPieces, grid, polydata, split,
+};
 
 /// A grid of a tetrahedron, a triangle and a line, in words.
 const GRID_WORDS: &[u8] = b"FIELD f 1
@@ -41,6 +43,19 @@ CELL_TYPES 3
 \x00\x00\x00
 \x00\x00\x00\x05\x00\x00\x00\x03 behind";
 
+/// Two tetrahedra in BINARY, whose numbers stand in an array of that size.
+const TWO_TETRAHEDRA: &[u8] = b"POINTS 4 int
+\x00\x00\x00\x00\x00\x00\x00\x00\x00\x00\x00\x00\x00\x00\x00\x00\x00\x00\x00\x00\
+\x00\x00\x00\x00\x00\x00\x00\x00\x00\x00\x00\x00\x00\x00\x00\x00\x00\x00\x00\x00\
+\x00\x00\x00\x00\x00\x00\x00\x00
+CELLS 2 10
+\x00\x00\x00\x04\x00\x00\x00\x00\x00\x00\x00\x01\x00\x00\x00\x02\x00\x00\x00\x03\
+\x00\x00\x00\x04\x00\x00\x00\x01\x00\x00\x00\x00\x00\x00\x00\x02\x00\x00\x00\x03
+CELL_TYPES 2
+\x00\x00\x00
+\x00\x00\x00
+ behind";
+
 /// Polydata of all four kinds, in another order.
 const ALL_SECTIONS: &[u8] = b"POINTS 3 int
 0 0 0 1 0 0 0 1 0
@@ -56,7 +71,21 @@ FIELD f 0
 
 /// The numbers of a section, where there are as many cells.
 fn has_numbers(section: &CellSection, count: u64, numbers: &[u32]) -> bool {
-    section.count == count && section.numbers.as_slice() == numbers
+    match section.numbers.arrays() {
+        CellArrays::Mixed(list) => section.count == count && list.as_slice() == numbers,
+        CellArrays::Triangles(_) | CellArrays::Tetrahedra(_) => false,
+    }
+}
+
+/// Whether a section has two tetrahedra, of which the second has its first two corners turned.
+fn has_two_tetrahedra(section: &CellSection) -> bool {
+    match section.numbers.arrays() {
+        CellArrays::Tetrahedra(cells) => match cells.as_slice() {
+            [a, b] => section.count == 2 && *a == [0, 1, 2, 3] && *b == [1, 0, 2, 3],
+            _ => false,
+        },
+        CellArrays::Mixed(_) | CellArrays::Triangles(_) => false,
+    }
 }
 
 /// Whether four points were read, of which the last coordinate is -7.
@@ -83,6 +112,26 @@ fn tells(alloc: Global, binary: bool, text: &[u8]) -> Option<u64> {
         }
         Err(_) => None,
     }
+}
+
+/// Two tetrahedra, and how many bytes were read.
+fn tells_two(alloc: Global, text: &[u8]) -> Option<u64> {
+    let mut lexer = Lexer::new(text);
+    match &grid(alloc, &mut lexer, true, false) {
+        Ok(found) => {
+            if has_two_tetrahedra(&found.cells) {
+                return Some(lexer.place());
+            }
+            None
+        }
+        Err(_) => None,
+    }
+}
+
+#[test]
+fn cells_of_one_size_in_a_block(rt: HostRuntime) -> Result<(), Fail> {
+    assert_eq!(rt; tells_two(rt.alloc(), TWO_TETRAHEDRA), Some(135));
+    Ok(())
 }
 
 #[test]
