@@ -7,7 +7,6 @@ pub mod WalkLemmas
 pub mod JoinLemmas
 pub mod SheetLemmas
 pub mod WholeLemmas
-pub mod ColumnLemmas
 pub mod MeshLemmas
 pub mod ImageLemmas
 pub mod KindLemmas

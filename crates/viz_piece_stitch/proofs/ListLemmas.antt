@@ -1,7 +1,7 @@
 -- Members of lists of lists, and marked items of lists.
 use Rattle.std.proofs.Common.{◌≡◌, ℕ, ◌+◌, ◌<◌, ◌==◌, if◌then◌else◌, Bool, true, false, ⊎_elim, List, [], ◌∷◌, ◌++◌, length, get_or, map, take, append_assoc, refl, sym, ap, ap₂, subst, ◌∙◌, arith}
 use Rattle.std.specs.List.{All, Contains, flat_map}
-use Rattle.std.proofs.lemmas.List.{length-map, length-take-le, map-append, map_more, take_more}
+use Rattle.std.proofs.lemmas.List.{length-map, length_push, length-take-le, map-append, map_more, take_more}
 use Rattle.std.proofs.lemmas.List.Elements.{All-nil, All-cons, All-head, All-tail, Contains-append_cases, Contains-append_left, Contains-append_right}
 use Rattle.viz_parts.specs.Stitching.{own_items}
 use Rattle.viz_sheet.proofs.MemberLemmas.{here, there, member_cases, no_member}
@@ -19,6 +19,11 @@ into_flat_map f (a ∷ xs) x y c d =
     (λ e. Contains-append_left (f a) (flat_map f xs) y (subst (λ k. Contains (f k) y) (sym e) d))
     (λ rest. Contains-append_right (f a) (flat_map f xs) y (into_flat_map f xs x y rest d))
     (member_cases a xs x c)
+
+-- the only item, taken out from behind
+pub only_last : {X : Type 0} (xs rest : List X) (x : X) → length xs ≡ 1 → xs ≡ rest ++ x ∷ [] → xs ≡ x ∷ []
+only_last xs [] x one e = e
+only_last xs (y ∷ ys) x one e = absurd (omega (arith, one, ap length e, length_push ys x))
 
 -- ---- own items
 

@@ -7,17 +7,18 @@ ghost use Rattle.viz_sheet.specs.Arrays.{ranks_in};
 ghost use Rattle.viz_sheet.specs.Steps.Lookup.{looked_up};
 
 use crate::cell::{RankCell, mixed_numbered, mixed_of};
+use crate::shared_sheet::SharedSheet;
 use std::alloc::{AllocError, Global};
 use viz_parts::PartSheet;
 use viz_sheet::{Mixed, Ranks};
 
 /// No cells yet, with room for those of all parts, of the type of the first that there is.
-pub(crate) fn no_cells(alloc: Global, parts: &[PartSheet]) -> Result<Ranks, AllocError>
+pub(crate) fn no_cells(alloc: Global, parts: &[SharedSheet]) -> Result<Ranks, AllocError>
     ensures { IfOk result (λ r. ranks_in r ≡ []) }
 {
     let room = cell_count(parts);
     for part in parts {
-        let ranks = part.sheet().ranks();
+        let ranks = part.get().sheet().ranks();
         if ranks.len() > 0 {
             return of_type(alloc, room, ranks);
         }
@@ -26,10 +27,10 @@ pub(crate) fn no_cells(alloc: Global, parts: &[PartSheet]) -> Result<Ranks, Allo
 }
 
 /// How many cells the parts have in all; room is taken for so many.
-fn cell_count(parts: &[PartSheet]) -> usize {
+fn cell_count(parts: &[SharedSheet]) -> usize {
     let mut count: usize = 0;
     for part in parts {
-        count = count.saturating_add(part.sheet().cell_count());
+        count = count.saturating_add(part.get().sheet().cell_count());
     }
     count
 }

@@ -3,44 +3,51 @@
 ghost use Rattle.std.specs.Prelude.{◌≡◌, ◌<◌, ◌-◌, ◌++◌, All, IfOk, flat_map, length, map};
 ghost use Rattle.viz_extent.specs.Extent.{IsExtent};
 ghost use Rattle.viz_parts.specs.Stitching.{AreSlabsOf};
-ghost use Rattle.viz_piece_stitch.specs.Steps.Slabs.{HasKind, IsImageAt, IsPicture, spanned};
-ghost use Rattle.viz_piece_stitch.specs.Steps.Slabs.{values_in};
+ghost use Rattle.viz_piece_stitch.specs.Steps.Slabs.{HasKind, IsImageAt, IsImageOf, IsPicture};
+ghost use Rattle.viz_piece_stitch.specs.Steps.Slabs.{spanned, values_in};
 ghost use Rattle.viz_piece_stitch.specs.Steps.Wholes.{AreSlabs};
 
 use std::alloc::{AllocError, Global};
+use viz_base::Shared;
 use viz_column::{Column, Kind8, Number};
 use viz_dataset::Image;
 use viz_extent::Extent;
 use viz_parts::Part;
 
 /// The image of which these are all slabs that there are, in turn. The only one is taken over as it
-/// stands.
-pub(crate) fn stitched_image(alloc: Global, parts: Vec<Part>) -> Result<Image, AllocError>
+/// stands, where it has no other owner.
+pub(crate) fn stitched_image(alloc: Global, parts: Vec<Shared<Part>>) -> Result<Image, AllocError>
     requires { AreSlabs parts.items }
     ensures { IfOk result (λ image. (whole : _) → AreSlabsOf whole parts.items → image ≡ whole) }
 {
     if parts.len() == 1 {
-        return Ok(only_image(parts));
+        return only_image(alloc, parts);
     }
-    let image = joined_image(alloc, parts)?;
-    Ok(image)
+    joined_image(alloc, parts)
 }
 
 /// The image of its only slab.
-fn only_image(parts: Vec<Part>) -> Image
+fn only_image(alloc: Global, parts: Vec<Shared<Part>>) -> Result<Image, AllocError>
     requires one { length parts.items ≡ 1 }
-    requires images { All IsPicture parts.items }
-    ensures { (whole : _) → AreSlabsOf whole parts.items → result ≡ whole }
+    requires slabs { AreSlabs parts.items }
+    ensures { IfOk result (λ image. (whole : _) → AreSlabsOf whole parts.items → image ≡ whole) }
 {
     let mut parts = parts;
-    match parts.pop() {
-        Some(Part::Image(image)) => image,
-        _ => unreachable!(),
+    let Some(part) = parts.pop() else {
+        unreachable!()
+    };
+    match part.try_unwrap() {
+        Ok(Part::Image(image)) => Ok(image),
+        Ok(Part::Mesh(_)) => unreachable!(),
+        Err(part) => {
+            parts.push(part)?;
+            joined_image(alloc, parts)
+        }
     }
 }
 
 /// The image of several slabs, each of which is given up as soon as its numbers are joined.
-fn joined_image(alloc: Global, parts: Vec<Part>) -> Result<Image, AllocError>
+fn joined_image(alloc: Global, parts: Vec<Shared<Part>>) -> Result<Image, AllocError>
     requires { AreSlabs parts.items }
     ensures { IfOk result (λ image. (whole : _) → AreSlabsOf whole parts.items → image ≡ whole) }
 {
@@ -54,26 +61,37 @@ fn joined_image(alloc: Global, parts: Vec<Part>) -> Result<Image, AllocError>
 }
 
 /// The image of the first part.
-fn first_image(parts: &[Part]) -> &Image
+fn first_image(parts: &[Shared<Part>]) -> &Image
     requires some { 0 < length parts.now }
     requires images { All IsPicture parts.now }
     ensures { IsImageAt parts.now 0 result.now }
 {
     match parts.first() {
-        Some(Part::Image(image)) => image,
-        _ => unreachable!(),
+        Some(part) => image_of(part.get()),
+        None => unreachable!(),
     }
 }
 
 /// The image of the last part.
-fn last_image(parts: &[Part]) -> &Image
+fn last_image(parts: &[Shared<Part>]) -> &Image
     requires some { 0 < length parts.now }
     requires images { All IsPicture parts.now }
     ensures { IsImageAt parts.now (length parts.now - 1) result.now }
 {
     match parts.last() {
-        Some(Part::Image(image)) => image,
-        _ => unreachable!(),
+        Some(part) => image_of(part.get()),
+        None => unreachable!(),
+    }
+}
+
+/// The image that a part is.
+fn image_of(part: &Part) -> &Image
+    requires { IsPicture part.now }
+    ensures { IsImageOf part.now result.now }
+{
+    match part {
+        Part::Image(image) => image,
+        Part::Mesh(_) => unreachable!(),
     }
 }
 
@@ -91,7 +109,7 @@ fn joined_extent(first: &Image, last: &Image) -> Extent
 }
 
 /// The numbers of all parts, which are of this type, one after the other.
-fn joined_column(alloc: Global, kind: Kind8, parts: Vec<Part>) -> Result<Column, AllocError>
+fn joined_column(alloc: Global, kind: Kind8, parts: Vec<Shared<Part>>) -> Result<Column, AllocError>
     requires { All (HasKind kind) parts.items }
     ensures { IfOk result (λ c.
         c ≡ record { kind = kind; items = flat_map values_in parts.items }) }
@@ -109,7 +127,7 @@ fn joined_column(alloc: Global, kind: Kind8, parts: Vec<Part>) -> Result<Column,
 }
 
 /// The same of one type.
-fn column_of<T: Number>(alloc: Global, parts: Vec<Part>) -> Result<Column, AllocError>
+fn column_of<T: Number>(alloc: Global, parts: Vec<Shared<Part>>) -> Result<Column, AllocError>
     requires { All (HasKind T.kind) parts.items }
     ensures { IfOk result (λ c.
         c ≡ record { kind = T.kind; items = flat_map values_in parts.items }) }
@@ -118,7 +136,7 @@ fn column_of<T: Number>(alloc: Global, parts: Vec<Part>) -> Result<Column, Alloc
 }
 
 /// The numbers of all parts, one after the other.
-fn joined_numbers<T: Number>(alloc: Global, parts: Vec<Part>) -> Result<Vec<T>, AllocError>
+fn joined_numbers<T: Number>(alloc: Global, parts: Vec<Shared<Part>>) -> Result<Vec<T>, AllocError>
     requires { All (HasKind T.kind) parts.items }
     ensures { IfOk result (λ v. map T.value v.items ≡ flat_map values_in parts.items) }
 {
@@ -130,10 +148,10 @@ fn joined_numbers<T: Number>(alloc: Global, parts: Vec<Part>) -> Result<Vec<T>, 
 }
 
 /// How many numbers the parts have in all; room is taken for so many.
-fn number_count(parts: &[Part]) -> usize {
+fn number_count(parts: &[Shared<Part>]) -> usize {
     let mut count: usize = 0;
     for part in parts {
-        if let Part::Image(image) = part {
+        if let Part::Image(image) = part.get() {
             count = count.saturating_add(image.column().len() as usize);
         }
     }
@@ -141,12 +159,12 @@ fn number_count(parts: &[Part]) -> usize {
 }
 
 /// Adds the numbers of a part, which is given up.
-fn add_numbers<T: Number>(numbers: &mut Vec<T>, part: Part) -> Result<(), AllocError>
+fn add_numbers<T: Number>(numbers: &mut Vec<T>, part: Shared<Part>) -> Result<(), AllocError>
     requires { HasKind T.kind part }
     ensures { IfOk result (λ _.
         map T.value numbers.new.items ≡ map T.value numbers.old.items ++ values_in part) }
 {
-    match &part {
+    match part.get() {
         Part::Image(image) => add_column(numbers, image.column()),
         Part::Mesh(_) => unreachable!(),
     }

@@ -10,6 +10,7 @@ ghost use Rattle.viz_piece_stitch.specs.Steps.Put.{IsPut};
 use crate::cells::with_own;
 use crate::places::put_points;
 use crate::ranks::ranks_among;
+use crate::shared_sheet::SharedSheet;
 use std::alloc::{AllocError, Global};
 use viz_parts::PartSheet;
 use viz_sheet::{Leaves, Places, Ranks};
@@ -52,7 +53,7 @@ fn with_given(
     alloc: Global,
     names: &Leaves,
     joined: Joined,
-    part: PartSheet,
+    part: SharedSheet,
 ) -> Result<Joined, AllocError>
     requires ascending { AreAscending (names_in names.now) }
     requires few { length (names_in names.now) ≤ 2 ^ 32 }
@@ -64,7 +65,7 @@ fn with_given(
         (map (rank_of (names_in names.now)) part.sheet.names) part.sheet.points
         (points_in j.places)) }
 {
-    with_part(alloc, names, joined, &part)
+    with_part(alloc, names, joined, part.get())
 }
 
 /// Joins all parts, each of which is given up as soon as it is joined.
@@ -72,7 +73,7 @@ pub(crate) fn with_parts(
     alloc: Global,
     names: &Leaves,
     joined: Joined,
-    parts: Vec<PartSheet>,
+    parts: Vec<SharedSheet>,
 ) -> Result<Joined, AllocError>
     requires ascending { AreAscending (names_in names.now) }
     requires few { length (names_in names.now) ≤ 2 ^ 32 }

@@ -4,16 +4,16 @@ ghost use Rattle.std.specs.Prelude.{◌≡◌, ◌≤◌, ◌^◌, ◌++◌, [],
 ghost use Rattle.viz_sheet.specs.Arrays.{names_in};
 ghost use Rattle.viz_piece_stitch.specs.Steps.Walk.{AreUnited};
 
+use crate::shared_sheet::SharedSheet;
 use crate::union::united;
 use std::alloc::{AllocError, Global};
-use viz_parts::PartSheet;
 use viz_sheet::Leaves;
 
 /// The names of all parts, each once, ascending.
 ///
 /// Parts of one sheet have names of one level. Names of two levels, as no sheet has them, and more
 /// than 2^32 names are answered as want of memory.
-pub(crate) fn all_names(alloc: Global, parts: &[PartSheet]) -> Result<Leaves, AllocError>
+pub(crate) fn all_names(alloc: Global, parts: &[SharedSheet]) -> Result<Leaves, AllocError>
     ensures united { IfOk result (λ l.
         AreUnited (flat_map (λ p. p.sheet.names) parts.now) (names_in l)) }
     ensures few { IfOk result (λ l. length (names_in l) ≤ 2 ^ 32) }
@@ -38,12 +38,12 @@ fn united_leaves(leaves: Leaves) -> Result<Leaves, AllocError>
 }
 
 /// The names of all parts, one after the other.
-fn end_to_end(alloc: Global, parts: &[PartSheet]) -> Result<Leaves, AllocError>
+fn end_to_end(alloc: Global, parts: &[SharedSheet]) -> Result<Leaves, AllocError>
     ensures { IfOk result (λ l. names_in l ≡ flat_map (λ p. p.sheet.names) parts.now) }
 {
     let mut names = of_one_level(alloc, name_count(parts), parts)?;
     for part in parts {
-        if !add_names(&mut names, part.sheet().leaves())? {
+        if !add_names(&mut names, part.get().sheet().leaves())? {
             return Err(AllocError);
         }
     }
@@ -51,20 +51,20 @@ fn end_to_end(alloc: Global, parts: &[PartSheet]) -> Result<Leaves, AllocError>
 }
 
 /// How many names the parts have in all; room is taken for so many.
-fn name_count(parts: &[PartSheet]) -> usize {
+fn name_count(parts: &[SharedSheet]) -> usize {
     let mut count: usize = 0;
     for part in parts {
-        count = count.saturating_add(part.sheet().point_count());
+        count = count.saturating_add(part.get().sheet().point_count());
     }
     count
 }
 
 /// No names yet, with room for so many of the level of the parts' names.
-fn of_one_level(alloc: Global, room: usize, parts: &[PartSheet]) -> Result<Leaves, AllocError>
+fn of_one_level(alloc: Global, room: usize, parts: &[SharedSheet]) -> Result<Leaves, AllocError>
     ensures { IfOk result (λ l. names_in l ≡ []) }
 {
     for part in parts {
-        let leaves = part.sheet().leaves();
+        let leaves = part.get().sheet().leaves();
         if leaves.len() > 0 {
             return of_level(alloc, room, leaves);
         }

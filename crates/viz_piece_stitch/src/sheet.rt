@@ -7,13 +7,13 @@ ghost use Rattle.viz_piece_stitch.specs.Steps.Columns.{IsJoinedSheet};
 use crate::cells::no_cells;
 use crate::joining::{Joined, with_parts};
 use crate::names::all_names;
+use crate::shared_sheet::SharedSheet;
 use std::alloc::{AllocError, Global};
-use viz_parts::PartSheet;
 use viz_sheet::{Places, Sheet, sheet_of};
 
 /// The own cells of all parts, in order, with the points of their names. A part is given up as soon
 /// as it is joined.
-pub(crate) fn joined_sheet(alloc: Global, parts: Vec<PartSheet>) -> Result<Sheet, AllocError>
+pub(crate) fn joined_sheet(alloc: Global, parts: Vec<SharedSheet>) -> Result<Sheet, AllocError>
     requires sheets { All (λ p. IsSheet p.sheet) parts.items }
     ensures { IfOk result (IsJoinedSheet parts.items) }
 {

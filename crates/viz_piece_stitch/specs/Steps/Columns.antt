@@ -1,5 +1,5 @@
 -- The parts of a mesh, sheet by sheet.
-use Rattle.std.specs.Prelude.{◌≡◌, ℕ, ◌<◌, ◌≤◌, List, [], ◌∷◌, ◌++◌, All, length, map}
+use Rattle.std.specs.Prelude.{◌≡◌, ℕ, ◌<◌, List, [], All, length, map}
 use Rattle.std.specs.Prelude.{slice_index_or}
 use Rattle.viz_parts.specs.Parts.{PartSheetData}
 use Rattle.viz_parts.specs.Stitching.{own_items}
@@ -24,27 +24,22 @@ pub record IsMeshOf (count : ℕ) (part : Part) : Type 0 where
   pub mesh : IsMesh part
   pub count_is : length (sheets_in part) ≡ count
 
--- each of the lists has one item more behind it
-pub record AreLonger {X : Type 0} (old : List (List X)) (items : List X) (new : List (List X))
-    : Type 0 where
-  pub size : length new ≡ length old
-  pub each : (k : ℕ) (d : X) → k < length old
-      → slice_index_or new k [] ≡ slice_index_or old k [] ++ slice_index_or items k d ∷ []
+-- a part of a mesh with a sheet at an index
+pub record HasSheet (k : ℕ) (part : Part) : Type 0 where
+  pub mesh : IsMesh part
+  pub within : k < length (sheets_in part)
 
--- so many of the lists have, the others are as before
-pub record AreLongerTo {X : Type 0} (count : ℕ) (old : List (List X)) (items : List X)
-    (new : List (List X)) : Type 0 where
-  pub size : length new ≡ length old
-  pub each : (k : ℕ) (d : X) → k < count → k < length old
-      → slice_index_or new k [] ≡ slice_index_or old k [] ++ slice_index_or items k d ∷ []
-  pub others : (k : ℕ) → count ≤ k → slice_index_or new k [] ≡ slice_index_or old k []
+-- what stands for a sheet that there isn't
+abbrev pub no_sheet : PartSheetData
+no_sheet = record { sheet = record { names = []; points = []; cells = [] }; levels = [] }
 
--- for each sheet the list of its parts
-pub record AreColumns (count : ℕ) (parts : List Part) (columns : List (List PartSheetData))
-    : Type 0 where
-  pub size : length columns ≡ count
-  pub each : (k : ℕ) (d : PartSheetData) → k < count
-      → slice_index_or columns k [] ≡ map (λ part. slice_index_or (sheets_in part) k d) parts
+-- its sheet at an index
+abbrev pub sheet_at : ℕ → Part → PartSheetData
+sheet_at k part = slice_index_or (sheets_in part) k no_sheet
+
+-- the parts of one sheet in all of them
+abbrev pub sheets_at : ℕ → List Part → List PartSheetData
+sheets_at k parts = map (sheet_at k) parts
 
 -- a sheet joined of its parts
 pub record IsJoinedSheet (parts : List PartSheetData) (s : SheetData) : Type 0 where
@@ -56,9 +51,8 @@ pub record IsJoinedSheet (parts : List PartSheetData) (s : SheetData) : Type 0 w
 abbrev pub AreSheets : List PartSheetData → Type 0
 AreSheets parts = All (λ p. IsSheet p.sheet) parts
 
--- each sheet is joined of its parts
-pub record AreJoinedSheets (columns : List (List PartSheetData)) (sheets : List SheetData)
-    : Type 0 where
-  pub size : length sheets ≡ length columns
-  pub each : (k : ℕ) (s : SheetData) → k < length columns
-      → IsJoinedSheet (slice_index_or columns k []) (slice_index_or sheets k s)
+-- each of so many sheets is joined of its parts
+pub record AreJoinedSheets (count : ℕ) (parts : List Part) (sheets : List SheetData) : Type 0 where
+  pub size : length sheets ≡ count
+  pub each : (k : ℕ) (s : SheetData) → k < count
+      → IsJoinedSheet (sheets_at k parts) (slice_index_or sheets k s)

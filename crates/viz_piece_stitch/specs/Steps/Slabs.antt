@@ -21,6 +21,10 @@ abbrev pub values_in : Part → List ℤ
 values_in (Image image) = image.values.items
 values_in (Mesh parts) = []
 
+-- the image that a part is
+abbrev pub IsImageOf : Part → ImageData → Type 0
+IsImageOf part image = part ≡ Image image
+
 -- the image that stands at an index
 abbrev pub IsImageAt : List Part → ℕ → ImageData → Type 0
 IsImageAt parts k image = slice_index_or parts k (Image image) ≡ Image image

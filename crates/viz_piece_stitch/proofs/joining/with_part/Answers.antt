@@ -2,12 +2,12 @@ use Rattle.std.proofs.Common.{◌≡◌, ◌<◌, ◌++◌, All, List, ℕ, leng
 use Rattle.std.specs.List.{Contains}
 use Rattle.std.proofs.lemmas.List.Elements.{All-weaker}
 use Rattle.viz_parts.specs.Stitching.{own_items}
-use Rattle.viz_sheet.specs.Arrays.{names_in, points_in, ranks_in}
+use Rattle.viz_sheet.specs.Arrays.{names_in, ranks_in}
 use Rattle.viz_sheet.specs.Ranked.{IsCell, rank_of, ranks_of}
 use Rattle.viz_sheet.specs.Sheet.{SheetData}
 use Rattle.viz_sheet.specs.Steps.Lookup.{looked_up}
 use Rattle.viz_piece_stitch.specs.Steps.Walk.{AreAmong}
-use Rattle.viz_piece_stitch.proofs.RankLemmas.{looked-cells, rank-below, ranks-below}
+use Rattle.viz_piece_stitch.proofs.RankLemmas.{looked-cells, rank-below}
 use Rattle.viz_piece_stitch.proofs.joining.with_part.Goals as goal
 
 pub ranks_among-requires : goal.ranks_among-requires

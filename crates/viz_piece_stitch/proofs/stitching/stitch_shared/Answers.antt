@@ -2,7 +2,7 @@ use Rattle.std.proofs.Common.{List, subst}
 use Rattle.viz_parts.specs.declared.request.Part.{Part}
 use Rattle.viz_piece_stitch.specs.Steps.Wholes.{ArePieces, AreSlabs}
 use Rattle.viz_piece_stitch.proofs.KindLemmas.{image-whole, mesh-whole}
-use Rattle.viz_piece_stitch.proofs.stitching.stitch.Goals as goal
+use Rattle.viz_piece_stitch.proofs.stitching.stitch_shared.Goals as goal
 
 pub returns-then-is_image : goal.returns-then-is_image
 returns-then-is_image c =
