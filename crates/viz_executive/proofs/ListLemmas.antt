@@ -3,24 +3,13 @@ use Rattle.std.proofs.Common.{◌≡◌, ℕ, suc, ◌+◌, ◌<◌, arith, take
 use Rattle.std.proofs.Math.Seq.{take-suc}
 use Rattle.std.proofs.lemmas.List.{map-append}
 use Rattle.std.proofs.lemmas.Option.{slice_get-get_or}
-use Rattle.std.specs.List.{AllZip}
 use lib.ListN.{get_or}
-use Rattle.viz_executive.proofs.ZipLemmas.{zip_push}
 
 -- what is read at a place
 pub read_at : {X : Type 0} (xs ys : List X) (i : ℕ) (x : X) → i < length xs → x ≡ get_or xs i x
     → xs ≡ ys → slice_get ys i ≡ Some x
 read_at xs ys i x l is same =
     subst (λ zs. slice_get zs i ≡ Some x) same (slice_get-get_or xs i x l ∙ ap Some (sym is))
-
--- one more, as a loop over what is given up finds it
-pub zip_yield : {X Y Z : Type 0} (R : Y → Z → Type 0) (f : X → Y) (xs : List X) (x : X)
-    (zs next : List Z) (z : Z) → AllZip R (map f xs) zs → R (f x) z → next ≡ zs ++ z ∷ []
-    → AllZip R (map f (xs ++ x ∷ [])) next
-zip_yield R f xs x zs next z h r e =
-    subst (AllZip R (map f (xs ++ x ∷ []))) (sym e)
-    (subst (λ l. AllZip R l (zs ++ z ∷ [])) (sym (map-append f xs (x ∷ [])))
-    (zip_push R (map f xs) zs (f x) z h r))
 
 -- one more, where what is made of the items so far are those of a list
 pub map_more : {X Y : Type 0} (f : X → Y) (xs : List X) (x : X) (next : List X) (all : List Y)

@@ -1,55 +1,19 @@
 -- Parts that are cut.
-use Rattle.std.proofs.Common.{◌≡◌, ℕ, true, List, Option, sym, subst, ◌∙◌, ap}
+use Rattle.std.proofs.Common.{◌≡◌, ℕ, true, List, sym, subst, ◌∙◌, ap}
 use Rattle.std.proofs.lemmas.List.Elements.{All-contains}
 use Rattle.std.specs.List.{All}
 use Rattle.viz_base.specs.declared.node.NodeId.{NodeId}
-use Rattle.viz_dataset.specs.declared.dataset.Dataset.{Dataset}
-use Rattle.viz_dataset.specs.declared.dataset.Dataset.TheVariants.{Image, Mesh}
-use Rattle.viz_network.specs.Cone.{Tree, cone_of}
-use Rattle.viz_parts.specs.Pieces.{Division, IsAnswer}
-use Rattle.viz_parts.specs.declared.request.Part.{Part}
+use Rattle.viz_network.specs.Cone.{cone_of}
 use Rattle.viz_parts.specs.declared.request.Request.{Request}
-use Rattle.viz_parts.specs.declared.request.Request.TheVariants.{Block, Piece}
 use Rattle.viz_parts.specs.declared.stored.Stored.{Stored}
-use Rattle.viz_piece_restrict.specs.Restricting.{IsOneOfMany, IsRestriction}
 use Rattle.viz_plan.specs.Sites.{IsSite}
 use Rattle.viz_plan.specs.declared.sites.Site.{Site}
-use Rattle.viz_plan_law.specs.Cutting.{
-  CanBeCut,
-  IsExactPart,
-  PartsOfKnownAreCut,
-  PartsThatServeAreCut,
-}
+use Rattle.viz_plan_law.specs.Cutting.{CanBeCut, IsExactPart, PartsOfKnownAreCut}
 use Rattle.viz_plan_law.proofs.ConeLemmas.{foot_is}
 use Rattle.viz_plan_meaning.specs.Known.{Known, asked_at, tree_asked, tree_widened, widened_at}
-use Rattle.viz_requests.specs.Serving.{ServesItself, serves}
+use Rattle.viz_requests.specs.Serving.{serves}
 use Rattle.viz_requests.specs.Upstream.{Fits, asked, widened}
-use Rattle.viz_executive.specs.Steps.Grounds.{GroundData}
 use Rattle.viz_executive.specs.Steps.Tables.{IsExactItem, IsFound}
-use Rattle.viz_executive.specs.Steps.Wholes.{IsAnswered}
-
-one_of_many : (whole : Dataset) (division : Division) (request : Request) (part : Part)
-    → IsAnswer whole division request part → IsOneOfMany request
-one_of_many (Image image) division (Block block) part h = tt
-one_of_many (Mesh sheets) division (Piece p n ghosts) part h = h.0
-one_of_many (Image image) division (Piece p n ghosts) part h = absurd h
-one_of_many (Mesh sheets) division (Block block) part h = absurd h
-
--- a part can be cut for its own request
-pub cut_itself : PartsThatServeAreCut → ServesItself → (cone : Option Tree) (request : Request)
-    (part : Part) → IsExactPart cone request part → CanBeCut cone request request part
-cut_itself law itself cone request part h =
-    law cone request request part h
-    (one_of_many h.whole h.one.division request part h.one.answers) (itself request)
-
-pub owned_again : PartsThatServeAreCut → ServesItself → (g : GroundData) (request : Request)
-    (part made : Part) → IsAnswered g request part → IsRestriction request request part made
-    → IsAnswered g request made
-owned_again law itself g request part made h r = record {
-  exact = (cut_itself law itself (cone_of g.sites.net g.sink) request part h.exact).exact made r;
-}
-
--- ---- what is known of a node
 
 pub widened_is : (k : Known) (id : ℕ) (site : Site) → IsSite k id site → (r : Request)
     → widened site.settings site.own r ≡ widened_at k id r

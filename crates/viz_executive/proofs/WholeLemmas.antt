@@ -1,8 +1,9 @@
 -- Parts of a node for the requests of an update are all parts of what the node gives.
 use Rattle.std.proofs.Common.{◌≡◌, ℕ, zero, suc, ◌+◌, ◌<◌, List, [], ◌∷◌, ◌++◌, length, map, Option, None, Some, Ok, refl, sym, subst, ◌∙◌, ap, arith, slice_index_or}
+use Rattle.std.proofs.lemmas.List.Elements.{All-head, All-tail}
 use Rattle.std.proofs.lemmas.List.FromFn.{get_or-map-range_with_len, length-map-range_with_len}
 use Rattle.std.proofs.lemmas.Slice.Zip.{AllZip-long}
-use Rattle.std.specs.List.{AllZip, flat_map, range_with_len}
+use Rattle.std.specs.List.{All, AllZip, flat_map, range_with_len}
 use Rattle.std.specs.Option.{option_to_list}
 use Rattle.viz_dataset.specs.Images.{ImageData}
 use Rattle.viz_dataset.specs.declared.dataset.Dataset.{Dataset}
@@ -32,7 +33,8 @@ use Rattle.viz_plan.specs.Told.{extent_told}
 use Rattle.viz_sheet.specs.Sheet.{SheetData}
 use Rattle.viz_task_parts.specs.Tasks.{IsUpdate}
 use Rattle.viz_executive.specs.Steps.Grounds.{GroundData}
-use Rattle.viz_executive.specs.Steps.Wholes.{AreAnswered, IsAnswered, IsWhole}
+use Rattle.viz_executive.specs.Steps.Wholes.{AreAllAnswered, AreAnswered, IsAnswered, IsWhole}
+use Rattle.viz_executive.specs.declared.wholes.Answered.{Answered}
 use Rattle.viz_executive.proofs.UpdateLemmas.{sink_known}
 use Rattle.viz_executive.proofs.ZipLemmas.{zip_map}
 
@@ -185,6 +187,22 @@ module _ (one : DivisionsAreOne) (exact : DividedAreExact) (shares : DivisionsSh
     where
       few : (n : ℕ) → 0 < length (requests_of None n) → 0 < n
       few n l = omega (arith, l, length-map-range_with_len (λ p. Piece p n 0) 0 n)
+
+-- what goes with one side of each of some items goes with the other
+zip_sides : {X Y Z : Type 0} (R : Y → Z → Type 0) (f : X → Y) (h : X → Z) (xs : List X)
+    → All (λ x. R (f x) (h x)) xs → AllZip R (map f xs) (map h xs)
+zip_sides R f h [] all = tt
+zip_sides R f h (x ∷ xs) all =
+    let first = All-head (λ y. R (f y) (h y)) x xs all in
+    let others = All-tail (λ y. R (f y) (h y)) x xs all in
+    (first, zip_sides R f h xs others)
+
+-- the parts that are answered are those for all of the requests
+pub answered_parts : (g : GroundData) (items : List Answered) → AreAllAnswered g items
+    → AreAnswered g g.requests (map (λ (a : Answered). a.part) items)
+answered_parts g items h =
+    subst (λ rs. AreAnswered g rs (map (λ (a : Answered). a.part) items)) h.requests
+    (zip_sides (IsAnswered g) (λ (a : Answered). a.request) (λ (a : Answered). a.part) items h.each)
 
 -- the parts of the node of an update for all of its requests
 pub all_parts : DivisionsAreOne → DividedAreExact → DivisionsShareOut → ToldExtentsAreOwn

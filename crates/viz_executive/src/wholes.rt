@@ -1,16 +1,11 @@
 //! The dataset of the node of an update, put together of its parts.
 
-ghost use Rattle.std.specs.Prelude.{◌≡◌, ◌<◌, IfOk, length};
+ghost use Rattle.std.specs.Prelude.{◌≡◌, ◌<◌, IfOk, length, map};
 ghost use Rattle.viz_plan.specs.Told.{extent_told};
 ghost use Rattle.viz_requests.specs.Shapes.{requests_of};
 ghost use Rattle.viz_executive.specs.Steps.Grounds.{IsReached};
 ghost use Rattle.viz_executive.specs.Steps.Tables.{AreExact};
-ghost use Rattle.viz_executive.specs.Steps.Wholes.{
-  AreAllAnswered,
-  AreAnswered,
-  IsAnswered,
-  IsWhole,
-};
+ghost use Rattle.viz_executive.specs.Steps.Wholes.{AreAllAnswered, IsAnswered, IsWhole};
 
 use crate::fetching::fetch;
 use crate::ground::Ground;
@@ -19,10 +14,8 @@ use viz_base::{NodeId, Shared};
 use viz_dataset::Dataset;
 use viz_node_division::{datasets_are_divided, divisions_share_out};
 use viz_parts::{Part, Request, Stored};
-use viz_piece_restrict::restrict;
-use viz_piece_stitch::stitch;
-use viz_plan_law::{served_parts_are_cut, told_is_of_datasets};
-use viz_requests::serving_is_an_order;
+use viz_piece_stitch::stitch_shared;
+use viz_plan_law::told_is_of_datasets;
 use viz_task_parts::parts_are_passed;
 
 /// A request to the node of an update, and the part for it.
@@ -75,40 +68,31 @@ pub fn answers(
     Ok(all)
 }
 
-// The part itself, copied where it has other owners.
-fn owned(alloc: Global, ground: &Ground<'_>, answered: Answered) -> Result<Part, AllocError>
-    requires part { IsAnswered ground.now answered.request answered.part }
-    ensures part { IfOk result (IsAnswered ground.now answered.request) }
+// The part alone, whoever else owns it.
+fn part_of(answered: Answered) -> Shared<Part>
+    ensures { result ≡ answered.part }
 {
-    served_parts_are_cut();
-    serving_is_an_order();
-    let Answered { request, part } = answered;
-    match part.try_unwrap() {
-        Ok(part) => Ok(part),
-        Err(part) => {
-            let copy = restrict(alloc, part.get(), &request, &request)?;
-            Ok(copy)
-        }
-    }
+    let Answered {
+        request: _request,
+        part,
+    } = answered;
+    part
 }
 
-fn all_owned(
-    alloc: Global,
-    ground: &Ground<'_>,
-    answered: Vec<Answered>,
-) -> Result<Vec<Part>, AllocError>
-    requires all { AreAllAnswered ground.now answered.items }
-    ensures parts { IfOk result (λ parts. AreAnswered ground.now ground.now.requests parts.items) }
+// The parts, in the order of their requests.
+fn parts_of(alloc: Global, answered: Vec<Answered>) -> Result<Vec<Shared<Part>>, AllocError>
+    ensures { IfOk result (λ v. v.items ≡ map (λ a. a.part) answered.items) }
 {
     let mut parts = Vec::with_capacity(alloc, answered.len())?;
     for one in answered {
-        parts.push(owned(alloc, ground, one)?)?;
+        parts.push(part_of(one))?;
     }
     Ok(parts)
 }
 
 /// The dataset of the node of the update, put together of its parts for the requests of so many
-/// pieces. Parts that have no other owner aren't copied.
+/// pieces. Parts are read where they lie, and those that have no other owner are given up one after
+/// the other.
 pub fn whole_of(
     alloc: Global,
     ground: &Ground<'_>,
@@ -126,7 +110,7 @@ pub fn whole_of(
     divisions_share_out();
     told_is_of_datasets();
     ground.known();
-    let parts = all_owned(alloc, ground, answered)?;
-    let whole = stitch(alloc, parts)?;
+    let parts = parts_of(alloc, answered)?;
+    let whole = stitch_shared(alloc, parts)?;
     Ok(whole)
 }
