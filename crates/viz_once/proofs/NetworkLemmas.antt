@@ -1,5 +1,5 @@
 -- The network of the fixed history, and what lies upstream of its filter.
-use Rattle.std.proofs.Common.{◌≡◌, ◌⊎◌, ℕ, Bool, true, false, not, List, [], ◌∷◌, Some, Ok, refl, sym, ap, subst, ◌∙◌, inl, inr}
+use Rattle.std.proofs.Common.{◌≡◌, ◌⊎◌, ℕ, Bool, true, false, not, List, Some, Ok, refl, sym, ap, subst, ◌∙◌, inl, inr}
 use Rattle.viz_kinds.specs.Values.{is_value}
 use Rattle.viz_network.specs.declared.refusal.Refusal.TheVariants.{BadValue}
 use Rattle.viz_network.specs.Applies.{IsAccepted}

@@ -1,5 +1,5 @@
 -- Values by hand, which pin the definitions: the lines of a report, commands, and the nodes of a fixed history.
-use Rattle.std.specs.Prelude.{◌≡◌, pos, negsuc, List, [], ◌∷◌, codes, Option, Some, None, refl}
+use Rattle.std.specs.Prelude.{◌≡◌, pos, negsuc, [], ◌∷◌, codes, Option, Some, None, refl}
 use Rattle.std.specs.Fmt.{digits}
 use Rattle.viz_lex.specs.Reading.{fault_at}
 use Rattle.viz_lex.specs.declared.fault.FileFault.{FileFault}

@@ -6,7 +6,7 @@ pub returns-in-Err-Failed : goal.returns-in-Err-Failed
 returns-in-Err-Failed g c =
     let w = rw c.in-Err-Failed.field-0-is at c.in-Err-Failed.ensures in
     inr (
-      c.list.result.now,
+      c.in-Ok-of.text,
       write.Failed,
       search rules,
       search rules,
@@ -23,7 +23,7 @@ pub returns-in-Ok-write : goal.returns-in-Ok-write
 returns-in-Ok-write g c =
     let w = c.in-Ok-write.ensures in
     inr (
-      c.list.result.now,
+      c.in-Ok-of.text,
       write.Written,
       search rules,
       search rules,

@@ -27,16 +27,19 @@ returns-in-Err-Fault g c =
 pub returns-in-Err-Memory-made_of : goal.returns-in-Err-Memory-made_of
 returns-in-Err-Memory-made_of g c = (Asked (read.Given c.in-Ok.bytes), inl refl, search rules)
 
+pub returns-in_default : goal.returns-in_default
+returns-in_default g c = (Asked (read.Given c.in-Ok.bytes), inl refl, search rules)
+
 pub returns-in-Ok-write : goal.returns-in-Ok-write
 returns-in-Ok-write g c =
     let filter = c.args.command.now.filter in
     let bytes = c.in-Ok.bytes in
     let made = c.in-Ok-made_of.made in
-    let text = c.list.result.now in
+    let text = c.in-Ok-of.text in
     let r = c.in-Ok.ensures in
     let w = c.in-Ok-write.ensures in (
       Answered bytes text write.Written,
-      (made.cells, made.points, subst (λ (t : List ℕ). IsMadeFor filter bytes t made.cells made.points) (sym c.list.ensures) c.in-Ok-made_of.ensures, refl),
+      (made.cells, made.points, subst (λ (t : List ℕ). IsMadeFor filter bytes t made.cells made.points) (sym c.in-Ok-of.ensures) c.in-Ok-made_of.ensures, refl),
       written g.P.Port (command_view c.args.command.now) c.args.port.now c.read.new.self c.write.new.self bytes r.told r.bytes r.kept r.later r.same_limit w.later w.same_limit text write.Written w.told w.written w.kept (λ f. absurd f),
     )
 
@@ -44,11 +47,11 @@ pub returns-in-Err-Failed-write : goal.returns-in-Err-Failed-write
 returns-in-Err-Failed-write g c =
     let filter = c.args.command.now.filter in
     let bytes = c.in-Ok.bytes in
-    let text = c.list.result.now in
+    let text = c.in-Ok-of.text in
     let r = c.in-Ok.ensures in
     let w = rw c.in-Err-Failed-write.field-0-is at c.in-Err-Failed-write.ensures in (
       Answered bytes text write.Failed,
-      (subst (λ (t : List ℕ). IsFileFor filter bytes (Ok t)) (sym c.list.ensures) c.in-Ok-made_of.ensures.file, refl),
+      (subst (λ (t : List ℕ). IsFileFor filter bytes (Ok t)) (sym c.in-Ok-of.ensures) c.in-Ok-made_of.ensures.file, refl),
       written g.P.Port (command_view c.args.command.now) c.args.port.now c.read.new.self c.write.new.self bytes r.told r.bytes r.kept r.later r.same_limit w.later w.same_limit text write.Failed w.told (λ t. w.prefix t refl) w.kept (λ f. w.failed refl),
     )
 
