@@ -50,6 +50,13 @@ text_stopped net id d style (stop.Fault f) given is a =
     (Ok d, given, subst (λ t. IsTextOf t id d (Err f)) is a)
 text_stopped net id d style stop.Memory given is a = tt
 
+-- a text of the writing
+pub text_written : (net : Network) (id : ℕ) (d : Dataset) (style : Style) (text : List ℕ)
+    → IsScratch net id (Ok d) → style ≡ style_of (cone_of net id)
+    → IsTextOf style id d (Ok text) → IsFileOf net id (Ok text)
+text_written net id d style text given is a =
+    (Ok d, given, subst (λ t. IsTextOf t id d (Ok text)) is a)
+
 -- the node that was found by its name
 pub found : (o : Option Node) (id : NodeId) → option_map (λ (n : Node). n.id) o ≡ Some id → (x : Node) × (o ≡ Some x) × (x.id ≡ id)
 found None id p = let bad : ⊥ = cc in absurd bad
