@@ -12,13 +12,14 @@ use crate::story::Story;
 use std::alloc::Global;
 use std::test::Fail;
 use std::thread::Threads;
-use viz_base::{Gate, NodeId, Shape};
+use viz_base::{Bytes, Gate, NodeId, Shape};
 use viz_dataset::Dataset;
 use viz_executive::{Produced, all_made, produce};
 use viz_history::Pinned;
-use viz_image_write::Style;
+use viz_image_write::{Style, WriteStop, write_image};
+use viz_mesh_write::write_mesh;
 use viz_network::{Fault, Net, Stop};
-use viz_scratch::{scratch, text_with};
+use viz_scratch::scratch;
 
 /// What an update came to, beside what its node gives from scratch.
 #[derive(Clone, Copy, PartialEq, Eq, Debug)]
@@ -46,11 +47,16 @@ const STYLE: Style = Style {
     digits: 9,
 };
 
+fn text_of(alloc: Global, dataset: &Dataset) -> Result<Bytes, WriteStop> {
+    match dataset {
+        Dataset::Image(image) => write_image(alloc, image, &STYLE),
+        Dataset::Mesh(mesh) => write_mesh(alloc, mesh, &STYLE),
+    }
+}
+
 // Whether two datasets are written as the same text.
-fn are_same(alloc: Global, sink: NodeId, one: &Dataset, other: &Dataset) -> bool {
-    let one = text_with(alloc, sink, &STYLE, one);
-    let other = text_with(alloc, sink, &STYLE, other);
-    match (one, other) {
+fn are_same(alloc: Global, one: &Dataset, other: &Dataset) -> bool {
+    match (text_of(alloc, one), text_of(alloc, other)) {
         (Ok(one), Ok(other)) => one.list() == other.list(),
         _ => false,
     }
@@ -75,7 +81,7 @@ fn given(alloc: Global, net: &Net, sink: NodeId, produced: &Produced) -> Outcome
     requires there { IsSome (node_of net.now sink.0) }
 {
     match scratch(alloc, net, sink) {
-        Ok(whole) if are_same(alloc, sink, &produced.dataset, whole.get()) => Outcome::Same {
+        Ok(whole) if are_same(alloc, &produced.dataset, whole.get()) => Outcome::Same {
             ran: produced.ran,
             made: made_count(produced),
             used: produced.used.len(),
