@@ -1,9 +1,13 @@
 -- Words and their bits, the lowest first.
-use Rattle.std.proofs.Common.{◌≡◌, ℕ, zero, suc, ◌+◌, ◌-◌, ◌*◌, ◌/◌, ◌%◌, ◌^◌, ◌<◌, ◌≤◌, ◌==◌, Bool, true, false, List, [], ◌∷◌, ◌++◌, length, get_or, refl, sym, ap, ap₂, ◌∙◌, arith, append_assoc, append-nil}
+use Rattle.std.proofs.Common.{◌≡◌, ℕ, zero, suc, ◌+◌, ◌-◌, ◌*◌, ◌/◌, ◌%◌, ◌^◌, ◌<◌, ◌≤◌, ◌==◌, Bool, true, false, List, [], ◌∷◌, ◌++◌, length, get_or, refl, sym, ap, ap₂, ◌∙◌, arith, append_assoc, append-nil, ⊎_elim, pow-add, pow_mono}
+use Rattle.std.specs.Int.{bit_at}
 use Rattle.std.specs.List.{flat_map}
 use Rattle.std.proofs.Math.Nat.{div-div-eq-div-mul, div-eq_of_lt, pow-succ'}
 use Rattle.std.proofs.lemmas.List.{get_or_append_left, get_or-append_right, length-append}
 use Rattle.std.proofs.lemmas.Nat.{div-mul-add}
+use Rattle.std.proofs.lemmas.Bool.{cases_lt}
+use Rattle.std.proofs.lemmas.List.{get_or_past}
+use Rattle.std.proofs.lemmas.Nat.Bits.{bit_at-zero, bit_at_cat_high, bit_at_cat_low}
 use lib.Lanes.{mask_l}
 use Rattle.viz_lanes.specs.Kept.{low_bits, bits_of}
 
@@ -142,3 +146,64 @@ word_added ws vs used last word few aligned new =
     let before : bits_of ws used last ≡ flat_map (λ x. low_bits 64 x) ws = ap (λ bs. flat_map (λ x. low_bits 64 x) ws ++ bs) empty ∙ append-nil _ in
     ap₂ (λ us bs. flat_map (λ x. low_bits 64 x) us ++ bs) new empty
     ∙ append-nil _ ∙ one_word_more ws word ∙ ap (λ bs. bs ++ low_bits 64 word) (sym before)
+
+-- ---- 64 bits from any bit on
+
+-- a bit of a whole word, by the word's index
+pub bit_of_word : (ws : List ℕ) (used last i t : ℕ) → i < length ws → t < 64
+    → (bit_at (get_or ws i 0) t == 1) ≡ get_or (bits_of ws used last) (64 * i + t) false
+bit_of_word ws used last i t lt small =
+    let word : (64 * i + t) / 64 ≡ i = omega (arith, small) in
+    let bit : (64 * i + t) % 64 ≡ t = omega (arith, small) in
+    ap₂ (λ (q r : ℕ). get_or ws q 0 / 2 ^ r % 2 == 1) (sym word) (sym bit)
+    ∙ bit_of_words ws used last (64 * i + t) (omega (arith, word, lt))
+
+-- a bit of the word behind them, and none past the last
+pub bit_behind : (ws : List ℕ) (used last i t : ℕ) → used < 64 → last < 2 ^ used → i ≡ length ws → t < 64
+    → (bit_at last t == 1) ≡ get_or (bits_of ws used last) (64 * i + t) false
+bit_behind ws used last i t few low is small =
+    let whole = length-bits ws used last in
+    let bit : (64 * i + t) % 64 ≡ t = omega (arith, small) in
+    ⊎_elim
+    (λ less.
+    ap (λ (r : ℕ). last / 2 ^ r % 2 == 1) (sym bit)
+    ∙ bit_of_last ws used last (64 * i + t) few (omega (arith, is)) (omega (arith, whole, is, less)))
+    (λ more.
+    let none : last / 2 ^ t ≡ 0 = div-eq_of_lt (omega (arith, low, pow_mono more)) in
+    ap (λ (k : ℕ). k % 2 == 1) none
+    ∙ sym (get_or_past (bits_of ws used last) (64 * i + t) false (omega (arith, whole, is, more))))
+    (cases_lt t used)
+
+pub none_behind : (ws : List ℕ) (used last i t : ℕ) → used < 64 → length ws < i
+    → (bit_at 0 t == 1) ≡ get_or (bits_of ws used last) (64 * i + t) false
+none_behind ws used last i t few past =
+    let whole = length-bits ws used last in
+    ap (λ (k : ℕ). k == 1) (bit_at-zero t) ∙ sym (get_or_past (bits_of ws used last) (64 * i + t) false (omega (arith, whole, past, few)))
+
+-- a bit of a quotient, and of a remainder
+bit-quotient : (n s t : ℕ) → bit_at (n / 2 ^ s) t ≡ bit_at n (s + t)
+bit-quotient n s t = ap (λ k. k % 2) (div-div-eq-div-mul n (2 ^ s) (2 ^ t) ∙ ap (λ k. n / k) (sym (pow-add 2 s t)))
+
+bit-low : (n t : ℕ) → t < 64 → bit_at (n % 2 ^ 64) t ≡ bit_at n t
+bit-low n t l =
+    let whole : n / 2 ^ 64 * 2 ^ 64 + n % 2 ^ 64 ≡ n = omega arith in
+    sym (bit_at_cat_low (n / 2 ^ 64) 64 (n % 2 ^ 64) t l) ∙ ap (λ k. bit_at k t) whole
+
+pub bit_of_both : (n s t : ℕ) → t < 64 → bit_at (n / 2 ^ s % 2 ^ 64) t ≡ bit_at n (s + t)
+bit_of_both n s t l = bit-low (n / 2 ^ s) t l ∙ bit-quotient n s t
+
+-- the bits of two words in turn are those of a list
+pub bit_of_two : (bs : List Bool) (at t low high : ℕ) → low < 2 ^ 64 → t < 64
+    → ((u : ℕ) → u < 64 → (bit_at low u == 1) ≡ get_or bs (64 * (at / 64) + u) false)
+    → ((u : ℕ) → u < 64 → (bit_at high u == 1) ≡ get_or bs (64 * (at / 64 + 1) + u) false)
+    → (bit_at (high * 2 ^ 64 + low) (at % 64 + t) == 1) ≡ get_or bs (at + t) false
+bit_of_two bs at t low high below l first second =
+    let s = at % 64 in
+    ⊎_elim
+    (λ less.
+    ap (λ (k : ℕ). k == 1) (bit_at_cat_low high 64 low (s + t) less) ∙ first (s + t) less
+    ∙ ap (λ (k : ℕ). get_or bs k false) {x = 64 * (at / 64) + (s + t)} {y = at + t} (omega arith))
+    (λ more.
+    ap (λ (k : ℕ). k == 1) (bit_at_cat_high high 64 low (s + t) below more) ∙ second (s + t - 64) (omega (arith, l))
+    ∙ ap (λ (k : ℕ). get_or bs k false) {x = 64 * (at / 64 + 1) + (s + t - 64)} {y = at + t} (omega (arith, more)))
+    (cases_lt (s + t) 64)

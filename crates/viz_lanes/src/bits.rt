@@ -1,7 +1,8 @@
 //! A list of truth values, 64 to a word.
 
-ghost use Rattle.std.specs.Prelude.{◌≡◌, ◌==◌, ◌+◌, ◌/◌, ◌%◌, ◌^◌, ◌<◌, ◌≤◌, ◌++◌, ◌∷◌, []};
-ghost use Rattle.std.specs.Prelude.{length, false, slice_index_or, IfOk, OnOk, OnErr};
+ghost use Rattle.std.specs.Prelude.{◌≡◌, ℕ, ◌==◌, ◌+◌, ◌*◌, ◌/◌, ◌%◌, ◌^◌, ◌<◌, ◌≤◌, ◌++◌};
+ghost use Rattle.std.specs.Prelude.{◌∷◌, [], length, false, slice_index_or, IfOk, OnOk, OnErr};
+ghost use Rattle.std.specs.Int.{bit_at};
 ghost use Rattle.viz_lanes.specs.Kept.{low_bits, bits_of};
 
 use std::alloc::{AllocError, Global};
@@ -76,6 +77,31 @@ impl Bits {
         }
     }
 
+    /// The 64 bits from an index on, the lowest first, with zeros past the last.
+    pub fn word_from(&self, at: u64) -> u64
+        ensures { (t : ℕ) → t < 64
+            → (bit_at result t == 1) ≡ slice_index_or self.now (at + t) false }
+    {
+        let i = at / 64;
+        joined(self.word(i), self.word(i + 1), (at % 64) as u32)
+    }
+
+    /// The word at an index, with zeros past the last bit.
+    fn word(&self, i: u64) -> u64
+        requires { i ≤ 2 ^ 58 }
+        ensures { (t : ℕ) → t < 64
+            → (bit_at result t == 1) ≡ slice_index_or self.now (64 * i + t) false }
+    {
+        let count = self.words.len() as u64;
+        if i < count {
+            self.words[i as usize]
+        } else if i == count {
+            self.last
+        } else {
+            0
+        }
+    }
+
     /// Adds a bit at the end. A refused call leaves the bits as they were.
     pub fn push(&mut self, bit: bool) -> Result<(), AllocError>
         ensures ok { OnOk result (self.new ≡ self.old ++ bit ∷ []) }
@@ -110,6 +136,16 @@ fn bit_at(word: u64, at: u64) -> bool
     ensures { result ≡ (word / 2 ^ at % 2 == 1) }
 {
     (word >> at) % 2 == 1
+}
+
+// 64 bits of two words from one of the lower word's bits on.
+fn joined(low: u64, high: u64, shift: u32) -> u64
+    requires { shift < 64 }
+    ensures { (t : ℕ) → t < 64
+        → bit_at result t ≡ bit_at (high * 2 ^ 64 + low) (shift + t) }
+{
+    let both = u128::from(high) * (1 << 64) + u128::from(low);
+    ((both >> shift) % (1 << 64)) as u64
 }
 
 // The word with one bit more.

@@ -10,8 +10,7 @@ use Rattle.viz_grid_section.specs.Steps.Rows.{eight_from}
 use Rattle.viz_kuhn.specs.Cubes.{HasNext, cubes_x, leaf_of, leaves_of, lowest_in_row}
 use Rattle.viz_kuhn.specs.Corners.{corner}
 use Rattle.viz_kuhn.specs.Places.{Place, place, place_of}
-use Rattle.viz_mixed.specs.Mixed.{corner_flags, eight_corners, is_mixed}
-use Rattle.viz_mixed.specs.Steps.Words.{mixed_from}
+use Rattle.viz_mixed.specs.Mixed.{corner_flags, eight_corners, is_mixed, mixed_from}
 
 -- ---- ranges
 

@@ -5,7 +5,6 @@ ghost use Rattle.viz_mixed.specs.Mixed.{mixed_at};
 
 use crate::cubes::mixed_cubes;
 use crate::plane::plane_of;
-use crate::words::words_of;
 use std::alloc::{AllocError, Global};
 use viz_dataset::Image;
 use viz_lanes::Bits;
@@ -17,6 +16,5 @@ pub fn mixed(alloc: Global, slab: &Image, level: &i64) -> Result<Bits, AllocErro
 {
     let extent = slab.extent();
     let plane = plane_of(alloc, slab.column(), level)?;
-    let words = words_of(alloc, &plane)?;
-    mixed_cubes(alloc, &extent, &plane, &words)
+    mixed_cubes(alloc, &extent, &plane)
 }

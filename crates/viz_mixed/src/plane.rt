@@ -8,9 +8,10 @@ use std::alloc::{AllocError, Global};
 use viz_column::{Column, Lent};
 use viz_lanes::Bits;
 
-/// Whether each number of a column, of whatever type, is at least the level.
-pub(crate) fn plane_of(alloc: Global, column: &Column, level: &i64) -> Result<Bits, AllocError>
-    ensures { IfOk result (λ bits. bits ≡ insides level.now column.now.items) }
+/// Whether each number of a column, of whatever type, is at least the level: 64 numbers at a time
+/// where the type of the numbers holds the level.
+pub fn plane_of(alloc: Global, column: &Column, level: &i64) -> Result<Bits, AllocError>
+    ensures value { IfOk result (λ bits. bits ≡ insides level.now column.now.items) }
 {
     match column.slice() {
         Lent::I8(numbers) => plane(alloc, numbers, level),

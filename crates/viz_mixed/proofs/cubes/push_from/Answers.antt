@@ -1,5 +1,5 @@
 use Rattle.std.proofs.Common.{arith}
-use Rattle.viz_mixed.specs.Steps.Words.{mixed_from}
+use Rattle.viz_mixed.specs.Mixed.{mixed_from}
 use Rattle.viz_mixed.proofs.CubeLemmas.{from-more}
 use Rattle.viz_mixed.proofs.cubes.push_from.Goals as goal
 

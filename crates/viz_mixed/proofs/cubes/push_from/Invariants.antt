@@ -1,6 +1,6 @@
 use Rattle.std.proofs.Common.{◌≡◌, ◌+◌, ◌-◌, ◌++◌, ◌≤◌, map}
 use Rattle.std.specs.List.{range_with_len}
-use Rattle.viz_mixed.specs.Steps.Words.{mixed_from}
+use Rattle.viz_mixed.specs.Mixed.{mixed_from}
 use Rattle.viz_mixed.proofs.cubes.push_from.Given as goal
 
 abbrev pub invariant-loop-at : goal.invariant-loop-at

@@ -2,7 +2,7 @@ use Rattle.std.proofs.Common.{◌-◌, ◌^◌, ◌<◌, ap, ap₂, arith, max, 
 use Rattle.std.specs.Int.{bit_not, w64}
 use Rattle.std.proofs.lemmas.Nat.Bits.{bit_at_and, bit_at_not}
 use Rattle.viz_mixed.proofs.MixLemmas.{mixed-bits}
-use Rattle.viz_mixed.proofs.cubes.mix.Goals as goal
+use Rattle.viz_mixed.proofs.corners.mix.Goals as goal
 
 pub returns : goal.returns
 returns c t l =
