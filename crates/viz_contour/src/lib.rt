@@ -6,7 +6,6 @@
 
 mod crossings;
 mod leaves;
-mod levels;
 mod points;
 mod small_ends;
 mod surfaces;

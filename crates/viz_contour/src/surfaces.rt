@@ -9,13 +9,13 @@ ghost use Rattle.viz_meaning.specs.Tetrahedra.{tetrahedra_sheet};
 ghost use Rattle.viz_grid_section.specs.Edges.{edge_leaves, rank_of};
 ghost use Rattle.viz_grid_section.specs.ImageSection.{contour_cells, contour_edges};
 
-use crate::levels::image_insides;
 use crate::points::places;
 use std::alloc::{AllocError, Global};
 use viz_dataset::Image;
 use viz_flags::{Ranked, ranked_section};
 use viz_grid_section::contours_are_sections;
 use viz_meaning::WorkStop;
+use viz_mixed::plane_of;
 use viz_sheet::{Leaves, Ranks, Sheet};
 
 /// The contour of an image at a level: one sheet of triangles, whose names are pairs of leaves.
@@ -49,7 +49,9 @@ fn ranked(alloc: Global, level: &i64, image: &Image) -> Result<Ranked, AllocErro
     ensures few { IfOk result (λ r. length r.names.items < 2 ^ 32) }
     ensures fits { OnOk result (FitsSigned w64 level.now) }
 {
-    let inside = image_insides(alloc, level, image)?;
+    // A level has 64 bits.
+    let _level = *level;
+    let inside = plane_of(alloc, image.column(), level)?;
     let ranked = ranked_section(alloc, &image.extent(), 0, &inside)?;
     Ok(ranked)
 }

@@ -5,6 +5,7 @@ use std::process::Abort;
 use std::test::Fail;
 use viz_extent::Extent;
 use viz_flags::{Ranked, ranked_section};
+use viz_lanes::Bits;
 
 /// The points of a single cube.
 const CUBE: [u32; 6] = [0, 1, 0, 1, 0, 1];
@@ -15,7 +16,14 @@ fn section(alloc: Global, bounds: [u32; 6], first: u32, inside: &[bool]) -> Resu
     if inside.len() as u64 != window.count() || inside.len() > 1000 || first > 1000 {
         return Err("a point for each leaf of a small window")?;
     }
-    let ranked = ranked_section(alloc, &window, first, inside)?;
+    let mut bits = Bits::new(alloc);
+    for flag in inside {
+        bits.push(*flag)?;
+    }
+    if bits.len() != window.count() {
+        return Err("a bit for each leaf")?;
+    }
+    let ranked = ranked_section(alloc, &window, first, &bits)?;
     Ok(ranked)
 }
 
@@ -98,6 +106,24 @@ fn two_cubes_follow_each_other(rt: HostRuntime) -> Result<(), Fail> {
         [1, 10, 1, 7, 1, 11],
     ];
     shows(&rt, rt.alloc(), [0, 2, 0, 1, 0, 1], 0, &inside, 8, &rows)
+}
+
+#[test]
+fn two_cubes_of_a_row_stand_in_two_words_of_64(rt: HostRuntime) -> Result<(), Fail> {
+    // The cubes beside point 64 of a row are the last of its first 64 and the next one.
+    let mut inside = [false; 284];
+    inside[64] = true;
+    let rows = [
+        [64, 135, 63, 64, 64, 277],
+        [63, 64, 64, 206, 64, 277],
+        [64, 65, 64, 136, 64, 278],
+        [64, 207, 64, 65, 64, 278],
+        [64, 136, 64, 135, 64, 278],
+        [64, 135, 64, 277, 64, 278],
+        [64, 206, 64, 207, 64, 278],
+        [64, 277, 64, 206, 64, 278],
+    ];
+    shows(&rt, rt.alloc(), [0, 70, 0, 1, 0, 1], 0, &inside, 8, &rows)
 }
 
 #[test]

@@ -1,6 +1,7 @@
 mod ByteLemmas
 mod RowLemmas
 mod CountLemmas
+mod MixedLemmas
 mod CubeLemmas
 mod LayerLemmas
 mod NumberOrder

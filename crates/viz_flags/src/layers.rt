@@ -10,13 +10,15 @@ use crate::cubes::push_cube;
 use crate::ends::Ends;
 use std::alloc::{AllocError, Global};
 use viz_extent::Extent;
+use viz_lanes::Bits;
+use viz_mixed::{corner_words, mixed_of};
 
 /// The triangles in all tetrahedra of the extent, in the order of the list of all, by the numbers
 /// of their edges.
 pub(crate) fn section<T: Ends>(
     alloc: Global,
     whole: &Extent,
-    inside: &[bool],
+    inside: &Bits,
 ) -> Result<Vec<T>, AllocError>
     requires full { length inside.now ≡ count_of whole.now }
     requires fits { 8 * length inside.now ≤ T.limit }
@@ -38,7 +40,7 @@ pub(crate) fn section<T: Ends>(
 /// Adds the triangles in the layer of cubes from a leaf on, with so many cubes along x and y.
 fn push_layer<T: Ends>(
     out: &mut Vec<T>,
-    inside: &[bool],
+    inside: &Bits,
     first: usize,
     across_x: usize,
     across_y: usize,
@@ -64,7 +66,7 @@ fn push_layer<T: Ends>(
 /// points is so long.
 fn push_row<T: Ends>(
     out: &mut Vec<T>,
-    inside: &[bool],
+    inside: &Bits,
     first: usize,
     across_x: usize,
     plane: usize,
@@ -77,8 +79,41 @@ fn push_row<T: Ends>(
         ++ cells_in_row inside.now (across_x + 1) plane across_x first) }
 {
     let row = across_x + 1;
-    for i in 0..across_x {
-        push_cube(out, inside, first + i, row, plane)?;
+    let mut at = 0;
+    while at < across_x {
+        let count = (across_x - at).min(64);
+        push_some(out, inside, first + at, count, row, plane)?;
+        at += count;
+    }
+    Ok(())
+}
+
+/// Adds the triangles in up to 64 cubes along x from a leaf on: those of mixed cubes, as no other
+/// has one.
+fn push_some<T: Ends>(
+    out: &mut Vec<T>,
+    inside: &Bits,
+    first: usize,
+    count: usize,
+    row: usize,
+    plane: usize,
+) -> Result<(), AllocError>
+    requires some { 0 < count }
+    requires most { count ≤ 64 }
+    requires within { first + count + row + plane < length inside.now }
+    requires fits { 8 * length inside.now ≤ T.limit }
+    requires narrow { length inside.now < 2 ^ 31 }
+    ensures { OnOk result (cells_by row plane (map T.list out.new.items)
+        ≡ cells_by row plane (map T.list out.old.items)
+        ++ cells_in_row inside.now row plane count first) }
+{
+    let words = corner_words(inside, first, row, plane);
+    let mixed = mixed_of(&words);
+    if mixed == 0 {
+        return Ok(());
+    }
+    for t in 0..count {
+        push_cube(out, &words, mixed, t as u32, first + t, row, plane)?;
     }
     Ok(())
 }

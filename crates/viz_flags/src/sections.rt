@@ -13,6 +13,7 @@ use crate::named::names_of;
 use crate::starts::{Starts, starts_of};
 use std::alloc::{AllocError, Global};
 use viz_extent::Extent;
+use viz_lanes::Bits;
 
 /// The names of edges, each once, ascending: both leaves of each, the lesser first. And triangles
 /// by the ranks of their edges.
@@ -23,7 +24,7 @@ pub struct Ranked {
 }
 
 /// Of fewer leaves the numbers of edges, eight to a leaf, fit 32 bits.
-const MOST_SHORT: usize = 1 << 29;
+const MOST_SHORT: u64 = 1 << 29;
 
 /// The triangles in all tetrahedra of a window of whole planes, by which of its points are inside,
 /// where its first leaf has this number.
@@ -33,7 +34,7 @@ pub fn ranked_section(
     alloc: Global,
     window: &Extent,
     first: u32,
-    inside: &[bool],
+    inside: &Bits,
 ) -> Result<Ranked, AllocError>
     requires full { length inside.now ≡ count_of window.now }
     requires within { first + length inside.now < 2 ^ 31 }
@@ -56,7 +57,7 @@ fn ranked_in<T: Ends>(
     alloc: Global,
     window: &Extent,
     first: u32,
-    inside: &[bool],
+    inside: &Bits,
 ) -> Result<Ranked, AllocError>
     requires full { length inside.now ≡ count_of window.now }
     requires within { first + length inside.now < 2 ^ 31 }
@@ -78,7 +79,7 @@ fn ranked_in<T: Ends>(
     let [x0, x1, y0, y1, _, _] = window.bounds();
     let row = x1 - x0 + 1;
     let plane = row * (y1 - y0 + 1);
-    let flags = flags_of(alloc, inside.len(), &numbers)?;
+    let flags = flags_of(alloc, inside.len() as usize, &numbers)?;
     let Starts { before, count } = starts_of(alloc, &flags)?;
     let triangles = T::ranked(alloc, numbers, &flags, &before)?;
     drop(before);

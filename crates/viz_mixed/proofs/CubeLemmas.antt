@@ -1,16 +1,15 @@
 -- Cubes row by row, by the numbers of their lowest leaves.
-use Rattle.std.proofs.Common.{◌≡◌, ℕ, zero, suc, ◌+◌, ◌-◌, ◌*◌, ◌<◌, ◌≤◌, Bool, false, List, [], ◌∷◌, ◌++◌, append-nil, append_assoc, get_or, length, map, refl, sym, ap, ap₂, subst, ◌∙◌, arith}
+use Rattle.std.proofs.Common.{◌≡◌, ℕ, zero, suc, ◌+◌, ◌-◌, ◌*◌, ◌<◌, ◌≤◌, Bool, false, List, [], ◌∷◌, ◌++◌, append-nil, append_assoc, get_or, map, refl, sym, ap, ap₂, subst, ◌∙◌, arith}
 use Rattle.std.specs.List.{flat_map, range_with_len}
 use Rattle.std.proofs.lemmas.List.{map-append}
 use Rattle.std.proofs.lemmas.List.Concat.{flat_map-append}
 use Rattle.viz_extent.specs.Extent.{Bounds, Has, IsExtent, count_of, numbers_of, plane_size, size_x}
 use Rattle.viz_extent.specs.Numbering.{index_at}
 use Rattle.viz_extent.proofs.NumberingLemmas.{index_at_below}
-use Rattle.viz_grid_section.specs.Steps.Rows.{eight_from}
-use Rattle.viz_kuhn.specs.Cubes.{HasNext, cubes_x, leaf_of, leaves_of, lowest_in_row}
+use Rattle.viz_kuhn.specs.Cubes.{HasNext, cubes_x, leaf_of, lowest_in_row}
 use Rattle.viz_kuhn.specs.Corners.{corner}
-use Rattle.viz_kuhn.specs.Places.{Place, place, place_of}
-use Rattle.viz_mixed.specs.Mixed.{corner_flags, eight_corners, is_mixed, mixed_from}
+use Rattle.viz_kuhn.specs.Places.{place, place_of}
+use Rattle.viz_mixed.specs.Mixed.{corner_flags, is_mixed, mixed_from}
 
 -- ---- ranges
 

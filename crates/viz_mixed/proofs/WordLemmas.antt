@@ -1,5 +1,5 @@
 -- Bits of words and the flags of corners.
-use Rattle.std.proofs.Common.{◌≡◌, ℕ, zero, suc, ◌+◌, ◌<◌, ◌==◌, Bool, true, false, List, [], ◌∷◌, get_or, refl, ap, ◌∙◌, arith}
+use Rattle.std.proofs.Common.{◌≡◌, ℕ, zero, suc, ◌+◌, ◌<◌, ◌==◌, Bool, true, false, List, [], ◌∷◌, get_or, length, map, refl, ap, ◌∙◌, arith}
 use Rattle.viz_mixed.specs.Mixed.{corners_from}
 use Rattle.viz_mixed.specs.Steps.Words.{bit_of}
 
@@ -32,3 +32,11 @@ eight-flags flags lowest row plane t a b c d e f g h ea eb ec ed ee ef eg eh =
   where
     at : (x : Bool) (n m : ℕ) → x ≡ get_or flags n false → n ≡ m → x ≡ get_or flags m false
     at x n m ex e = ex ∙ ap (λ k. get_or flags k false) e
+
+-- a function of each of eight items
+pub each_of_eight : {A B : Type 0} (f : A → B) (d : A) (xs : List A) → length xs ≡ 8 → (p q r s t u v w : B)
+    → p ≡ f (get_or xs 0 d) → q ≡ f (get_or xs 1 d) → r ≡ f (get_or xs 2 d) → s ≡ f (get_or xs 3 d)
+    → t ≡ f (get_or xs 4 d) → u ≡ f (get_or xs 5 d) → v ≡ f (get_or xs 6 d) → w ≡ f (get_or xs 7 d)
+    → p ∷ q ∷ r ∷ s ∷ t ∷ u ∷ v ∷ w ∷ [] ≡ map f xs
+each_of_eight f d (a1 ∷ a2 ∷ a3 ∷ a4 ∷ a5 ∷ a6 ∷ a7 ∷ a8 ∷ []) size p q r s t u v w e1 e2 e3 e4 e5 e6 e7 e8 = cc
+each_of_eight f d _ size p q r s t u v w e1 e2 e3 e4 e5 e6 e7 e8 = absurd (omega (arith, size))

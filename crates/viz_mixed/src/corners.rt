@@ -32,11 +32,11 @@ pub fn corner_words(flags: &Bits, lowest: usize, row: usize, plane: usize) -> [u
 
 /// Of 64 cubes with these flags of their corners, a word for each corner: a bit for each cube that
 /// is mixed.
-pub fn mixed_of(words: [u64; 8]) -> u64
+pub fn mixed_of(words: &[u64; 8]) -> u64
     ensures value { (t : ℕ) → t < 64
-        → (bit_at result t == 1) ≡ is_mixed (map (λ word. bit_at word t == 1) words) }
+        → (bit_at result t == 1) ≡ is_mixed (map (λ word. bit_at word t == 1) words.now) }
 {
-    let [a, b, c, d, e, f, g, h] = words;
+    let [a, b, c, d, e, f, g, h] = *words;
     mix(a, b, c, d, e, f, g, h)
 }
 

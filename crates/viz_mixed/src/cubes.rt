@@ -13,11 +13,7 @@ use viz_extent::Extent;
 use viz_lanes::Bits;
 
 /// Of each cube, whether it is mixed, by the points' flags.
-pub(crate) fn mixed_cubes(
-    alloc: Global,
-    whole: &Extent,
-    flags: &Bits,
-) -> Result<Bits, AllocError>
+pub(crate) fn mixed_cubes(alloc: Global, whole: &Extent, flags: &Bits) -> Result<Bits, AllocError>
     requires full { length flags.now ≡ count_of whole.now }
     ensures { IfOk result (λ bits. bits ≡ mixed_cubes whole.now flags.now) }
 {
@@ -30,12 +26,7 @@ pub(crate) fn mixed_cubes(
 }
 
 /// Adds those in the layer that begins at an index along z.
-fn push_layer(
-    out: &mut Bits,
-    whole: &Extent,
-    flags: &Bits,
-    k: u32,
-) -> Result<(), AllocError>
+fn push_layer(out: &mut Bits, whole: &Extent, flags: &Bits, k: u32) -> Result<(), AllocError>
     requires full { length flags.now ≡ count_of whole.now }
     requires z { HasNext whole.now.z0 whole.now.z1 k }
     ensures { OnOk result (out.new ≡ out.old
@@ -50,13 +41,7 @@ fn push_layer(
 }
 
 /// Adds those in the row that begins at indices along y and z.
-fn push_row(
-    out: &mut Bits,
-    whole: &Extent,
-    flags: &Bits,
-    j: u32,
-    k: u32,
-) -> Result<(), AllocError>
+fn push_row(out: &mut Bits, whole: &Extent, flags: &Bits, j: u32, k: u32) -> Result<(), AllocError>
     requires full { length flags.now ≡ count_of whole.now }
     requires y { HasNext whole.now.y0 whole.now.y1 j }
     requires z { HasNext whole.now.z0 whole.now.z1 k }
@@ -111,7 +96,7 @@ fn push_word(
     ensures { OnOk result (out.new ≡ out.old
         ++ map (λ i. mixed_from flags.now row plane (lowest + i)) (range_with_len 0 count)) }
 {
-    let word = mixed_of(corner_words(flags, lowest, row, plane));
+    let word = mixed_of(&corner_words(flags, lowest, row, plane));
     for t in 0..count as u32 {
         out.push(is_set(word, t))?;
     }

@@ -341,3 +341,25 @@ fn bits_are_pushed_across_words(rt: HostRuntime) -> Result<(), Fail> {
     }
     Ok(())
 }
+
+#[test]
+fn words_begin_at_any_bit(rt: HostRuntime) -> Result<(), Fail> {
+    let mut numbers: [u8; 70] = [0; 70];
+    for at in [1, 63, 64, 69] {
+        numbers[at] = 1;
+    }
+    let bits = at_least_u8(rt.alloc(), &numbers, 1)?;
+    let words: [(u64, u64); 7] = [
+        (0, 1 << 63 | 2),
+        (1, 1 << 63 | 1 << 62 | 1),
+        (63, 64 | 2 | 1),
+        (64, 32 | 1),
+        (69, 1),
+        (70, 0),
+        (u64::MAX, 0),
+    ];
+    for (at, word) in words {
+        assert_eq!(rt; bits.word_from(at), word, "{at}");
+    }
+    Ok(())
+}

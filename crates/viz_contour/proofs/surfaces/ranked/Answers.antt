@@ -1,7 +1,9 @@
 use Rattle.std.proofs.Common.{◌≡◌, ◌+◌, ◌∷◌, [], List, Bool, map, refl, ap, ap₂, ◌∙◌, arith}
+use Rattle.viz_column.specs.Numbers.{Numbers}
 use Rattle.viz_extent.specs.Extent.{Bounds}
 use Rattle.viz_grid_section.specs.Edges.{Edge, edges_of, edge_leaves, rank_of}
 use Rattle.viz_grid_section.specs.GridSection.{grid_cells}
+use Rattle.viz_grid_section.specs.ImageSection.{insides}
 use Rattle.viz_flags.specs.Edges.{leaves_from}
 use Rattle.viz_contour.proofs.surfaces.ranked.Goals as goal
 
@@ -17,10 +19,10 @@ from_first (e ∷ es) =
 
 pub returns-clause-names : goal.returns-clause-names
 returns-clause-names c =
-    let same = cells_same _ _ _ _ c.extent.ensures.value (c.deref.ensures.value ∙ c.in_ok-inside.ensures.value) in
+    let same = cells_same _ _ _ _ c.extent.ensures.value (c.in_ok-inside.ensures.value ∙ ap (λ (v : Numbers). insides c.args.level.now v.items) c.column.ensures.value) in
     c.in_ok-ranked.ensures.names ∙ ap (λ cells. map (leaves_from 0) (edges_of cells)) same ∙ from_first _
 
 pub returns-clause-ranks : goal.returns-clause-ranks
 returns-clause-ranks c =
-    let same = cells_same _ _ _ _ c.extent.ensures.value (c.deref.ensures.value ∙ c.in_ok-inside.ensures.value) in
+    let same = cells_same _ _ _ _ c.extent.ensures.value (c.in_ok-inside.ensures.value ∙ ap (λ (v : Numbers). insides c.args.level.now v.items) c.column.ensures.value) in
     c.in_ok-ranked.ensures.ranks ∙ ap (λ cells. map (map (rank_of (edges_of cells))) cells) same

@@ -1,4 +1,4 @@
-use Rattle.std.proofs.Common.{◌≤◌, [], arith}
+use Rattle.std.proofs.Common.{[], arith}
 use Rattle.viz_kuhn.specs.Cubes.{lowest_in_layer}
 use Rattle.viz_mixed.specs.Mixed.{corner_flags, is_mixed}
 use Rattle.viz_mixed.proofs.CubeLemmas.{layer-more}
