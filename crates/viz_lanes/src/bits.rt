@@ -79,7 +79,7 @@ impl Bits {
 
     /// The 64 bits from an index on, the lowest first, with zeros past the last.
     pub fn word_from(&self, at: u64) -> u64
-        ensures { (t : ℕ) → t < 64
+        ensures value { (t : ℕ) → t < 64
             → (bit_at result t == 1) ≡ slice_index_or self.now (at + t) false }
     {
         let i = at / 64;
