@@ -1,6 +1,8 @@
 -- What a call of apply answers.
 use Rattle.std.specs.Prelude.{◌≡◌, ℕ, ◌<◌, List, Result, Ok, Err}
 use Rattle.std.specs.List.{AllByRecursion}
+use Rattle.viz_network.specs.declared.edit.Edit.{Edit}
+use Rattle.viz_network.specs.declared.edit.Edit.TheVariants.{Add, Load}
 use Rattle.viz_network.specs.declared.refusal.Refusal.{Refusal}
 use Rattle.viz_network.specs.declared.refusal.ApplyStop.{ApplyStop}
 use Rattle.viz_network.specs.declared.refusal.ApplyStop.TheVariants.{Refused, Memory}
@@ -28,3 +30,10 @@ Decides (Err r) old new made = (made ≡ Err r) × (new ≡ old)
 -- the position is past the Add and the stamp of each node
 abbrev pub IsPast : ℕ → Network → Type 0
 IsPast at net = AllByRecursion (λ (n : List ℕ × Node). (n.1.id.0 < at) × (n.1.stamp < at)) net
+
+-- an edit that may take memory: a node more, or a file; every other one has the room that it needs
+-- in the network
+abbrev pub MayTakeMemory : Edit → Type 0
+MayTakeMemory (Add kind node) = Unit {0}
+MayTakeMemory (Load node file) = Unit {0}
+MayTakeMemory edit = ⊥

@@ -1,12 +1,12 @@
 //! The network.
 
-ghost use Rattle.std.specs.Prelude.{◌≡◌, [], IfOk, Some};
+ghost use Rattle.std.specs.Prelude.{◌≡◌, [], IfOk, Some, Err};
 ghost use Rattle.std.specs.Option.{option_copied, option_map, option_and_then};
 ghost use Rattle.viz_network.specs.Network.{named, node_of, name_of};
 ghost use Rattle.viz_network.specs.Readers.{kind_at, input_at, value_at};
 ghost use Rattle.viz_network.specs.Cone.{stamp_of};
 ghost use Rattle.viz_network.specs.Edits.{apply};
-ghost use Rattle.viz_network.specs.Applies.{Applies, IsPast};
+ghost use Rattle.viz_network.specs.Applies.{Applies, IsPast, MayTakeMemory};
 ghost use Rattle.viz_network.specs.Step.{AreSteps};
 
 use crate::changes::{add, connect, disconnect, load, remove, set};
@@ -80,10 +80,12 @@ impl Net {
     ///
     /// # Errors
     ///
-    /// The refusals of docs/FORMATS.md, "Edits", in their order; then want of memory.
+    /// The refusals of docs/FORMATS.md, "Edits", in their order; then want of memory, which only
+    /// an Add and a Load can meet.
     pub fn apply(&mut self, at: u32, edit: &Edit) -> Result<(), ApplyStop>
         requires later { IsPast at self.old }
         ensures applies { Applies result self.old self.new (apply at edit.now self.old) }
+        ensures memory { result ≡ Err ApplyStop.Memory → MayTakeMemory edit.now }
     {
         match edit {
             Edit::Add { kind, node } => add(&mut self.nodes, &mut self.order, at, *kind, node),
