@@ -6,6 +6,7 @@ ghost use Rattle.viz_cache.specs.Keys.{same_key};
 ghost use Rattle.viz_kept.specs.True.{AreTrueIn, AreTrueOf};
 ghost use Rattle.viz_entries.specs.History.{edits_of, network_of, next, IsLegal};
 ghost use Rattle.viz_history.specs.Machine.{IsFirst, IsPinOf, Stays, Replies, Publishes};
+ghost use Rattle.viz_network.specs.Applies.{MayTakeMemory};
 
 use crate::answer::EditAnswer;
 use crate::pinned::Pinned;
@@ -86,10 +87,12 @@ impl Core {
     }
 
     /// Makes the edit as the next one of the pass, or says why not. Full comes before the refusals
-    /// of the network.
+    /// of the network. Where there is room for an entry, only an Add and a Load can meet want of
+    /// memory.
     pub fn edit(&mut self, pass: u64, count: u32, edit: Edit) -> EditAnswer
         requires next { count ≡ next pass self.old.history }
         ensures replies { Replies pass count edit self.old result self.new }
+        ensures memory { result ≡ EditAnswer.Memory → 1 ≤ self.old.spare → MayTakeMemory edit }
     {
         let at = self.history.len() as u32;
         if self.limit <= at {

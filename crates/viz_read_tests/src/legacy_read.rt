@@ -204,6 +204,46 @@ fn faults_behind_the_header(rt: HostRuntime) -> Result<(), Fail> {
     Ok(())
 }
 
+// An image of eight points, with metadata behind it: 214 bytes.
+const CORNER: &[u8] = b"# vtk DataFile Version 5.1\n\
+    vtk output\n\
+    ASCII\n\
+    DATASET STRUCTURED_POINTS\n\
+    DIMENSIONS 2 2 2\n\
+    SPACING 1 1 1\n\
+    ORIGIN 0 0 0\n\
+    POINT_DATA 8\n\
+    SCALARS ImageScalars int\n\
+    LOOKUP_TABLE default\n\
+    0 0 0 0 0 0 0 9 \n\
+    METADATA\n\
+    INFORMATION 0\n\
+    \n";
+
+#[test]
+fn first_bytes_of_a_file(rt: HostRuntime) -> Result<(), Fail> {
+    // So many bytes, up to so many, and the fault of each, at its end where no place is told.
+    for (from, to, fault) in [
+        (0, 0, Some((FileKind::Magic, Some(0)))),
+        (30, 30, Some((FileKind::Title, Some(27)))),
+        (173, 187, Some((FileKind::Truncated, None))),
+        (188, 190, None),
+        (191, 197, Some((FileKind::Keyword, Some(190)))),
+        (198, 214, None),
+    ] {
+        for count in from..to + 1 {
+            let text = CORNER.get(..count).ok_or("so many bytes")?;
+            let want = fault.map(|(kind, place)| FileFault {
+                kind,
+                place: place.unwrap_or(count as u64),
+            });
+            let found = told(rt.alloc(), &Pick::First, text);
+            assert_eq!(rt; found.err().flatten(), want, "{count}");
+        }
+    }
+    Ok(())
+}
+
 #[test]
 fn a_file_of_a_real_size(rt: HostRuntime) -> Result<(), Fail> {
     let alloc = rt.alloc();

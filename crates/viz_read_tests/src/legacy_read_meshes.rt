@@ -130,6 +130,37 @@ fn a_grid_of_many_types(rt: HostRuntime) -> Result<(), Fail> {
     Ok(())
 }
 
+// Three points, and one polygon to come.
+const POLYGON: &[u8] = b"# vtk DataFile Version 3.0\n\
+    t\n\
+    ASCII\n\
+    DATASET POLYDATA\n\
+    POINTS 3 int\n\
+    0 0 0\n\
+    1 0 0\n\
+    0 1 0\n\
+    POLYGONS 1 4\n\
+    ";
+
+#[test]
+fn last_lines_of_a_polygon(rt: HostRuntime) -> Result<(), Fail> {
+    let alloc = rt.alloc();
+    for (line, kind, place) in [
+        (b"3 0 1 3\n".as_slice(), FileKind::Index, 102),
+        (b"3 0 1 -1\n", FileKind::Index, 102),
+        (b"9 0 1 2\n", FileKind::Count, 96),
+        (b"3 0 1", FileKind::Truncated, 101),
+    ] {
+        let mut text = Vec::new(alloc);
+        text.extend_from_slice(POLYGON)?;
+        text.extend_from_slice(line)?;
+        let found = mesh_of(alloc, &text, &Pick::First, 0);
+        let fault = FileFault { kind, place };
+        assert_eq!(rt; found.err().flatten(), Some(fault), "{line:?}");
+    }
+    Ok(())
+}
+
 #[test]
 fn faults_of_meshes(rt: HostRuntime) {
     for (text, kind, place) in [

@@ -20,19 +20,17 @@ invariant_of-self-in-Ok c =
     rw (c.push_reserved.ensures.items, c.reserve.ensures.items)
     (kept_more h c.self.inside.limit c.self.inside.net c.apply.new.self c.self.inside.cache.entries (entry c.args.pass c.args.count c.args.edit) c.self.invariant (search arith) made counted)
 
-pub returns-in-Ok : goal.returns-in-Ok
-returns-in-Ok c =
+pub returns-in-Ok-clause-replies : goal.returns-in-Ok-clause-replies
+returns-in-Ok-clause-replies c =
     let h = c.self.inside.history.items in
     let e = entry c.args.pass c.args.count c.args.edit in
     let many : c.len-at.result ≡ length h = search arith in
     let new = c.push_reserved.ensures.items ∙ ap (λ l. l ++ e ∷ []) c.reserve.ensures.items in
     let made : apply (length h + 1) c.args.edit c.self.inside.net ≡ Ok c.apply.new.self = subst (λ n. apply (n + 1) c.args.edit c.self.inside.net ≡ Ok c.apply.new.self) many c.in-Ok.ensures.applies in
     let q : apply (length h + 1) c.args.edit (network_of h) ≡ Ok c.apply.new.self = subst (λ n. apply (length h + 1) c.args.edit n ≡ Ok c.apply.new.self) c.self.invariant.network made in
-    record {
-      replies = rw (← c.self.view_is) (
-        record { history = new; limit = refl; capacity = refl; cache = refl; spare = search arith },
-        ap (λ n. n + 1) many,
-        search arith,
-        rw new (q ∙ ap Ok (sym (network_more h c.apply.new.self e q))),
-      );
-    }
+    rw (← c.self.view_is) (
+      record { history = new; limit = refl; capacity = refl; cache = refl; spare = search arith },
+      ap (λ n. n + 1) many,
+      search arith,
+      rw new (q ∙ ap Ok (sym (network_more h c.apply.new.self e q))),
+    )
