@@ -18,11 +18,9 @@ use Rattle.std.proofs.Common.{
   refl,
   sym,
   subst,
-  ◌∙◌,
   true≢false,
 }
 use Rattle.viz_account.specs.Audited.{
-  HasNoSurface,
   IsAuditOf,
   IsAudited,
   IsFedFirst,
@@ -30,13 +28,12 @@ use Rattle.viz_account.specs.Audited.{
   is_contour,
   summed,
 }
-use Rattle.viz_account.proofs.ContourLemmas.{contours_given, contours_of}
 use Rattle.viz_dataset.specs.Images.{ImageData, IsImage}
 use Rattle.viz_dataset.specs.declared.dataset.Dataset.{Dataset}
 use Rattle.viz_dataset.specs.declared.dataset.Dataset.TheVariants.{Image, Mesh}
 use Rattle.viz_network.specs.Cone.{Cone, Tree, cone_of, empty, fed, none}
 use Rattle.viz_network.specs.History.{net_of}
-use Rattle.viz_network.specs.Network.{Network, node_of}
+use Rattle.viz_network.specs.Network.{Network}
 use Rattle.viz_network.specs.declared.fault.Cause.TheVariants.{WrongInput}
 use Rattle.viz_network.specs.declared.fault.Fault.{Fault}
 use Rattle.viz_network.specs.declared.node.Node.{Node}
@@ -55,6 +52,7 @@ use Rattle.viz_sheet.specs.Sheet.{SheetData}
 use Rattle.viz_surface_law.specs.Audit.{count_border, count_lone, count_sides, count_two}
 use Rattle.viz_surface_law.specs.declared.audits.Counts.{Counts}
 use Rattle.viz_account_total.specs.Laws.{AuditsAreGiven, HistoriesHaveAudits}
+use Rattle.viz_account_total.proofs.MeshLemmas.{contour_mesh}
 
 -- what feeds the first port gives this valid image
 abbrev OnImage : (ImageData → Type 0) → Type 0
@@ -85,7 +83,7 @@ module _ (one : ConesGiveOne) (cones : ConesGive) (valid : GivenAreValid) where
   ports_fed none bytes = inr (λ image h. absurd h)
   ports_fed (empty others) bytes = inr (λ image h. absurd h)
   ports_fed (fed n own others) bytes =
-      let below = (bytes.0, bytes.1) in
+      let below : OfTree HasBytes (n, own) = (bytes.0, bytes.1) in
       let r = cones (n, own) below in
       image_or_none (n, own) r.0 below r.1
 
@@ -93,8 +91,8 @@ module _ (one : ConesGiveOne) (cones : ConesGive) (valid : GivenAreValid) where
       → IsOnOneOrNone (λ image. (b ≡ true) × IsFedFirst ports (Image image))
   stands false ports bytes = inr (λ image h. absurd (true≢false (sym h.0)))
   stands true ports bytes = elim (ports_fed ports bytes) [
-    | inl fed ↦ inl (fed.0, (refl, fed.1), fed.2)
-    | inr not ↦ inr (λ image h. not image h.1)
+    | inl on ↦ inl (on.0, (refl, on.1), on.2)
+    | inr off ↦ inr (λ image h. off image h.1)
   ]
 
   stands_of : (o : Option Tree) → ((t : Tree) → o ≡ Some t → OfTree HasBytes t)
@@ -115,8 +113,8 @@ module _ (one : ConesGiveOne) (cones : ConesGive) (valid : GivenAreValid) where
       → StandsOn (cone_of net id) image → IsScratch net id (Ok d)
       → (c : Counts) × IsAudited net id c
   audited net id image d sound on given =
-      let made = contours_given one (cone_of net id) image d on given in
-      let sheets = contours_of made.0 image in (
+      let made = contour_mesh (cone_of net id) image d on given in
+      let sheets = made.0 in (
         sums_of image sheets,
         record {
           image = image;
@@ -135,12 +133,12 @@ module _ (one : ConesGiveOne) (cones : ConesGive) (valid : GivenAreValid) where
   audit_of net id n (Ok d) e given (inl on) =
       let c = audited net id on.0 d on.2 on.1 given in
       (Ok c.0, c.1)
-  audit_of net id n (Ok d) e given (inr not) = (
+  audit_of net id n (Ok d) e given (inr off) = (
     Err (record { node = n.id; cause = WrongInput 1 }),
     inr (record {
       dataset = d;
       given = given;
-      stands = not;
+      stands = off;
       node = e;
       cause = refl;
     }),

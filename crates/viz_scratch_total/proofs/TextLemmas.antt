@@ -1,6 +1,5 @@
 -- It is decided whether a dataset has a text.
 use Rattle.std.proofs.Common.{
-  ◌≡◌,
   ℕ,
   suc,
   ◌^◌,
@@ -12,9 +11,6 @@ use Rattle.std.proofs.Common.{
   inr,
   List,
   length,
-  All,
-  Option,
-  Some,
   Result,
   Ok,
   Err,
@@ -24,16 +20,15 @@ use Rattle.std.proofs.Common.{
 use Rattle.std.specs.Int.{w64}
 use Rattle.std.specs.Prelude.{FitsSigned, unsigned_abs}
 use mir.Val.{hbits}
-use Rattle.viz_dataset.specs.Images.{IsOrigin, IsPosition, corner}
+use Rattle.viz_dataset.specs.Images.{IsPosition, corner}
 use Rattle.viz_dataset.specs.declared.dataset.Dataset.{Dataset}
 use Rattle.viz_dataset.specs.declared.dataset.Dataset.TheVariants.{Image, Mesh}
 use Rattle.viz_fraction.specs.Points.{Point}
 use Rattle.viz_mesh_write.specs.Cells.{cells_of, points_of}
-use Rattle.viz_mesh_write.specs.Fits.{FitCounts, FitNumbers, FitRows, FitsRow, sections_of}
+use Rattle.viz_mesh_write.specs.Fits.{FitRows, FitsRow, sections_of}
 use Rattle.viz_mesh_write.specs.MeshText.{coordinates, scalars, size_of}
 use Rattle.viz_network.specs.Cone.{cone_of}
 use Rattle.viz_network.specs.History.{net_of}
-use Rattle.viz_network.specs.Network.{Network, node_of}
 use Rattle.viz_network.specs.declared.fault.Cause.TheVariants.{TooMany, TooWide}
 use Rattle.viz_network.specs.declared.fault.Fault.{Fault}
 use Rattle.viz_network.specs.declared.node.Node.{Node}
