@@ -22,7 +22,7 @@ abbrev pub IsOfBytes : Option (List ℕ) → Type 0
 IsOfBytes None = Unit {0}
 IsOfBytes (Some bytes) = AreBytes bytes
 
--- so it is of a node
+-- a node has no file, or one of bytes
 abbrev pub HasBytes : Node → Type 0
 HasBytes n = IsOfBytes n.file
 
@@ -36,7 +36,7 @@ OfCone P (fed n own others) = P n × OfCone P own × OfCone P others
 abbrev pub OfTree : (Node → Type 0) → Tree → Type 0
 OfTree P t = P t.0 × OfCone P t.1
 
--- of each node of a network
+-- so has each node of a network
 pub record NetHasBytes (net : Network) : Type 0 where
   pub each : AllByRecursion (λ n. HasBytes n.1) net
 
