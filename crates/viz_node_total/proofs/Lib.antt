@@ -1,0 +1,13 @@
+pub mod StayLemmas
+pub mod ArrayLemmas
+pub mod HeaderLemmas
+pub mod FileLemmas
+pub mod ImageLemmas
+pub mod FilterLemmas
+pub mod TellLemmas
+pub mod DecidedLemmas
+pub mod NarrowLemmas
+pub mod KindLemmas
+pub mod RowLemmas
+pub mod FoldLemmas
+pub mod NetworkLemmas
