@@ -19,7 +19,8 @@ use Rattle.viz_node_meaning.specs.declared.information.Information.{Information}
 use Rattle.viz_node_meaning.proofs.OneLemmas.{given_one}
 use Rattle.viz_plan_law.specs.Told.{DatasetsAreTold}
 use Rattle.viz_node_gives.specs.Gives.{AreValid, NodesMakeExact}
-use Rattle.viz_node_gives.proofs.RowLemmas.{IsValidAt, row_made}
+use Rattle.viz_node_total.proofs.KindLemmas.{IsValidAt}
+use Rattle.viz_node_gives.proofs.RowLemmas.{row_made}
 
 -- what is told of the nodes that feed ports is the information of their datasets
 are_told : DatasetsAreTold → DividedAreExact → (cone : Cone) (inputs : Inputs Divided)

@@ -2,9 +2,7 @@
 -- bound (VTK User's Guide, "The visualization pipeline": the data pass; docs/FORMATS.md, "Exact
 -- points").
 use Rattle.std.specs.Prelude.{ℕ, List, [], ◌∷◌, Option, None, Some, Ok}
-use Rattle.viz_dataset.specs.Images.{IsImage}
 use Rattle.viz_dataset.specs.declared.dataset.Dataset.{Dataset}
-use Rattle.viz_dataset.specs.declared.dataset.Dataset.TheVariants.{Image, Mesh}
 use Rattle.viz_kinds.specs.declared.settings.Settings.{Settings}
 use Rattle.viz_kinds.specs.declared.settings.Settings.TheVariants as settings
 use Rattle.viz_network.specs.Cone.{Cone}
@@ -16,17 +14,13 @@ use Rattle.viz_node_meaning.specs.Fold.{IsGiven}
 use Rattle.viz_node_meaning.specs.Information.{InformationRule}
 use Rattle.viz_node_meaning.specs.Rules.{Inputs}
 use Rattle.viz_node_meaning.specs.declared.information.Information.{Information}
+use Rattle.viz_node_total.specs.Files.{IsValid}
 
 -- the node has no file, or one that is read
 abbrev pub HasReading : Settings → Option (List ℕ) → Type 0
 HasReading (settings.File array unit) file =
     (whole : Dataset) × IsReadingOf array (unit_with unit) file (Ok whole)
 HasReading _ file = Unit {0}
-
--- an image has numbers of its type for all its points
-abbrev pub IsValid : Dataset → Type 0
-IsValid (Image image) = IsImage image
-IsValid (Mesh sheets) = Unit {0}
 
 -- so what feeds each port
 abbrev pub AreValid : Inputs Divided → Type 0

@@ -24,7 +24,8 @@ use Rattle.viz_node_division.specs.Divided.{Divided, IsDivided}
 use Rattle.viz_node_division.specs.Laws.{AreDivided, DividedAreExact, DividedByPorts}
 use Rattle.viz_node_meaning.specs.Fold.{IsGiven}
 use Rattle.viz_node_meaning.specs.Information.{InformationRule, information_of}
-use Rattle.viz_node_gives.specs.Gives.{AreValid, IsValid}
+use Rattle.viz_node_gives.specs.Gives.{AreValid}
+use Rattle.viz_node_total.specs.Files.{IsValid}
 use Rattle.viz_node_meaning.specs.Rules.{Inputs}
 use Rattle.viz_node_parts.specs.Answering.{AreAnswered, dataset_extent, extent_at_ports}
 use Rattle.viz_parts.specs.Pieces.{Division, IsAnswer}
