@@ -13,11 +13,13 @@ use Rattle.viz_surface_law.specs.declared.audits.Counts.{Counts}
 use Rattle.viz_turn.specs.Tales.{has}
 use Rattle.viz_entries.specs.declared.entry.Entry.{Entry}
 use Rattle.viz_scratch.specs.Laws.{FilesAreOne}
+use Rattle.viz_scratch.specs.Written.{IsFileOf}
 use Rattle.viz_script.specs.Orders.{Asked, edit, load, update, audit}
 use Rattle.viz_report.specs.declared.line.Line.{Line}
 use Rattle.viz_report.specs.declared.line.Line.TheVariants as line
 use Rattle.viz_report.specs.declared.line.Reason.TheVariants as reason
 use Rattle.viz_account.specs.Account.{edited, least, AreTold, places, IsActor, AreActors}
+use Rattle.viz_account.specs.Audited.{IsAuditOf}
 use Rattle.viz_account.specs.Complete.{IsAccepted, HasFile, HasAudit, Came, shown, HaveCome, AllCame, TellsCame, AllCameAreTold, SaysOf, UpdatesSayOfFiles}
 use Rattle.viz_account.specs.Laws.{Shows, times}
 use Rattle.viz_account.specs.Lines.{network_at, IsEntry, TellsEdit, TellsLoad, TellsFile, TellsAudit, Tells}
@@ -116,7 +118,7 @@ module _ (files : FilesAreOne) where
       let bad : (let r : Result (List ℕ) Fault = Ok f.1 in r) ≡ Err fault = files net x.id.0 (Ok f.1) (Err fault) (subst (λ (y : Node). IsFileOf net y.id.0 (Ok f.1)) same f.3) none in
       cc
 
-  pub updates_say : UpdatesSayOfFiles
+  pub updates_say : (Ran : ℕ → ℕ → Type 0) → UpdatesSayOfFiles Ran
   updates_say Ran net n node file (line.File at cells points ran) calls t = (t.1.0, t.1.1, t.1.2, t.1.3.file)
   updates_say Ran net n node file (line.Refused reason.Unknown at) calls t = λ f. no_node net node f.0 t.1 f.2
   updates_say Ran net n node file (line.Refused (reason.Fault fault name) at) calls t = λ f. no_file net node fault t.1.0 t.1.1 t.1.2 f
@@ -214,7 +216,8 @@ module _ (files : FilesAreOne) where
           let up = least_low low t.0 l t.5 in
           let first = told_as_came low t.0 c.0 o os l ls t.1 t.2 last t.4 t.7 (own t.0) c.1 (subst (λ (n : ℕ). Came h ps low n o) same c.2) in
           let more : (k : ℕ) → t.0 < k → times k (places ps h) ≡ times k (flat_map edited ls) = λ k lt.
-          own k (omega (arith, up, lt)) ∙ times_append k (edited l) (flat_map edited ls) ∙ ap (λ (x : ℕ). x + times k (flat_map edited ls)) (none_told low t.0 o l t.1 k t.4 t.5 (inr lt)) in
+          own k (omega (arith, up, lt)) ∙ times_append k (edited l) (flat_map edited ls) ∙ ap (λ (x : ℕ). x + times k (flat_map edited ls)) (none_told low t.0 o l t.1 k t.4 t.5 (inr lt))
+          ∙ (let same : 0 + times k (flat_map edited ls) ≡ times k (flat_map edited ls) = omega arith in same) in
           All-cons TellsCame l ls first (all_told t.0 os ls t.2 last t.7 more (subst (λ (n : ℕ). HaveCome h ps n os ls) same c.3))
 
     -- ---- actors

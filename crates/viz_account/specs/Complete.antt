@@ -95,7 +95,7 @@ SaysOf (line.File at cells points ran) File = File
 SaysOf (line.Refused reason at) File = File → ⊥
 SaysOf l File = Unit {0}
 
--- so it is of each update
-abbrev pub UpdatesSayOfFiles : Type 0
-UpdatesSayOfFiles = (Ran : ℕ → ℕ → Type 0) (net : Network) (n : ℕ) (node file : List ℕ) (l : Line)
+-- so it is of each update of which this is said of the number behind `ran`
+abbrev pub UpdatesSayOfFiles : (ℕ → ℕ → Type 0) → Type 0
+UpdatesSayOfFiles Ran = (net : Network) (n : ℕ) (node file : List ℕ) (l : Line)
     (calls : List Call) → TellsFile Ran net n node file l calls → SaysOf l (HasFile net node)

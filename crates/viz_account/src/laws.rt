@@ -4,6 +4,7 @@
 ghost use Rattle.viz_account.specs.Complete.{AllCameAreTold, UpdatesSayOfFiles};
 ghost use Rattle.viz_account.specs.Laws.{AuditLinesAreClosed, EntriesAreToldOnce, HoldLater};
 ghost use Rattle.viz_account.specs.Laws.{LinesCountEdits};
+ghost use Rattle.viz_account.specs.Written.{HasNoPlan};
 
 use crate::surface_laws::{audits_are_closed, audits_are_one};
 use viz_base::Port;
@@ -42,10 +43,10 @@ pub fn all_came_are_told<P: Port>()
     audits_are_one();
 }
 
-/// The line of an update tells of a file only where its node has one, and of a refusal only where
-/// it has none.
+/// The line of an update from scratch tells of a file only where its node has one, and of a refusal
+/// only where it has none.
 pub fn updates_say_of_files()
-    ensures files { UpdatesSayOfFiles }
+    ensures files { UpdatesSayOfFiles HasNoPlan }
 {
     files_are_one();
 }

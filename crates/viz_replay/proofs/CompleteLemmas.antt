@@ -26,7 +26,7 @@ use Rattle.viz_replay.specs.Complete.{EndsBy, IsComplete}
 use Rattle.viz_replay.specs.Replay.{Replay, asked, network_at, entries_at, IsUpdated, IsEndOfReplay, IsReplayRun}
 use Rattle.viz_replay.specs.Told.{status_of, telling_of}
 
-module _ {P O : Type 0} (says : UpdatesSayOfFiles) (m : port.Ghosts P) (o : out.Ghosts O) (c : Replay) (before after : O) (ended : Status)
+module _ {P O : Type 0} (says : UpdatesSayOfFiles HasNoPlan) (m : port.Ghosts P) (o : out.Ghosts O) (c : Replay) (before after : O) (ended : Status)
     (quiet_out : Rose (o.faults before) (o.faults after) → ⊥) where
   abbrev Told : Came → Type 0
   Told found = IsTold o (telling_of found) ended before after
@@ -43,11 +43,11 @@ module _ {P O : Type 0} (says : UpdatesSayOfFiles) (m : port.Ghosts P) (o : out.
   updated entries l [] new quiet u told = absurd u
   updated entries l (p ∷ ps) [] quiet u told = absurd u
   updated entries (line.File at cells points ran) (p ∷ ps) (q ∷ qs) quiet u told = elim (by_found (came.Updated (line.File at cells points ran)) told) [
-    | inl is ↦ inl (is, says HasNoPlan (network_at c.count entries) (entries_at c.count entries) c.sink c.output (line.File at cells points ran) u.0.gained.0 u.0.gained.2)
+    | inl is ↦ inl (is, says (network_at c.count entries) (entries_at c.count entries) c.sink c.output (line.File at cells points ran) u.0.gained.0 u.0.gained.2)
     | inr memory ↦ inr (inr memory)
   ]
   updated entries (line.Refused reason at) (p ∷ ps) (q ∷ qs) quiet u told = elim (by_found (came.Updated (line.Refused reason at)) told) [
-    | inl is ↦ inr (inl (is, says HasNoPlan (network_at c.count entries) (entries_at c.count entries) c.sink c.output (line.Refused reason at) u.0.gained.0 u.0.gained.2))
+    | inl is ↦ inr (inl (is, says (network_at c.count entries) (entries_at c.count entries) c.sink c.output (line.Refused reason at) u.0.gained.0 u.0.gained.2))
     | inr memory ↦ inr (inr memory)
   ]
   updated entries line.WriteFault (p ∷ ps) (q ∷ qs) quiet u told = absurd (quiet (rose_by 0 (m.faults p) (m.faults q) u.0.faults, u.1))
@@ -82,7 +82,7 @@ module _ {P O : Type 0} (says : UpdatesSayOfFiles) (m : port.Ghosts P) (o : out.
     ends_by (Some (read.Given bytes)) came.NoPort h d told = absurd h
     ends_by (Some (read.Given bytes)) came.Unread h d told = absurd h
 
-pub complete : {P O : Type 0} → UpdatesSayOfFiles → (m : port.Ghosts P) (o : out.Ghosts O) (c : Replay) (desk new_desk : P) (old new : List P) (before after : O) (ended : Status)
+pub complete : {P O : Type 0} → UpdatesSayOfFiles HasNoPlan → (m : port.Ghosts P) (o : out.Ghosts O) (c : Replay) (desk new_desk : P) (old new : List P) (before after : O) (ended : Status)
     (found : Came) → IsReplayRun m c found desk new_desk old new → IsTold o (telling_of found) ended before after → IsComplete m o c desk new_desk old new before after ended
 complete says m o c desk new_desk old new before after ended found ran told = λ some quiet_desk quiet_ports quiet_out.
     (ran.0, ran.2, ends_by says m o c before after ended quiet_out desk new_desk old new some quiet_desk quiet_ports ran.0 found ran.1 ran.2 told)
