@@ -5,6 +5,7 @@ pub mod ScriptLemmas
 mod OnceLemmas
 mod NumberLemmas
 mod AloneLemmas
+mod CompleteLemmas
 mod AuditLemmas
 mod CountLemmas
 mod GivenLemmas

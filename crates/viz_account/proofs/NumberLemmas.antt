@@ -71,7 +71,7 @@ audit_shows net n node line.ReadFault t = tt
 audit_shows net n node line.WriteFault t = tt
 audit_shows net n node line.Memory t = tt
 
-shows : (limit : ℕ) (h : List Entry) (ps : List ℕ) (n : ℕ) (o : Asked) (l : Line) (calls : List Call) → Tells limit h ps n o l calls → Shows n l
+pub shows : (limit : ℕ) (h : List Entry) (ps : List ℕ) (n : ℕ) (o : Asked) (l : Line) (calls : List Call) → Tells limit h ps n o l calls → Shows n l
 shows limit h ps n (edit e) l calls t = edit_shows limit h ps n e l t.0
 shows limit h ps n (load node file) l calls t = load_shows limit h ps n node file l calls t
 shows limit h ps n (update node file pieces workers) l calls t = update_shows limit h ps n node file pieces workers l calls t

@@ -12,7 +12,7 @@ use Rattle.viz_account.specs.Laws.{times, all_edited}
 
 -- ---- how often
 
-times_append : (n : ℕ) (a b : List ℕ) → times n (a ++ b) ≡ times n a + times n b
+pub times_append : (n : ℕ) (a b : List ℕ) → times n (a ++ b) ≡ times n a + times n b
 times_append n [] b = let none : times n b ≡ 0 + times n b = omega arith in none
 times_append n (m ∷ a) b = by (nat_eq n m) (times_append n a b)
   where
@@ -21,7 +21,7 @@ times_append n (m ∷ a) b = by (nat_eq n m) (times_append n a b)
     by false r = r
 
 -- a number that isn't in front
-not_first : (n m t : ℕ) → (n ≡ m → ⊥) → cond (nat_eq n m) (t + 1) t ≡ t
+pub not_first : (n m t : ℕ) → (n ≡ m → ⊥) → cond (nat_eq n m) (t + 1) t ≡ t
 not_first n m t differs = by (nat_eq n m) refl
   where
     by : (b : Bool) → nat_eq n m ≡ b → cond b (t + 1) t ≡ t
@@ -39,7 +39,7 @@ places_below ps n a (e ∷ h) l = by (has e.pass ps) (places_below ps n (a + 1) 
     by false r = r
 
 -- the place of an entry stands once among those of its passes, and not among others
-places_here : (ps : List ℕ) (a k : ℕ) (h : List Entry) (e : Entry) → slice_get h k ≡ Some e → times (a + k) (places_from ps a h) ≡ cond (has e.pass ps) 1 0
+pub places_here : (ps : List ℕ) (a k : ℕ) (h : List Entry) (e : Entry) → slice_get h k ≡ Some e → times (a + k) (places_from ps a h) ≡ cond (has e.pass ps) 1 0
 places_here ps a k [] e at = let bad : ⊥ = cc in absurd bad
 places_here ps a zero (d ∷ h) e at =
     let same : d ≡ e = cc in

@@ -4,6 +4,7 @@ pub mod Lines
 pub mod Written
 pub mod Answers
 pub mod Laws
+pub mod Complete
 pub mod Steps
 pub mod Audited
 pub mod SurfaceLaws

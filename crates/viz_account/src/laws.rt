@@ -1,11 +1,14 @@
 //! Laws on accounts. A law is a function that does nothing: its contract holds of the definitions
 //! alone.
 
+ghost use Rattle.viz_account.specs.Complete.{AllCameAreTold, UpdatesSayOfFiles};
 ghost use Rattle.viz_account.specs.Laws.{AuditLinesAreClosed, EntriesAreToldOnce, HoldLater};
 ghost use Rattle.viz_account.specs.Laws.{LinesCountEdits};
+ghost use Rattle.viz_account.specs.Written.{HasNoPlan};
 
-use crate::surface_laws::audits_are_closed;
+use crate::surface_laws::{audits_are_closed, audits_are_one};
 use viz_base::Port;
+use viz_scratch::files_are_one;
 
 /// Lines that tell of commands in a history tell of them in each longer one.
 pub fn accounts_hold_later()
@@ -30,4 +33,20 @@ pub fn audit_lines_are_closed<P: Port>()
     ensures closed { AuditLinesAreClosed P.Port }
 {
     audits_are_closed();
+}
+
+/// All commands of an account came to what they asked for exactly where all lines tell so.
+pub fn all_came_are_told<P: Port>()
+    ensures came { AllCameAreTold P.Port }
+{
+    files_are_one();
+    audits_are_one();
+}
+
+/// The line of an update from scratch tells of a file only where its node has one, and of a refusal
+/// only where it has none.
+pub fn updates_say_of_files()
+    ensures files { UpdatesSayOfFiles HasNoPlan }
+{
+    files_are_one();
 }

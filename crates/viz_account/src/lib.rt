@@ -24,7 +24,8 @@ mod updating;
 pub use answer::{Answer, AuditAnswer, Missing};
 pub use auditing::audit;
 pub use laws::{
-    accounts_hold_later, audit_lines_are_closed, entries_are_told_once, lines_count_edits,
+    accounts_hold_later, all_came_are_told, audit_lines_are_closed, entries_are_told_once,
+    lines_count_edits, updates_say_of_files,
 };
 pub use parts::UpdateParts;
 pub use surface_laws::{audits_are_closed, audits_are_one};

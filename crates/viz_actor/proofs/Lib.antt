@@ -20,3 +20,4 @@ pub mod SoloLemmas
 pub mod StepsLemmas
 pub mod DeskLemmas
 pub mod ScriptRunLemmas
+pub mod CompleteLemmas

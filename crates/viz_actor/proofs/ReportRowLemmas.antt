@@ -85,7 +85,7 @@ rows_hold Q phases counts told h = rows_all (λ (n : ℕ). Q) phases counts told
 
 -- ---- tests
 
-none_of : {X : Type 0} (p : X → Bool) (xs : List X) → list_any p xs ≡ false → All (λ (x : X). p x ≡ false) xs
+pub none_of : {X : Type 0} (p : X → Bool) (xs : List X) → list_any p xs ≡ false → All (λ (x : X). p x ≡ false) xs
 none_of {X} p [] e = All-nil (λ (x : X). p x ≡ false)
 none_of {X} p (x ∷ xs) e = by (p x) refl (none_of p xs) e
   where

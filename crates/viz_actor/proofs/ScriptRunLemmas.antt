@@ -8,6 +8,7 @@ use Rattle.std.proofs.lemmas.List.Folds.{list_any-append}
 use Rattle.viz_base.specs.Faults.{Rose}
 use Rattle.viz_base.specs.declared.port.Port as port
 use Rattle.viz_base.specs.declared.out.Out as out
+use Rattle.viz_base.specs.declared.call.Call.{Call}
 use Rattle.viz_base.specs.declared.call.Call.TheVariants.{Read}
 use Rattle.viz_base.specs.declared.call.ReadAnswer.{ReadAnswer}
 use Rattle.viz_base.specs.declared.call.ReadAnswer.TheVariants as read
@@ -36,6 +37,7 @@ use Rattle.viz_told.specs.Calls.{IsCalled}
 use Rattle.viz_told.specs.Puts.{PutsOrBreaks, EndsInScript}
 use Rattle.viz_told.specs.Told.{status_at_fault, status_at_memory, status_after, IsPut, IsTold}
 use Rattle.viz_told.proofs.ToldLemmas.{Answer, is_no_done, is_no_usage, is_no_script, is_no_refused, is_no_fault, usage_is_no_script, usage_is_no_fault, gains, ends_in_memory, ends_in_script, told_at, puts_at}
+use Rattle.viz_actor.specs.Complete.{IsRefusedBy, IsScriptExactly}
 use Rattle.viz_actor.specs.Promises.{IsRefusal, IsScriptRefused, TellsRefusals, IsServedBy, IsReported, IsServedWithFault, IsUnread, IsCutOff, IdleStay, SomeRose}
 use Rattle.viz_actor.proofs.ReportRowLemmas.{rows_pass}
 use Rattle.viz_actor.proofs.IdleLemmas.{served_or_same, idle_ports}
@@ -63,7 +65,7 @@ kept_all true false e = absurd (true≢false e)
 kept_all false false e = absurd (true≢false e)
 
 module _ (rows : List Row) (kept : Bool) where
-  status_is : (m f r : Bool) → has_memory rows ≡ m → (has_fault rows || not kept) ≡ f → has_refused rows ≡ r
+  pub status_is : (m f r : Bool) → has_memory rows ≡ m → (has_fault rows || not kept) ≡ f → has_refused rows ≡ r
       → served_status rows kept ≡ by_rows m f r
   status_is m f r em ef er =
       ap (λ (x : Bool). by_rows x (has_fault rows || not kept) (has_refused rows)) em
@@ -95,7 +97,7 @@ module _ (rows : List Row) (kept : Bool) where
   no_room false false true = tt
   no_room false false false = tt
 
-told_by : (r : Ran) (a : Answer) → ToldBy r a (status_after (status_of r) a)
+pub told_by : (r : Ran) (a : Answer) → ToldBy r a (status_after (status_of r) a)
 told_by ran.Unread (Ok done) = inl refl
 told_by ran.Unread (Err writing.Failed) = inl refl
 told_by ran.Unread (Err writing.Memory) = tt
@@ -151,6 +153,13 @@ asked_deed script journal Nothing answer e = absurd cc
 asked_deed script journal (Asked other) answer e = cc
 asked_deed script journal (Kept bytes text other) answer e = absurd cc
 
+-- a deed whose first call is that read
+first_deed : (script journal : List ℕ) (deed : Deed) (answer : ReadAnswer) (more : List Call) → calls_of script journal deed ≡ Read script answer ∷ more
+    → (deed ≡ Asked answer) ⊎ ((bytes : List ℕ) × (text : List ℕ) × (wrote : WriteAnswer) × (deed ≡ Kept bytes text wrote) × (answer ≡ read.Given bytes))
+first_deed script journal Nothing answer more e = absurd cc
+first_deed script journal (Asked other) answer more e = (let same : other ≡ answer = cc in inl (ap Asked same))
+first_deed script journal (Kept bytes text wrote) answer more e = (let same : read.Given bytes ≡ answer = cc in inr (bytes, text, wrote, refl, sym same))
+
 -- a refusal is one
 same_refusal : {X : Type 0} (a b : ℕ × ScriptRefusal) (x : Result X (ℕ × ScriptRefusal)) → x ≡ Err a → x ≡ Err b → a ≡ b
 same_refusal {X} a b x e f = (let both : (let o : Result X (ℕ × ScriptRefusal) = Err a in o) ≡ Err b = sym e ∙ f in cc)
@@ -177,6 +186,13 @@ module _ {P : Type 0} (m : port.Ghosts P) (old new : List P) where
   refused_or_memory (read.Given bytes) line why ran.Unread is h = absurd h
   refused_or_memory (read.Given bytes) line why (ran.Served rows kept) is h = absurd h
 
+  -- a served script isn't refused
+  kept_reads : (bytes text : List ℕ) (wrote : WriteAnswer) (found : Ran) → IsEndOfScript m (Kept bytes text wrote) found old new → IsRefusedBy (actors_over old) (read.Given bytes) → ⊥
+  kept_reads bytes text wrote (ran.Served rows kept) h is = (let bad : Ok h.0.steps ≡ Err (is.0, is.1) = sym h.0.reads ∙ is.2 in cc)
+  kept_reads bytes text wrote ran.Memory h is = h
+  kept_reads bytes text wrote ran.Unread h is = h
+  kept_reads bytes text wrote (ran.Refused line r) h is = h
+
 module _ {O : Type 0} (o : out.Ghosts O) (old new : O) (ended : Status) where
   -- the status of a script that is refused so, or that ran out of memory
   script_ends : (line : ℕ) (why : ScriptRefusal) (found : Ran) → (found ≡ ran.Memory) ⊎ (found ≡ ran.Refused line why) → IsTold o (telling_of found) ended old new
@@ -201,7 +217,7 @@ any_flat : (xs ys : List Line) → list_any is_fault (xs ++ ys) ≡ true → (li
 any_flat xs ys e = or_cases (list_any is_fault xs) (list_any is_fault ys) (sym (list_any-append is_fault xs ys) ∙ e)
 
 module _ {P : Type 0} (m : port.Ghosts P) (limit : ℕ) (h : List Entry) (ends : List ℕ) where
-  some_rose : (passes : List (List ℕ)) (script : List (List (List Command))) (told : List (List (List Line))) (before after : List P)
+  pub some_rose : (passes : List (List ℕ)) (script : List (List (List Command))) (told : List (List (List Line))) (before after : List P)
       → AreActors m limit h passes script told ends before after → list_any is_fault (flat_map (λ (phases : List (List Line)). flat_map (λ (ls : List Line). ls) phases) told) ≡ true → SomeRose m before after
   some_rose [] [] [] before after a e = absurd (true≢false (sym e))
   some_rose [] [] (l ∷ told) before after a e = absurd a
@@ -272,6 +288,29 @@ module _ {P O : Type 0} (m : port.Ghosts P) (o : out.Ghosts O) (script journal :
       let deed = asked_deed script journal came.0 answer same in
       let f = refused_or_memory m old new answer line why found is (subst (λ (d : Deed). IsEndOfScript m d found old new) deed came.1) in
       (f.0, script_ends o before after ended line why found f.1 told)
+
+  -- by the first call, which was the script's read
+  refused_at : (answer : ReadAnswer) (more : List Call) → calls_of script journal came.0 ≡ Read script answer ∷ more → ended ≡ status.Script → IsRefusedBy (actors_over old) answer
+  refused_at answer more same is =
+      let t = (at status.Script is is_no_script).1 in
+      let d = refused_deed m old new came.0 t.0 t.1 (ends_in (ran.Refused t.0 t.1) t.2) in
+      let calls : Read script d.0 ∷ [] ≡ Read script answer ∷ more = sym (ap (calls_of script journal) d.1) ∙ same in
+      let one : d.0 ≡ answer = cc in
+      (t.0, t.1, subst (λ (a : ReadAnswer). IsRefusal (actors_over old) a t.0 t.1) one d.2)
+
+  script_or_memory : (answer : ReadAnswer) (more : List Call) → calls_of script journal came.0 ≡ Read script answer ∷ more → IsRefusedBy (actors_over old) answer → (ended ≡ status.Script) ⊎ (ended ≡ status.Memory)
+  script_or_memory answer more same is = elim (first_deed script journal came.0 answer more same) [
+    | inl deed ↦
+        let f = refused_or_memory m old new answer is.0 is.1 found is.2 (subst (λ (d : Deed). IsEndOfScript m d found old new) deed came.1) in
+        elim (script_ends o before after ended is.0 is.1 found f.1 told) [ inl t ↦ inl t.0 | inr memory ↦ inr memory ]
+    | inr k ↦
+        absurd (kept_reads m old new k.0 k.1 k.2 found (subst (λ (d : Deed). IsEndOfScript m d found old new) {y = Kept k.0 k.1 k.2} k.3 came.1) (subst (IsRefusedBy (actors_over old)) k.4 is))
+  ]
+
+  pub script_exactly : IsScriptExactly m script desk new_desk old ended
+  script_exactly = λ answer more tells first.
+      let same = append_cancel_left (m.calls desk) (calls_of script journal came.0) (Read script answer ∷ more) (sym (came.2.calls tells) ∙ first) in
+      (refused_at answer more same, script_or_memory answer more same)
 
   unread : found ≡ ran.Unread → ended ≡ status.Fault → IsUnread m o script journal desk new_desk old new before after
   unread same is =

@@ -8,5 +8,6 @@ pub mod Journals
 pub mod Deeds
 pub mod Told
 pub mod Promises
+pub mod Complete
 pub mod Numbering
 pub mod DeskServing

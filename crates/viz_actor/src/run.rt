@@ -3,6 +3,7 @@
 ghost use Rattle.std.specs.Prelude.{◌≡◌, ◌≢◌, ◌⊎◌};
 ghost use Rattle.viz_base.specs.Faults.{Rose, one_more};
 ghost use Rattle.viz_actor.specs.declared.ran.Ran.{Ran as Came};
+ghost use Rattle.viz_actor.specs.Complete.{IsComplete, IsScriptExactly};
 ghost use Rattle.viz_actor.specs.Deeds.{IsScriptRun};
 ghost use Rattle.viz_actor.specs.Promises.{IsScriptRefused, TellsRefusals, IsReported};
 ghost use Rattle.viz_actor.specs.Promises.{IsServedWithFault, IsUnread, IsCutOff, IdleStay};
@@ -14,6 +15,7 @@ use crate::desk::serve;
 use std::alloc::Global;
 use std::sync::Wait;
 use std::thread::Threads;
+use viz_account::all_came_are_told;
 use viz_base::{Gate, Out, Port};
 use viz_told::{Status, tell};
 
@@ -41,6 +43,9 @@ pub fn run_script<R: Threads + Wait + Sync, P: Port + Send + Drop, O: Out, G: Ga
         desk.old desk.new ports.old.items ports.new.items out.old out.new }
     ensures refuses { TellsRefusals P.Port O.Out script.now desk.old desk.new
         ports.old.items ports.new.items out.old out.new result }
+    ensures exactly { IsScriptExactly P.Port script.now desk.old desk.new ports.old.items result }
+    ensures complete { IsComplete P.Port O.Out script.now journal.now desk.old desk.new
+        ports.old.items ports.new.items out.old out.new result }
     ensures done { result ≡ Status.Done → IsReported P.Port O.Out script.now journal.now Status.Done
         desk.old desk.new ports.old.items ports.new.items out.old out.new }
     ensures refused { result ≡ Status.Refused → IsReported P.Port O.Out script.now journal.now
@@ -62,6 +67,7 @@ pub fn run_script<R: Threads + Wait + Sync, P: Port + Send + Drop, O: Out, G: Ga
         ports.old.items ports.new.items }
     ensures one_put { O.puts out.new ≡ one_more (O.puts out.old) }
 {
+    all_came_are_told::<P>();
     let ran = serve(rt, alloc, script, journal, desk, ports, gate);
     tell(alloc, out, &ran)
 }

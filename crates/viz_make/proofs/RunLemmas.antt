@@ -19,6 +19,7 @@ use Rattle.viz_make.specs.declared.came.Came.TheVariants as came
 use Rattle.viz_make.specs.declared.made.Made.{Made}
 use Rattle.viz_make.specs.Make.{Make, IsMade, IsClosed, written, IsEndOfMaking, IsMakeRun}
 use Rattle.viz_make.specs.Told.{came_text, status_of, telling_of}
+use Rattle.viz_make.specs.Complete.{IsComplete}
 use Rattle.viz_make.specs.Promises.{FirstWrote, TellsRefusals, IsDone, IsScript, IsFault}
 
 -- ---- what was found, and what the put answered, by the status
@@ -151,3 +152,14 @@ module _ {P O : Type 0} (m : port.Ghosts P) (o : out.Ghosts O) (c : Make) (old n
 
   pub no_refused : ended ≡ status.Refused → ⊥
   no_refused is = (at status.Refused is is_no_refused).1
+
+  complete_by : (old ≡ [] → ⊥) → (FirstRose m old new → ⊥) → (Rose (o.faults before) (o.faults after) → ⊥) → (known : Status) → ended ≡ known → (ended ≡ status.Done) ⊎ (ended ≡ status.Memory)
+  complete_by some quiet_ports quiet status.Done is = inl is
+  complete_by some quiet_ports quiet status.Memory is = inr is
+  complete_by some quiet_ports quiet status.Usage is = absurd (no_usage is)
+  complete_by some quiet_ports quiet status.Refused is = absurd (no_refused is)
+  complete_by some quiet_ports quiet status.Script is = absurd (some (script is).0)
+  complete_by some quiet_ports quiet status.Fault is = absurd (elim (cause is) [ inl first ↦ quiet_ports first | inr put ↦ quiet put ])
+
+  pub complete : IsComplete m o old new before after ended
+  complete = λ some quiet_ports quiet. complete_by some quiet_ports quiet ended refl

@@ -5,4 +5,5 @@ pub mod Volume
 pub mod NarrowVolumes
 pub mod Told
 pub mod Promises
+pub mod Complete
 pub mod Steps

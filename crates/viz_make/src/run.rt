@@ -3,6 +3,7 @@
 ghost use Rattle.std.specs.Prelude.{◌≡◌, ◌≢◌, ◌⊎◌};
 ghost use Rattle.viz_base.specs.Faults.{Rose, one_more};
 ghost use Rattle.viz_make.specs.declared.came.Came.{Came as End};
+ghost use Rattle.viz_make.specs.Complete.{IsComplete};
 ghost use Rattle.viz_make.specs.Make.{IsMakeRun};
 ghost use Rattle.viz_make.specs.Promises.{IsDone, IsFault, IsScript, TellsRefusals};
 ghost use Rattle.viz_make.specs.Told.{telling_of};
@@ -37,6 +38,8 @@ pub fn run_make<R: Threads + Sync, P: Port, O: Out, G: Gate + Sync>(
     ensures script { result ≡ Status.Script → IsScript P.Port O.Out
         ports.old.items ports.new.items out.old out.new }
     ensures refuses { TellsRefusals O.Out ports.old.items out.old out.new result }
+    ensures complete { IsComplete P.Port O.Out ports.old.items ports.new.items out.old out.new
+        result }
     ensures done { result ≡ Status.Done → IsDone P.Port O.Out (make_of command.now)
         ports.old.items ports.new.items out.old out.new }
     ensures fault { result ≡ Status.Fault → IsFault P.Port O.Out (make_of command.now)

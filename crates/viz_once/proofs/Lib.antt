@@ -8,4 +8,5 @@ pub mod ReasonLemmas
 pub mod ServeLemmas
 pub mod EndLemmas
 pub mod RunLemmas
+pub mod CompleteLemmas
 pub mod StandardFacts

@@ -1,6 +1,7 @@
 pub mod FixedHistory
 pub mod Account
 pub mod Promises
+pub mod Complete
 pub mod Reasons
 pub mod Report
 pub mod Command

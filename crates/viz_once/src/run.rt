@@ -4,6 +4,7 @@ ghost use Rattle.std.specs.Prelude.{◌≡◌, ◌≢◌, ◌⊎◌};
 ghost use Rattle.viz_base.specs.Faults.{Rose, one_more};
 ghost use Rattle.viz_once.specs.Account.{IsRun};
 ghost use Rattle.viz_once.specs.Commands.{command_view};
+ghost use Rattle.viz_once.specs.Complete.{IsComplete};
 ghost use Rattle.viz_once.specs.Promises.{IsDone, IsFault, IsRefused, IsScript, TellsRefusals};
 ghost use Rattle.viz_told.specs.Ports.{FirstRose, OthersStay};
 
@@ -37,6 +38,8 @@ pub fn run_once<P: Port, O: Out>(
     ensures refused { result ≡ Status.Refused → IsRefused P.Port O.Out (command_view command.now)
         ports.old.items ports.new.items out.old out.new }
     ensures refuses { TellsRefusals P.Port O.Out (command_view command.now)
+        ports.old.items ports.new.items out.old out.new result }
+    ensures complete { IsComplete P.Port O.Out (command_view command.now)
         ports.old.items ports.new.items out.old out.new result }
     ensures fault { result ≡ Status.Fault → IsFault P.Port O.Out (command_view command.now)
         ports.old.items ports.new.items out.old out.new }

@@ -1,3 +1,4 @@
 pub mod NetworkLemmas
 pub mod RunLemmas
+pub mod CompleteLemmas
 pub mod ServeLemmas

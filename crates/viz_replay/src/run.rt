@@ -3,6 +3,7 @@
 ghost use Rattle.std.specs.Prelude.{◌≡◌, ◌≢◌, ◌⊎◌};
 ghost use Rattle.viz_base.specs.Faults.{Rose, one_more};
 ghost use Rattle.viz_replay.specs.declared.came.Came.{Came as End};
+ghost use Rattle.viz_replay.specs.Complete.{IsComplete};
 ghost use Rattle.viz_replay.specs.Promises.{IsDone, IsRefused, IsFault, IsScript, TellsRefusals};
 ghost use Rattle.viz_replay.specs.Replay.{IsReplayRun};
 ghost use Rattle.viz_replay.specs.Served.{replay_of};
@@ -12,6 +13,7 @@ ghost use Rattle.viz_told.specs.Told.{IsTold};
 
 use crate::serving::{Replay, serve};
 use std::alloc::Global;
+use viz_account::updates_say_of_files;
 use viz_base::{Out, Port};
 use viz_told::{Status, tell};
 
@@ -36,6 +38,8 @@ pub fn run_scratch<P: Port, O: Out>(
         desk.old desk.new ports.old.items ports.new.items out.old out.new }
     ensures refuses { TellsRefusals P.Port O.Out (replay_of command.now) desk.old desk.new
         ports.old.items ports.new.items out.old out.new result }
+    ensures complete { IsComplete P.Port O.Out (replay_of command.now)
+        desk.old desk.new ports.old.items ports.new.items out.old out.new result }
     ensures done { result ≡ Status.Done → IsDone P.Port O.Out (replay_of command.now)
         desk.old desk.new ports.old.items ports.new.items out.old out.new }
     ensures refused { result ≡ Status.Refused → IsRefused P.Port O.Out (replay_of command.now)
@@ -51,6 +55,7 @@ pub fn run_scratch<P: Port, O: Out>(
     ensures others { OthersStay ports.old.items ports.new.items }
     ensures one_put { O.puts out.new ≡ one_more (O.puts out.old) }
 {
+    updates_say_of_files();
     let came = serve(alloc, command, desk, ports);
     tell(alloc, out, &came)
 }

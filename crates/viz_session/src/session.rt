@@ -1,9 +1,10 @@
 //! The top call: one run of the program.
 
-ghost use Rattle.std.specs.Prelude.{◌≡◌, ◌⊎◌, ◌↔◌, None};
+ghost use Rattle.std.specs.Prelude.{◌≡◌, ◌≢◌, ◌⊎◌, ◌↔◌, None};
 ghost use Rattle.viz_base.specs.Faults.{Rose, one_more};
 ghost use Rattle.viz_actor.specs.Promises.{SomeRose};
 ghost use Rattle.viz_session.specs.Command.{command_of};
+ghost use Rattle.viz_session.specs.Complete.{IsComplete, IsScriptExactly, NeverRises};
 ghost use Rattle.viz_session.specs.Runs.{IsRun, IsDone, IsRefused, IsScript, IsFault, IsCutOff};
 ghost use Rattle.viz_session.specs.Runs.{OthersStay, Refuses};
 ghost use Rattle.viz_told.specs.Lines.{usage_line};
@@ -49,6 +50,12 @@ pub fn run<R: Threads + Wait + Sync, P: Port + Send + Drop, O: Out, G: Gate + Sy
         ports.old.items ports.new.items out.old out.new (command_of words.now) }
     ensures refuses { Refuses P.Port O.Out desk.old desk.new ports.old.items ports.new.items
         out.old out.new (command_of words.now) result }
+    ensures exactly { IsScriptExactly P.Port desk.old desk.new ports.old.items
+        (command_of words.now) result }
+    ensures complete { IsComplete P.Port O.Out desk.old desk.new ports.old.items ports.new.items
+        out.old out.new (command_of words.now) result }
+    ensures never { NeverRises P.faults → (Rose (O.faults out.old) (O.faults out.new) → ⊥)
+        → result ≢ Status.Fault }
     ensures fault { result ≡ Status.Fault → IsFault P.Port O.Out desk.old desk.new
         ports.old.items ports.new.items out.old out.new (command_of words.now) }
     ensures memory { result ≡ Status.Memory → IsCutOff P.Port O.Out desk.old desk.new

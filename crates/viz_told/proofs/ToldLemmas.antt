@@ -1,5 +1,7 @@
 -- What the status of a run says of what was told.
 use Rattle.std.proofs.Common.{◌≡◌, List, ℕ, Result, Ok, Err, refl, sym, subst, ◌∙◌, inl, inr}
+use Rattle.std.specs.Prelude.{◌⊎◌}
+use Rattle.viz_base.specs.Faults.{Rose}
 use Rattle.viz_base.specs.declared.out.Out as out
 use Rattle.viz_base.specs.declared.refusal.WriteRefusal.{WriteRefusal}
 use Rattle.viz_base.specs.declared.refusal.WriteRefusal.TheVariants as writing
@@ -110,3 +112,18 @@ module _ {O : Type 0} (m : out.Ghosts O) (old new : O) (ended : Status) where
       let found = told_as t known told is apart in
       let same : known ≡ status_after t.status found.0 = sym is ∙ found.1 in
       puts m t.text old new found.0 (answered t.status found.0 (λ e. apart (e ∙ sym same)) (λ e. other (e ∙ sym same))) found.2
+
+  -- where no put failed, the status is that of what was found, or Memory
+  whole_as : (s : Status) (text : List ℕ) (a : Answer) → ended ≡ status_after s a → IsPut m text a old new → (Rose (m.faults old) (m.faults new) → ⊥) → (ended ≡ s) ⊎ (ended ≡ status.Memory)
+  whole_as s text (Ok done) e put none = inl e
+  whole_as s text (Err writing.Failed) e put none = absurd (none (put.cause refl))
+  whole_as status.Usage text (Err writing.Memory) e put none = inl e
+  whole_as status.Done text (Err writing.Memory) e put none = inr e
+  whole_as status.Script text (Err writing.Memory) e put none = inr e
+  whole_as status.Refused text (Err writing.Memory) e put none = inr e
+  whole_as status.Fault text (Err writing.Memory) e put none = inr e
+  whole_as status.Memory text (Err writing.Memory) e put none = inr e
+
+  pub ends_whole : (t : Telling) → IsTold m t ended old new → (Rose (m.faults old) (m.faults new) → ⊥) → (ended ≡ t.status) ⊎ (ended ≡ status.Memory)
+  ends_whole t (inl told) none = whole_as t.status t.text told.0 told.1 told.2 none
+  ends_whole t (inr memory) none = inr (in_its_place memory.1)

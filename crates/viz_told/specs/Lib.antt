@@ -3,3 +3,4 @@ pub mod Lines
 pub mod Puts
 pub mod Calls
 pub mod Ports
+pub mod Complete

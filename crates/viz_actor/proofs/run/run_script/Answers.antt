@@ -1,4 +1,5 @@
-use Rattle.viz_actor.proofs.ScriptRunLemmas.{done, refused, script_refused, tells_refusals, fault, cause, cut_off, idle_stay, no_usage}
+use Rattle.viz_actor.proofs.ScriptRunLemmas.{done, refused, script_refused, tells_refusals, fault, cause, cut_off, idle_stay, no_usage, script_exactly}
+use Rattle.viz_actor.proofs.CompleteLemmas.{complete}
 use Rattle.viz_actor.proofs.run.run_script.Goals as goal
 
 pub returns-clause-script : goal.returns-clause-script
@@ -6,6 +7,12 @@ returns-clause-script g c = script_refused g.P.Port g.O.Out _ _ _ _ _ _ _ _ _ _ 
 
 pub returns-clause-refuses : goal.returns-clause-refuses
 returns-clause-refuses g c = tells_refusals g.P.Port g.O.Out _ _ _ _ _ _ _ _ _ _ c.serve-ran.ensures c.tell.ensures
+
+pub returns-clause-exactly : goal.returns-clause-exactly
+returns-clause-exactly g c = script_exactly g.P.Port g.O.Out _ _ _ _ _ _ _ _ _ _ c.serve-ran.ensures c.tell.ensures
+
+pub returns-clause-complete : goal.returns-clause-complete
+returns-clause-complete g c = complete g.P.Port g.O.Out c.all_came_are_told.ensures.came _ _ _ _ _ _ _ _ _ _ c.serve-ran.ensures c.tell.ensures
 
 pub returns-clause-done : goal.returns-clause-done
 returns-clause-done g c = done g.P.Port g.O.Out _ _ _ _ _ _ _ _ _ _ c.serve-ran.ensures c.tell.ensures

@@ -1,4 +1,4 @@
-use Rattle.viz_make.proofs.RunLemmas.{others, done, script, refuses, fault, cause, no_usage, no_refused}
+use Rattle.viz_make.proofs.RunLemmas.{others, done, script, refuses, fault, cause, no_usage, no_refused, complete}
 use Rattle.viz_make.proofs.run.run_make.Goals as goal
 
 pub returns-clause-script : goal.returns-clause-script
@@ -6,6 +6,9 @@ returns-clause-script g c = script g.P.Port g.O.Out _ _ _ _ _ _ _ c.serve-came.e
 
 pub returns-clause-refuses : goal.returns-clause-refuses
 returns-clause-refuses g c = refuses g.P.Port g.O.Out _ _ _ _ _ _ _ c.serve-came.ensures c.tell.ensures
+
+pub returns-clause-complete : goal.returns-clause-complete
+returns-clause-complete g c = complete g.P.Port g.O.Out _ _ _ _ _ _ _ c.serve-came.ensures c.tell.ensures
 
 pub returns-clause-done : goal.returns-clause-done
 returns-clause-done g c = done g.P.Port g.O.Out _ _ _ _ _ _ _ c.serve-came.ensures c.tell.ensures

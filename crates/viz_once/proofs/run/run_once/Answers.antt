@@ -1,4 +1,5 @@
 use Rattle.viz_once.proofs.RunLemmas.{others-Run, usage-Run, script-Run, done-Run, refused-Run, fault-Run, cause-Run, refuses-Run}
+use Rattle.viz_once.proofs.CompleteLemmas.{complete-Run}
 use Rattle.viz_once.proofs.run.run_once.Goals as goal
 
 pub returns-clause-usage : goal.returns-clause-usage
@@ -15,6 +16,9 @@ returns-clause-refused g c = refused-Run g.P.Port _ g.O.Out _ _ _ _ _ _ c.serve_
 
 pub returns-clause-refuses : goal.returns-clause-refuses
 returns-clause-refuses g c = refuses-Run c.files_are_one.ensures g.P.Port g.O.Out _ _ _ _ _ _ _ c.serve_ports-outcome.ensures c.tell.ensures
+
+pub returns-clause-complete : goal.returns-clause-complete
+returns-clause-complete g c = complete-Run c.files_are_one.ensures g.P.Port g.O.Out _ _ _ _ _ _ _ c.serve_ports-outcome.ensures c.tell.ensures
 
 pub returns-clause-fault : goal.returns-clause-fault
 returns-clause-fault g c = fault-Run g.P.Port _ g.O.Out _ _ _ _ _ _ c.serve_ports-outcome.ensures c.tell.ensures

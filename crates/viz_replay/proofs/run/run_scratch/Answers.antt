@@ -1,4 +1,5 @@
 use Rattle.viz_replay.proofs.RunLemmas.{done, refused, script, tells_refusals, fault, cause, others, no_usage}
+use Rattle.viz_replay.proofs.CompleteLemmas.{complete}
 use Rattle.viz_replay.proofs.run.run_scratch.Goals as goal
 
 pub returns-clause-script : goal.returns-clause-script
@@ -6,6 +7,9 @@ returns-clause-script g c = script g.P.Port g.O.Out _ _ _ _ _ _ _ _ _ c.serve-ca
 
 pub returns-clause-refuses : goal.returns-clause-refuses
 returns-clause-refuses g c = tells_refusals g.P.Port g.O.Out _ _ _ _ _ _ _ _ _ c.serve-came.ensures.ran c.tell.ensures c.serve-came.ensures.no_port
+
+pub returns-clause-complete : goal.returns-clause-complete
+returns-clause-complete g c = complete c.updates_say_of_files.ensures.files g.P.Port g.O.Out _ _ _ _ _ _ _ _ _ c.serve-came.ensures.ran c.tell.ensures
 
 pub returns-clause-done : goal.returns-clause-done
 returns-clause-done g c = done g.P.Port g.O.Out _ _ _ _ _ _ _ _ _ c.serve-came.ensures.ran c.tell.ensures

@@ -2,7 +2,7 @@ use Rattle.std.proofs.Common.{Option, Some, subst, sym, inl, inr}
 use Rattle.viz_session.specs.Command.{Command}
 use Rattle.viz_session.specs.declared.command.Command.{Command as Words}
 use Rattle.viz_session.specs.Runs.{IsFault, command_view}
-use Rattle.viz_session.proofs.RoseLemmas.{some_of_first}
+use Rattle.viz_session.proofs.RoseLemmas.{some_of_first, none_of_all, none_of_three, none_of_two}
 use Rattle.viz_session.proofs.session.run.Goals as goal
 
 pub returns-in-Some-Script-clause-fault : goal.returns-in-Some-Script-clause-fault
@@ -32,3 +32,15 @@ returns-in-Some-Once-clause-cause g c = λ is. elim (c.run_once.ensures.cause is
   | inl first ↦ inr (inl (some_of_first g.P.Port c.args.ports.now.items c.run_once.new.ports.items first))
   | inr put ↦ inr (inr put)
 ]
+
+pub returns-in-Some-Script-clause-never : goal.returns-in-Some-Script-clause-never
+returns-in-Some-Script-clause-never g c = λ never quiet is. none_of_all g.P.Port never _ quiet _ _ _ _ (c.run_script.ensures.cause is)
+
+pub returns-in-Some-Scratch-clause-never : goal.returns-in-Some-Scratch-clause-never
+returns-in-Some-Scratch-clause-never g c = λ never quiet is. none_of_three g.P.Port never _ quiet _ _ _ _ (c.run_scratch.ensures.cause is)
+
+pub returns-in-Some-Make-clause-never : goal.returns-in-Some-Make-clause-never
+returns-in-Some-Make-clause-never g c = λ never quiet is. none_of_two g.P.Port never _ quiet _ _ (c.run_make.ensures.cause is)
+
+pub returns-in-Some-Once-clause-never : goal.returns-in-Some-Once-clause-never
+returns-in-Some-Once-clause-never g c = λ never quiet is. none_of_two g.P.Port never _ quiet _ _ (c.run_once.ensures.cause is)
