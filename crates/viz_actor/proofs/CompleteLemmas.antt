@@ -199,7 +199,6 @@ none_refused (l ∷ ls) h =
 
 module _ {P O : Type 0} (m : port.Ghosts P) (o : out.Ghosts O) (came_told : AllCameAreTold m) (old new : List P) (before after : O) (ended : Status)
     (quiet_ports : SomeRose m old new → ⊥) (quiet_out : Rose (o.faults before) (o.faults after) → ⊥) where
-
   module _ (bytes text : List ℕ) (rows : List Row) (a : IsAccounted m bytes rows text old new) where
     abbrev counts : List ℕ
     counts = map (λ (actor : List (List Line)). 1) a.told
