@@ -1,0 +1,5 @@
+pub mod Marks
+pub mod Sides
+pub mod Links
+pub mod Grown
+pub mod Rows
