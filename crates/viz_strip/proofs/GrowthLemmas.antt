@@ -21,7 +21,7 @@ corners (a ∷ b ∷ []) e = absurd (omega (arith, e))
 corners (a ∷ b ∷ c ∷ []) e = refl
 corners (a ∷ b ∷ c ∷ d ∷ t) e = absurd (omega (arith, e))
 
-three-cases : (P : ℕ → Type 0) (k : ℕ) → k < 3 → P 0 → P 1 → P 2 → P k
+pub three-cases : (P : ℕ → Type 0) (k : ℕ) → k < 3 → P 0 → P 1 → P 2 → P k
 three-cases P zero l a b c = a
 three-cases P (suc zero) l a b c = b
 three-cases P (suc (suc zero)) l a b c = c
@@ -58,7 +58,7 @@ runs-at (a ∷ b ∷ c ∷ d ∷ t) u v e h = absurd (omega (arith, e))
 
 -- ---- sides by numbers
 
-within : (ts : List (List ℕ)) (r : ℕ) → r < 3 * length ts → r / 3 < length ts
+pub within : (ts : List (List ℕ)) (r : ℕ) → r < 3 * length ts → r / 3 < length ts
 within ts r l = omega arith
 
 pub side-runs : (ts : List (List ℕ)) (points r : ℕ) → HaveSides points ts → r < 3 * length ts → runs (from_of ts r) (to_of ts r) (triangle_at ts r) ≡ true
@@ -207,7 +207,7 @@ kept-same marks = record { each = λ j h. h }
 pub kept-both : (a b c : List Bool) → AreKept a b → AreKept b c → AreKept a c
 kept-both a b c k m = record { each = λ j h. m.each j (k.each j h) }
 
-met-kept : (ts : List (List ℕ)) (old new : List Bool) (u v from q : ℕ) → AreKept old new → IsMet ts old u v from q → IsMet ts new u v from q
+pub met-kept : (ts : List (List ℕ)) (old new : List Bool) (u v from q : ℕ) → AreKept old new → IsMet ts old u v from q → IsMet ts new u v from q
 met-kept ts old new u v from q k m =
     record {
       past = m.past;

@@ -3,6 +3,7 @@ use Rattle.std.proofs.Common.{◌≡◌, ℕ, ◌+◌, ◌<◌, ◌⊎◌, inl, 
 use Rattle.std.specs.Prelude.{◌||◌, ◌==◌, All, count_by, slice_index, if◌then◌else◌}
 use Rattle.std.specs.List.{flat_map, list_any}
 use Rattle.std.proofs.lemmas.Bool.{and_parts, and_from, or_cases, or_parts, cases_Bool, eqb-false}
+use Rattle.std.proofs.lemmas.List.Sums.{sum_by-append, sum_by-cons}
 use Rattle.std.proofs.lemmas.List.Elements.{All-nil, All-cons, All-head, All-tail, All-append}
 use Rattle.viz_sheet.specs.Sheet.{AreApart}
 use Rattle.viz_strip.specs.Strips.{AreStrips, IsFirst, IsGrown, IsStrip, IsTriangle, all_pieces, are, begun, continues, continues_from, goes_on, is_continued, is_same, piece, pieces_from, pieces_of, rotated, runs, third}
@@ -12,17 +13,13 @@ use Rattle.viz_strip.proofs.RunLemmas.{IsRound, begun-first, begun-last, begun-s
 -- ---- counts
 
 count-cons : {X : Type 0} (p : X → Bool) (x : X) (xs : List X) → count_by p (x ∷ xs) ≡ cond (p x) 1 0 + count_by p xs
-count-cons p x xs = refl
+count-cons p x xs = sum_by-cons (λ y. cond {A = ℕ} (p y) 1 0) x xs
 
 cond-same : (b c : Bool) → b ≡ c → cond {A = ℕ} b 1 0 ≡ cond {A = ℕ} c 1 0
 cond-same b c e = ap (λ (x : Bool). cond {A = ℕ} x 1 0) e
 
 count-append : {X : Type 0} (p : X → Bool) (xs ys : List X) → count_by p (xs ++ ys) ≡ count_by p xs + count_by p ys
-count-append p [] ys = omega arith
-count-append p (x ∷ xs) ys =
-    let whole : count_by p ((x ∷ xs) ++ ys) ≡ cond (p x) 1 0 + count_by p (xs ++ ys) = refl in
-    let front : count_by p (x ∷ xs) ≡ cond (p x) 1 0 + count_by p xs = refl in
-    omega (arith, count-append p xs ys)
+count-append p xs ys = sum_by-append (λ y. cond {A = ℕ} (p y) 1 0) xs ys
 
 count-first : (p test : List ℕ → Bool) (left : List (List ℕ)) (t : List ℕ) (others : List (List ℕ)) → IsFirst test left t others → count_by p left ≡ cond (p t) 1 0 + count_by p others
 count-first p test left t others f =
@@ -70,7 +67,7 @@ grown-count p round odd u v (w ∷ more) left rest a g =
     let deep = grown-count p round (not odd) v w more others rest split.1 g.4 in
     let same : p (piece odd u v w) ≡ p t = ap (λ x. p (piece odd u v x)) g.3 ∙ third-same p round odd u v t split.0 g.2.passes in
     let one = cond-same (p (piece odd u v w)) (p t) same in
-    let pieces : count_by p (pieces_from odd (u ∷ v ∷ w ∷ more)) ≡ cond (p (piece odd u v w)) 1 0 + count_by p (pieces_from (not odd) (v ∷ w ∷ more)) = refl in
+    let pieces : count_by p (pieces_from odd (u ∷ v ∷ w ∷ more)) ≡ cond (p (piece odd u v w)) 1 0 + count_by p (pieces_from (not odd) (v ∷ w ∷ more)) = count-cons p (piece odd u v w) (pieces_from (not odd) (v ∷ w ∷ more)) in
     (omega (arith, deep.0, count-first p (goes_on odd u v) left t others g.2), deep.1)
 
 grown-none : (odd : Bool) (u v : ℕ) (more : List ℕ) (left rest : List (List ℕ)) → IsGrown odd u v more left rest → All (λ t. continues_from odd (u ∷ v ∷ more) t ≡ false) rest
@@ -83,7 +80,7 @@ strip-count p round t left strip rest is a s =
     let deep = grown-count p round true s.b s.c s.more left rest a s.grown in
     let same : p (s.a ∷ s.b ∷ s.c ∷ []) ≡ p t = ap p (sym s.begins) ∙ turned-same p round left t is in
     let one = cond-same (p (s.a ∷ s.b ∷ s.c ∷ [])) (p t) same in
-    let pieces : count_by p (pieces_of (s.a ∷ s.b ∷ s.c ∷ s.more)) ≡ cond (p (s.a ∷ s.b ∷ s.c ∷ [])) 1 0 + count_by p (pieces_from true (s.b ∷ s.c ∷ s.more)) = refl in
+    let pieces : count_by p (pieces_of (s.a ∷ s.b ∷ s.c ∷ s.more)) ≡ cond (p (s.a ∷ s.b ∷ s.c ∷ [])) 1 0 + count_by p (pieces_from true (s.b ∷ s.c ∷ s.more)) = count-cons p (s.a ∷ s.b ∷ s.c ∷ []) (pieces_from true (s.b ∷ s.c ∷ s.more)) in
     let all : count_by p (pieces_of strip) ≡ count_by p (pieces_of (s.a ∷ s.b ∷ s.c ∷ s.more)) = ap (λ x. count_by p (pieces_of x)) s.is in
     (omega (arith, deep.0, count-cons p t left), deep.1)
 

@@ -4,3 +4,7 @@ pub mod KeptLemmas
 pub mod MarkLemmas
 pub mod GrowthLemmas
 pub mod RowLemmas
+pub mod SideLemmas
+pub mod RenameLemmas
+pub mod NameLemmas
+pub mod OneLemmas

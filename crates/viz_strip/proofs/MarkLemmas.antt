@@ -3,6 +3,7 @@ use Rattle.std.proofs.Common.{◌≡◌, ℕ, zero, suc, ◌+◌, ◌<◌, ⊎_e
 use Rattle.std.specs.Prelude.{All, count_by}
 use Rattle.std.proofs.lemmas.Bool.{cases_eq, cases_lt}
 use Rattle.std.proofs.lemmas.List.{get_or-set_other, get_or-set_same}
+use Rattle.std.proofs.lemmas.List.Sums.{sum_by-set}
 use Rattle.std.proofs.lemmas.List.Elements.{All-nil, All-cons}
 use Rattle.viz_strip.specs.Strips.{IsFirst}
 use Rattle.viz_strip.specs.Steps.Marks.{is_taken, left, left_count}
@@ -66,17 +67,10 @@ left-start (t ∷ ts) (suc n) e = ap (λ x. t ∷ x) (left-start ts n (omega (ar
 
 -- one fewer is left
 pub left-fewer : (marks : List Bool) (i : ℕ) → i < length marks → is_taken marks i ≡ false → left_count (set marks i true) < left_count marks
-left-fewer [] i l free = absurd (omega arith)
-left-fewer (true ∷ ms) zero l free = absurd (true≢false free)
-left-fewer (false ∷ ms) zero l free =
-    let before : left_count (false ∷ ms) ≡ 1 + left_count ms = refl in
-    let now : left_count (true ∷ ms) ≡ 0 + left_count ms = refl in
-    let same : left_count (set (false ∷ ms) 0 true) ≡ left_count (true ∷ ms) = refl in
+left-fewer marks i l free =
+    let one : cond {A = ℕ} (not (get_or marks i false)) 1 0 ≡ 1 = ap (λ (b : Bool). cond {A = ℕ} (not b) 1 0) free in
+    let sum : left_count (set marks i true) + cond {A = ℕ} (not (get_or marks i false)) 1 0 ≡ left_count marks + 0 = sum_by-set (λ m. cond {A = ℕ} (not m) 1 0) marks i true false l in
     omega arith
-left-fewer (m ∷ ms) (suc i) l free =
-    let before : left_count (m ∷ ms) ≡ cond (not m) 1 0 + left_count ms = refl in
-    let now : left_count (set (m ∷ ms) (suc i) true) ≡ cond (not m) 1 0 + left_count (set ms i true) = refl in
-    omega (arith, left-fewer ms i (omega arith) free)
 
 -- what is taken stays so
 pub taken-set : (marks : List Bool) (i j : ℕ) → i < length marks → is_taken marks j ≡ true → is_taken (set marks i true) j ≡ true

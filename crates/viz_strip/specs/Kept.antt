@@ -30,7 +30,12 @@ pub record KeepTriangles (triangles strips : List (List ℕ)) : Type 0 where
   pub ended : AreEnded strips
   pub alone : AreLoneAlone strips
 
--- that holds of the strips of any triangles
+-- triangles have one list of strips
+abbrev pub StripsAreOne : Type 0
+StripsAreOne =
+    (triangles a b : List (List ℕ)) → AreStrips triangles a → AreStrips triangles b → a ≡ b
+
+-- the strips of any triangles keep these
 abbrev pub StripsKeepTriangles : Type 0
 StripsKeepTriangles = (triangles strips : List (List ℕ)) → All IsTriangle triangles
     → AreStrips triangles strips → KeepTriangles triangles strips

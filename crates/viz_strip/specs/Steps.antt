@@ -3,3 +3,4 @@ pub mod Sides
 pub mod Links
 pub mod Grown
 pub mod Rows
+pub mod Named

@@ -1,6 +1,7 @@
 //! The strips of triangles by ranks.
 
-ghost use Rattle.std.specs.Prelude.{◌≡◌, ◌+◌, ◌*◌, ◌<◌, ◌≤◌, ◌^◌, [], All, IfOk, OnOk, length};
+ghost use Rattle.std.specs.Prelude.{◌≡◌, ◌+◌, ◌*◌, ◌<◌, ◌≤◌, ◌^◌, [], All, false, IfOk, OnOk, length};
+ghost use Rattle.std.specs.Prelude.{replicate};
 ghost use Rattle.viz_strip.specs.Steps.Grown.{AreTaken, HaveMade, IsReady};
 ghost use Rattle.viz_strip.specs.Steps.Marks.{left};
 ghost use Rattle.viz_strip.specs.Steps.Sides.{HaveSides};
@@ -26,11 +27,29 @@ pub fn ranked_strips(
     if triangles.len() > 1 << 30 || points > 1 << 32 {
         return Err(AllocError);
     }
+    let rows = chosen(alloc, points, triangles)?;
+    Ok(rows)
+}
+
+/// The same of few triangles, whose sides run between different ranks.
+fn chosen(alloc: Global, points: usize, triangles: &[[u32; 3]]) -> Result<Rows, AllocError>
+    requires few { length triangles.now ≤ 2 ^ 30 }
+    requires points { points ≤ 2 ^ 32 }
+    requires sides { HaveSides points triangles.now }
+    ensures value { IfOk result (λ rows. AreStrips triangles.now rows) }
+{
     let mut links = make_links(alloc, points, triangles)?;
-    let mut marks = vec![in alloc; false; triangles.len()]?;
+    let mut marks = no_marks(alloc, triangles)?;
     let mut rows = Rows::with_room(alloc, triangles.len() + triangles.len() / 2)?;
     choose_all(alloc, triangles, &mut marks, &mut links, &mut rows)?;
     Ok(rows)
+}
+
+/// No triangle is taken.
+fn no_marks(alloc: Global, triangles: &[[u32; 3]]) -> Result<Vec<bool>, AllocError>
+    ensures value { IfOk result (λ m. m.items ≡ replicate (length triangles.now) false) }
+{
+    vec![in alloc; false; triangles.len()]
 }
 
 /// Makes the strips of the triangles that aren't taken.

@@ -14,9 +14,11 @@ mod growth;
 mod laws;
 mod links;
 mod meeting;
+mod naming;
 mod rows;
 mod sides;
 
 pub use choice::ranked_strips;
-pub use laws::strips_keep_triangles;
+pub use laws::{strips_are_one, strips_keep_triangles};
+pub use naming::{Strip, strips};
 pub use rows::Rows;
