@@ -1,15 +1,15 @@
 -- One triangle more: sides by numbers, and triangles by names.
-use Rattle.std.proofs.Common.{◌≡◌, ◌≢◌, ℕ, zero, suc, ◌+◌, ◌-◌, ◌*◌, ◌/◌, ◌%◌, ◌<◌, ◌≤◌, ◌⊎◌, inl, inr, ⊎_elim, Bool, true, false, not, ◌&&◌, cond, List, [], ◌∷◌, ◌++◌, length, get_or, set, refl, sym, ap, subst, ◌∙◌, append_assoc, append-nil, arith, true≢false, eqb-true, eq-eqb}
+use Rattle.std.proofs.Common.{◌≡◌, ◌≢◌, ℕ, zero, suc, ◌+◌, ◌*◌, ◌/◌, ◌%◌, ◌<◌, ◌⊎◌, inl, inr, ⊎_elim, Bool, true, false, not, ◌&&◌, cond, List, [], ◌∷◌, ◌++◌, length, get_or, set, refl, sym, ap, subst, ◌∙◌, append_assoc, append-nil, arith, true≢false, eqb-true, eq-eqb}
 use Rattle.std.specs.Prelude.{◌||◌, ◌==◌, All, Option, Some, None, IfSome, IfNone, is_some}
 use Rattle.std.specs.List.{list_any}
-use Rattle.std.proofs.lemmas.Bool.{and_parts, and_from, or_cases, or_left, or_right, cases_Bool, cases_lt, cases_eq, false_from_ne_true}
+use Rattle.std.proofs.lemmas.Bool.{and_parts, and_from, or_cases, or_left, or_right, cases_lt, false_from_ne_true}
 use Rattle.std.proofs.lemmas.List.Folds.{list_any_none}
-use Rattle.viz_strip.specs.Strips.{AreStrips, IsFirst, IsGrown, IsStrip, IsTriangle, begun, goes_on, is_continued, rotated, runs, third}
-use Rattle.viz_strip.specs.Steps.Marks.{is_taken, left, left_count}
+use Rattle.viz_strip.specs.Strips.{AreStrips, IsFirst, IsGrown, IsStrip, begun, runs, third}
+use Rattle.viz_strip.specs.Steps.Marks.{is_taken, left}
 use Rattle.viz_strip.specs.Steps.Sides.{HaveSides, before_of, behind_of, from_of, to_of, triangle_at}
-use Rattle.viz_strip.specs.Steps.Links.{IsFree, IsMet, LeadBack, LeadOn, NoneIsFree}
+use Rattle.viz_strip.specs.Steps.Links.{IsFree, IsMet, NoneIsFree}
 use Rattle.viz_strip.specs.Steps.Grown.{AreKept, AreTaken, HasGained, HasGrown, HaveMade, IsReady, Stops, Takes, last, second_last}
-use Rattle.viz_strip.proofs.MarkLemmas.{left-end, left-fewer, left-first, left-head, left-none, taken-here, taken-set}
+use Rattle.viz_strip.proofs.MarkLemmas.{left-fewer, left-first, left-none, taken-set}
 use Rattle.viz_strip.proofs.RunLemmas.{begun-first, begun-last, begun-second, none-of, one-of, shape, third-a, third-b, third-c}
 
 -- ---- a triangle by its corners
@@ -74,10 +74,12 @@ runs-side ts points i u v h l e =
     let w = runs-at t u v (h.triangle i l).three e in
     let k = w.0 in
     let small : k < 3 = w.1 in
-    let same : get_or ts ((3 * i + k) / 3) [] ≡ t = ap (λ j. get_or ts j []) {x = (3 * i + k) / 3} {y = i} (omega arith) in
-    (k, small,
-    ap (λ s. get_or s ((3 * i + k) % 3) 0) same ∙ ap (λ j. get_or t j 0) {x = (3 * i + k) % 3} {y = k} (omega arith) ∙ w.2,
-    ap (λ s. get_or s ((3 * i + k + 1) % 3) 0) same ∙ ap (λ j. get_or t j 0) {x = (3 * i + k + 1) % 3} {y = (k + 1) % 3} (omega arith) ∙ w.3)
+    let same : get_or ts ((3 * i + k) / 3) [] ≡ t = ap (λ j. get_or ts j []) {x = (3 * i + k) / 3} {y = i} (omega arith) in (
+      k,
+      small,
+      ap (λ s. get_or s ((3 * i + k) % 3) 0) same ∙ ap (λ j. get_or t j 0) {x = (3 * i + k) % 3} {y = k} (omega arith) ∙ w.2,
+      ap (λ s. get_or s ((3 * i + k + 1) % 3) 0) same ∙ ap (λ j. get_or t j 0) {x = (3 * i + k + 1) % 3} {y = (k + 1) % 3} (omega arith) ∙ w.3,
+    )
 
 -- ---- the first triangle that runs from u to v
 
@@ -89,21 +91,21 @@ free-first ts points marks u v q h size f =
     let passes : runs u v (triangle_at ts q) ≡ true = ap (λ x. runs x v (triangle_at ts q)) (sym f.from_is) ∙ ap (λ x. runs (from_of ts q) x (triangle_at ts q)) (sym f.to_is) ∙ side-runs ts points q h f.within in
     left-first ts marks (runs u v) i size il f.free passes
     (λ j jl free. false_from_ne_true (runs u v (get_or ts j [])) (λ e.
-        let w = runs-side ts points j u v h (omega arith) e in
-        let k = w.0 in
-        let small : k < 3 = w.1 in
-        let taken : is_taken marks ((3 * j + k) / 3) ≡ true = f.first (3 * j + k) (omega arith) (omega arith) w.2 w.3 in
-        absurd (true≢false (sym taken ∙ (ap (is_taken marks) {x = (3 * j + k) / 3} {y = j} (omega arith) ∙ free)))))
+    let w = runs-side ts points j u v h (omega arith) e in
+    let k = w.0 in
+    let small : k < 3 = w.1 in
+    let taken : is_taken marks ((3 * j + k) / 3) ≡ true = f.first (3 * j + k) (omega arith) (omega arith) w.2 w.3 in
+    absurd (true≢false (sym taken ∙ (ap (is_taken marks) {x = (3 * j + k) / 3} {y = j} (omega arith) ∙ free)))))
 
 pub none-left : (ts : List (List ℕ)) (points : ℕ) (marks : List Bool) (u v : ℕ) → HaveSides points ts → length marks ≡ length ts → NoneIsFree ts marks u v → All (λ t. runs u v t ≡ false) (left marks ts)
 none-left ts points marks u v h size n =
     left-none ts marks (runs u v) size
     (λ j jl free. false_from_ne_true (runs u v (get_or ts j [])) (λ e.
-        let w = runs-side ts points j u v h jl e in
-        let k = w.0 in
-        let small : k < 3 = w.1 in
-        let taken : is_taken marks ((3 * j + k) / 3) ≡ true = n.taken (3 * j + k) (omega arith) w.2 w.3 in
-        absurd (true≢false (sym taken ∙ (ap (is_taken marks) {x = (3 * j + k) / 3} {y = j} (omega arith) ∙ free)))))
+    let w = runs-side ts points j u v h jl e in
+    let k = w.0 in
+    let small : k < 3 = w.1 in
+    let taken : is_taken marks ((3 * j + k) / 3) ≡ true = n.taken (3 * j + k) (omega arith) w.2 w.3 in
+    absurd (true≢false (sym taken ∙ (ap (is_taken marks) {x = (3 * j + k) / 3} {y = j} (omega arith) ∙ free)))))
 
 -- ---- the side before one, and the side behind it
 
@@ -135,7 +137,7 @@ third-at : (a b c k u v : ℕ) → a ≢ b → a ≢ c → b ≢ c → k < 3
 third-at a b c k u v ab ac bc l =
     three-cases
     (λ j. ((u ≡ get_or (a ∷ b ∷ c ∷ []) j 0) × (v ≡ get_or (a ∷ b ∷ c ∷ []) ((j + 1) % 3) 0)) ⊎ ((u ≡ get_or (a ∷ b ∷ c ∷ []) ((j + 1) % 3) 0) × (v ≡ get_or (a ∷ b ∷ c ∷ []) j 0))
-        → third u v (a ∷ b ∷ c ∷ []) ≡ get_or (a ∷ b ∷ c ∷ []) ((j + 2) % 3) 0)
+    → third u v (a ∷ b ∷ c ∷ []) ≡ get_or (a ∷ b ∷ c ∷ []) ((j + 2) % 3) 0)
     k l
     (λ e. third-c a b c u v (one-of a u v (of a b e a (inl refl))) (one-of b u v (of a b e b (inr refl))))
     (λ e. third-a a b c u v (none-of a u v (off b c e a ab ac).0 (off b c e a ab ac).1))
@@ -144,6 +146,7 @@ third-at a b c k u v ab ac bc l =
     of : (x y : ℕ) → ((u ≡ x) × (v ≡ y)) ⊎ ((u ≡ y) × (v ≡ x)) → (m : ℕ) → (m ≡ x) ⊎ (m ≡ y) → (m ≡ u) ⊎ (m ≡ v)
     of x y e m h =
         ⊎_elim (λ d. ⊎_elim (λ p. inl (p ∙ sym d.0)) (λ p. inr (p ∙ sym d.1)) h) (λ d. ⊎_elim (λ p. inr (p ∙ sym d.1)) (λ p. inl (p ∙ sym d.0)) h) e
+
     off : (x y : ℕ) → ((u ≡ x) × (v ≡ y)) ⊎ ((u ≡ y) × (v ≡ x)) → (m : ℕ) → m ≢ x → m ≢ y → (m ≢ u) × (m ≢ v)
     off x y e m f g = ⊎_elim (λ d. (λ p. f (p ∙ d.0), λ p. g (p ∙ d.1))) (λ d. (λ p. g (p ∙ d.0), λ p. f (p ∙ d.1))) e
 

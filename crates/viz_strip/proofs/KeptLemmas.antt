@@ -1,13 +1,12 @@
 -- What strips keep, by any test of triangles that a rotation doesn't change.
-use Rattle.std.proofs.Common.{◌≡◌, ℕ, ◌+◌, ◌<◌, ◌⊎◌, inl, inr, ⊎_elim, Bool, true, false, not, ◌&&◌, cond, List, [], ◌∷◌, ◌++◌, length, refl, sym, ap, subst, ◌∙◌, arith, true≢false, eqb, eqb-true, eq-eqb}
-use Rattle.std.specs.Prelude.{◌||◌, ◌==◌, All, count_by, slice_index, if◌then◌else◌}
-use Rattle.std.specs.List.{flat_map, list_any}
-use Rattle.std.proofs.lemmas.Bool.{and_parts, and_from, or_cases, or_parts, cases_Bool, eqb-false}
+use Rattle.std.proofs.Common.{◌≡◌, ℕ, ◌+◌, ⊎_elim, Bool, true, false, not, ◌&&◌, cond, List, [], ◌∷◌, ◌++◌, length, refl, sym, ap, subst, ◌∙◌, arith, eqb-true}
+use Rattle.std.specs.Prelude.{◌||◌, ◌==◌, All, count_by, slice_index}
+use Rattle.std.specs.List.{list_any}
+use Rattle.std.proofs.lemmas.Bool.{and_parts, or_cases, or_parts, cases_Bool}
 use Rattle.std.proofs.lemmas.List.Sums.{sum_by-append, sum_by-cons}
-use Rattle.std.proofs.lemmas.List.Elements.{All-nil, All-cons, All-head, All-tail, All-append}
-use Rattle.viz_sheet.specs.Sheet.{AreApart}
-use Rattle.viz_strip.specs.Strips.{AreStrips, IsFirst, IsGrown, IsStrip, IsTriangle, all_pieces, are, begun, continues, continues_from, goes_on, is_continued, is_same, piece, pieces_from, pieces_of, rotated, runs, third}
-use Rattle.viz_strip.specs.Kept.{AreEnded, AreLoneAlone, AreSameTriangles, IsAlone, KeepTriangles}
+use Rattle.std.proofs.lemmas.List.Elements.{All-nil, All-cons, All-head, All-tail}
+use Rattle.viz_strip.specs.Strips.{AreStrips, IsFirst, IsGrown, IsStrip, IsTriangle, all_pieces, are, begun, continues, continues_from, goes_on, is_same, piece, pieces_from, pieces_of, runs}
+use Rattle.viz_strip.specs.Kept.{AreEnded, AreLoneAlone, IsAlone, KeepTriangles}
 use Rattle.viz_strip.proofs.RunLemmas.{IsRound, begun-first, begun-last, begun-second, shape, third-same, turned-same}
 
 -- ---- counts
@@ -202,10 +201,10 @@ lone left a b c p q r e none =
     let second = cases_Bool (list_any (runs a c) left) in
     let third_ = cases_Bool (list_any (runs b a) left) in
     let one : list_any (runs c b) left ≡ false =
-        ⊎_elim (λ h. open-as a b c (sym (begun-first left a b c h) ∙ e)) (λ h. h) first
+    ⊎_elim (λ h. open-as a b c (sym (begun-first left a b c h) ∙ e)) (λ h. h) first
     in
     let two : list_any (runs a c) left ≡ false =
-        ⊎_elim (λ h. open-as b c a (sym (begun-second left a b c one h) ∙ e)) (λ h. h) second
+    ⊎_elim (λ h. open-as b c a (sym (begun-second left a b c one h) ∙ e)) (λ h. h) second
     in
     (one, (two, ⊎_elim (λ h. open-as c a b (sym (begun-last left a b c one two ∙ ap (λ x. cond x (c ∷ a ∷ b ∷ []) (a ∷ b ∷ c ∷ [])) h) ∙ e)) (λ h. h) third_))
   where
@@ -241,7 +240,7 @@ strip-alone t left strip rest strips is more s next =
           let here : runs u v strip ≡ runs u v t = ap (runs u v) (s.is ∙ ap (λ m. s.a ∷ s.b ∷ s.c ∷ m) none) ∙ same in
           let corners = shape t is in
           let back : All (λ y. runs v u y ≡ false) left =
-              lone-side left corners.0 corners.1 corners.2 s.a s.b s.c u v (ap (begun left) (sym corners.3) ∙ s.begins) g.0 (ap (runs u v) (sym corners.3) ∙ (sym here ∙ h))
+          lone-side left corners.0 corners.1 corners.2 s.a s.b s.c u v (ap (begun left) (sym corners.3) ∙ s.begins) g.0 (ap (runs u v) (sym corners.3) ∙ (sym here ∙ h))
           in
           later-none (runs v u) (runs-round v u) rest strips more next (subst (All (λ y. runs v u y ≡ false)) (sym g.1) back);
     }

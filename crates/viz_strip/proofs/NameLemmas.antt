@@ -1,5 +1,5 @@
 -- Triangles by ranks of names that ascend.
-use Rattle.std.proofs.Common.{◌≡◌, ◌≢◌, ℕ, ◌+◌, ◌<◌, ◌≤◌, ◌⊎◌, ⊎_elim, Bool, true, false, List, [], ◌∷◌, ◌++◌, length, get_or, map, take, Less, refl, sym, ap, ap₂, subst, ◌∙◌, arith, eqb, eq-eqb}
+use Rattle.std.proofs.Common.{◌≡◌, ◌≢◌, ℕ, ◌<◌, ⊎_elim, List, [], ◌∷◌, length, map, Less, refl, sym, ap, subst, ◌∙◌, arith, eqb, eq-eqb}
 use Rattle.std.specs.Prelude.{All, ◌==◌}
 use Rattle.std.specs.List.Retain.{IsFiltered, DiffersFromLast}
 use Rattle.std.specs.List.Sorted.{IsStrictlySortedBy, IsSorted}
@@ -13,7 +13,7 @@ use Rattle.std.proofs.lemmas.List.Kept.{IsStrictlySortedBy-dedup}
 use Rattle.std.proofs.lemmas.List.Elements.{All-nil, All-cons, All-head, All-tail}
 use Rattle.std.proofs.lemmas.Map.Keys.{Less-from_sorted}
 use Rattle.viz_strip.specs.Strips.{AreStrips, IsTriangle}
-use Rattle.viz_strip.specs.Steps.Named.{AreRanksOf, IsRankOf, name_at}
+use Rattle.viz_strip.specs.Steps.Named.{AreRanksOf, name_at}
 use Rattle.viz_strip.proofs.RenameLemmas.{IsRanked, strips-renamed}
 
 -- what `dedup` leaves of sorted names
@@ -29,9 +29,9 @@ names-apart names s a b la lb =
     ⊎_elim (λ e. eq-eqb (name_at names a) (name_at names b) (ap (name_at names) e) ∙ sym (eq-eqb a b e))
     (λ o. ⊎_elim
     (λ l. let h : name_at names a < name_at names b = less (name_at names a) (name_at names b) (Less-from_sorted nat_cmp names a b 0 s l lb) in
-        ne_eqb (name_at names a) (name_at names b) (λ e. absurd (omega (arith, h, e))) ∙ sym (ne_eqb a b (λ e. absurd (omega (arith, l, e)))))
+    ne_eqb (name_at names a) (name_at names b) (λ e. absurd (omega (arith, h, e))) ∙ sym (ne_eqb a b (λ e. absurd (omega (arith, l, e)))))
     (λ l. let h : name_at names b < name_at names a = less (name_at names b) (name_at names a) (Less-from_sorted nat_cmp names b a 0 s l la) in
-        ne_eqb (name_at names a) (name_at names b) (λ e. absurd (omega (arith, h, e))) ∙ sym (ne_eqb a b (λ e. absurd (omega (arith, l, e)))))
+    ne_eqb (name_at names a) (name_at names b) (λ e. absurd (omega (arith, h, e))) ∙ sym (ne_eqb a b (λ e. absurd (omega (arith, l, e)))))
     o)
     (cases_order a b)
 

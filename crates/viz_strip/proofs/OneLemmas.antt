@@ -2,7 +2,7 @@
 use Rattle.std.proofs.Common.{◌≡◌, ℕ, Bool, true, false, not, List, [], ◌∷◌, ◌++◌, refl, sym, ap, ap₂, subst, ◌∙◌, true≢false}
 use Rattle.std.specs.Prelude.{All}
 use Rattle.std.proofs.lemmas.List.Elements.{All-head, All-tail}
-use Rattle.viz_strip.specs.Strips.{AreStrips, IsFirst, IsGrown, IsStrip, begun, goes_on, third}
+use Rattle.viz_strip.specs.Strips.{AreStrips, IsFirst, IsGrown, IsStrip, goes_on, third}
 use Rattle.viz_strip.proofs.KeptLemmas.{All-middle}
 
 first-of : (test : List ℕ → Bool) (f g : List (List ℕ)) (t u : List ℕ) (p q : List (List ℕ)) → f ++ t ∷ p ≡ g ++ u ∷ q → All (λ s. test s ≡ false) f → All (λ s. test s ≡ false) g → test t ≡ true → test u ≡ true → (t ≡ u) × (f ++ p ≡ g ++ q)

@@ -1,9 +1,9 @@
 -- Strips of triangles under other names: names that differ have names that differ.
-use Rattle.std.proofs.Common.{◌≡◌, ◌≢◌, ℕ, ◌<◌, ◌⊎◌, ⊎_elim, Bool, true, false, not, ◌&&◌, cond, List, [], ◌∷◌, ◌++◌, length, map, refl, sym, ap, ap₂, subst, ◌∙◌}
-use Rattle.std.specs.Prelude.{◌||◌, ◌==◌, All, if◌then◌else◌}
+use Rattle.std.proofs.Common.{◌≡◌, ℕ, ◌<◌, Bool, true, false, not, ◌&&◌, cond, List, [], ◌∷◌, ◌++◌, map, refl, sym, ap, ap₂, subst, ◌∙◌}
+use Rattle.std.specs.Prelude.{◌||◌, ◌==◌, All}
 use Rattle.std.specs.List.{list_any}
 use Rattle.std.proofs.lemmas.List.Elements.{All-nil, All-cons, All-head, All-tail}
-use Rattle.viz_strip.specs.Strips.{AreStrips, IsFirst, IsGrown, IsStrip, IsTriangle, begun, goes_on, is_continued, continues, rotated, runs, third}
+use Rattle.viz_strip.specs.Strips.{AreStrips, IsFirst, IsGrown, IsStrip, IsTriangle, begun, goes_on, is_continued, runs, third}
 use Rattle.viz_strip.proofs.RunLemmas.{shape}
 use Rattle.viz_strip.proofs.KeptLemmas.{All-first, All-middle}
 
@@ -103,9 +103,16 @@ module _ (n : ℕ) (f : ℕ → ℕ) (apart : (a b : ℕ) → a < n → b < n �
       let others = g.1 in
       let split = All-first (IsRanked n) (goes_on odd u v) left t others g.2 all in
       let lw : w < n = subst (λ x. x < n) (sym g.3) (third-below u v t split.0) in
-      let deep = grown-renamed (not odd) v w more others rest lv lw split.1 g.4 in
-      ((map f t, map (map f) others, first-renamed (goes_on odd u v) (goes_on odd (f u) (f v)) left t others (λ s r. goes-renamed odd u v s lu lv r) all g.2,
-      ap f g.3 ∙ sym (third-renamed u v t lu lv split.0), deep.0), deep.1)
+      let deep = grown-renamed (not odd) v w more others rest lv lw split.1 g.4 in (
+        (
+          map f t,
+          map (map f) others,
+          first-renamed (goes_on odd u v) (goes_on odd (f u) (f v)) left t others (λ s r. goes-renamed odd u v s lu lv r) all g.2,
+          ap f g.3 ∙ sym (third-renamed u v t lu lv split.0),
+          deep.0,
+        ),
+        deep.1,
+      )
 
   -- whether one of the others continues three names
   open-three : (a b c : ℕ) (left : List (List ℕ)) → b < n → c < n → All (IsRanked n) left → is_continued (map (map f) left) (f a ∷ f b ∷ f c ∷ []) ≡ is_continued left (a ∷ b ∷ c ∷ [])

@@ -1,10 +1,9 @@
 -- Triangles, their rotations, and the third name beside two.
-use Rattle.std.proofs.Common.{◌≡◌, ◌≢◌, ℕ, ◌+◌, ◌<◌, ◌⊎◌, inl, inr, ⊎_elim, Bool, true, false, ◌&&◌, cond, List, [], ◌∷◌, length, refl, sym, ap, subst, ◌∙◌, arith, eqb-true, eq-eqb}
-use Rattle.std.specs.Prelude.{◌||◌, ◌==◌, All, if◌then◌else◌}
+use Rattle.std.proofs.Common.{◌≡◌, ◌≢◌, ℕ, ◌⊎◌, inl, inr, ⊎_elim, Bool, true, false, ◌&&◌, cond, List, [], ◌∷◌, refl, sym, ap, ◌∙◌, arith, eqb-true, eq-eqb}
+use Rattle.std.specs.Prelude.{◌||◌, ◌==◌}
 use Rattle.std.specs.List.{list_any}
-use Rattle.std.proofs.lemmas.Bool.{and_parts, and_from, or_cases, or_left, or_right, or_from, ne_eqb, cond_both}
+use Rattle.std.proofs.lemmas.Bool.{and_parts, or_cases, or_left, or_right, or_from, ne_eqb, cond_both}
 use Rattle.std.proofs.lemmas.List.Elements.{All-head, All-tail}
-use Rattle.viz_sheet.specs.Sheet.{AreApart}
 use Rattle.viz_strip.specs.Strips.{IsTriangle, begun, goes_on, is_continued, piece, rotated, runs, third}
 
 -- a test of triangles that a rotation doesn't change
@@ -53,17 +52,23 @@ third-runs p round u v x y a b c ab ac bc ends h =
   where
     among-x : (m : ℕ) → m ≡ x → (m ≡ u) ⊎ (m ≡ v)
     among-x m e = ⊎_elim (λ d. inl (e ∙ sym d.0)) (λ d. inr (e ∙ sym d.1)) ends
+
     among-y : (m : ℕ) → m ≡ y → (m ≡ u) ⊎ (m ≡ v)
     among-y m e = ⊎_elim (λ d. inr (e ∙ sym d.1)) (λ d. inl (e ∙ sym d.0)) ends
+
     not-ends : (m : ℕ) → m ≢ x → m ≢ y → (m == u || m == v) ≡ false
     not-ends m f g = ⊎_elim (λ d. none-of m u v (λ e. f (e ∙ d.0)) (λ e. g (e ∙ d.1))) (λ d. none-of m u v (λ e. g (e ∙ d.0)) (λ e. f (e ∙ d.1))) ends
+
     put : (i j k : ℕ) → x ≡ i → y ≡ j → third u v (a ∷ b ∷ c ∷ []) ≡ k → p (x ∷ y ∷ third u v (a ∷ b ∷ c ∷ []) ∷ []) ≡ p (i ∷ j ∷ k ∷ [])
     put i j k e f g =
         ap (λ z. p (z ∷ y ∷ third u v (a ∷ b ∷ c ∷ []) ∷ [])) e ∙ ap (λ z. p (i ∷ z ∷ third u v (a ∷ b ∷ c ∷ []) ∷ [])) f ∙ ap (λ z. p (i ∷ j ∷ z ∷ [])) g
+
     ab-case : x ≡ a → y ≡ b → p (x ∷ y ∷ third u v (a ∷ b ∷ c ∷ []) ∷ []) ≡ p (a ∷ b ∷ c ∷ [])
     ab-case e f = put a b c e f (third-c a b c u v (one-of a u v (among-x a (sym e))) (one-of b u v (among-y b (sym f))))
+
     bc-case : x ≡ b → y ≡ c → p (x ∷ y ∷ third u v (a ∷ b ∷ c ∷ []) ∷ []) ≡ p (a ∷ b ∷ c ∷ [])
     bc-case e f = put b c a e f (third-a a b c u v (not-ends a (λ k. ab (k ∙ e)) (λ k. ac (k ∙ f)))) ∙ round a b c
+
     ca-case : x ≡ c → y ≡ a → p (x ∷ y ∷ third u v (a ∷ b ∷ c ∷ []) ∷ []) ≡ p (a ∷ b ∷ c ∷ [])
     ca-case e f = put c a b e f (third-b a b c u v (one-of a u v (among-y a (sym f))) (not-ends b (λ k. bc (k ∙ e)) (λ k. ab (sym (k ∙ f))))) ∙ round b c a ∙ round a b c
 

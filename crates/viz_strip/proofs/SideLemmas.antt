@@ -1,11 +1,11 @@
 -- The sides of triangles of ranks, before any is taken.
-use Rattle.std.proofs.Common.{◌≡◌, ◌≢◌, ℕ, zero, suc, ◌+◌, ◌*◌, ◌/◌, ◌%◌, ◌<◌, ◌≤◌, Bool, true, false, List, [], ◌∷◌, length, get_or, replicate, refl, sym, ap, subst, ◌∙◌, arith}
+use Rattle.std.proofs.Common.{◌≡◌, ◌≢◌, ℕ, ◌+◌, ◌*◌, ◌/◌, ◌%◌, ◌<◌, ◌≤◌, Bool, false, List, [], ◌∷◌, length, get_or, replicate, sym, ap, subst, ◌∙◌, arith}
 use Rattle.std.specs.Prelude.{All}
 use Rattle.std.proofs.lemmas.List.{length-replicate}
 use Rattle.std.proofs.lemmas.List.Elements.{All-get_or}
 use Rattle.viz_strip.specs.Strips.{IsTriangle}
 use Rattle.viz_strip.specs.Steps.Links.{LeadBack, LeadOn}
-use Rattle.viz_strip.specs.Steps.Grown.{AreKept, IsReady}
+use Rattle.viz_strip.specs.Steps.Grown.{IsReady}
 use Rattle.viz_strip.specs.Steps.Sides.{HaveSides, from_of, to_of, triangle_at}
 use Rattle.viz_strip.proofs.GrowthLemmas.{met-kept, none-kept, three-cases, within}
 use Rattle.viz_strip.proofs.RunLemmas.{shape}

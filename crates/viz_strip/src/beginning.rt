@@ -60,12 +60,11 @@ fn last_side(triangles: &[[u32; 3]], marks: &[bool], links: &mut Links, index: u
     requires within { index < length triangles.now }
     requires sides { HaveSides (2 ^ 32) triangles.now }
     requires ready { IsReady triangles.now marks.now links.old.firsts.items links.old.nexts.items }
-    ensures ready {
-        IsReady triangles.now marks.now links.new.firsts.items links.new.nexts.items }
+    ensures ready { IsReady triangles.now marks.now links.new.firsts.items links.new.nexts.items }
     ensures within { result < 3 * length triangles.now }
     ensures value { begun (left marks.now triangles.now) (slice_index_or triangles.now index [])
         ≡ from_of triangles.now (before_of result) ∷ from_of triangles.now result
-            ∷ to_of triangles.now result ∷ [] }
+        ∷ to_of triangles.now result ∷ [] }
 {
     let side = 3 * index;
     if is_met(triangles, marks, links, side + 1) {
@@ -86,11 +85,10 @@ fn is_met(triangles: &[[u32; 3]], marks: &[bool], links: &mut Links, side: u32) 
     requires within { side < 3 * length triangles.now }
     requires sides { HaveSides (2 ^ 32) triangles.now }
     requires ready { IsReady triangles.now marks.now links.old.firsts.items links.old.nexts.items }
-    ensures ready {
-        IsReady triangles.now marks.now links.new.firsts.items links.new.nexts.items }
+    ensures ready { IsReady triangles.now marks.now links.new.firsts.items links.new.nexts.items }
     ensures value { result
         ≡ list_any (runs (to_of triangles.now side) (from_of triangles.now side))
-            (left marks.now triangles.now) }
+        (left marks.now triangles.now) }
 {
     first_free(triangles, marks, links, side).is_some()
 }

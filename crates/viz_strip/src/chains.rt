@@ -40,8 +40,7 @@ fn chain_all(triangles: &[[u32; 3]], lasts: &mut [u32], befores: &mut [u32])
     requires sides { HaveSides (length lasts.old) triangles.now }
     requires size { length befores.old ≡ 3 * length triangles.now }
     requires chained { AreChained triangles.now 0 lasts.old befores.old }
-    ensures chained {
-        AreChained triangles.now (3 * length triangles.now) lasts.new befores.new }
+    ensures chained { AreChained triangles.now (3 * length triangles.now) lasts.new befores.new }
 {
     for side in 0..befores.len() {
         chain_side(triangles, lasts, befores, side as u32);

@@ -92,9 +92,5 @@ fn take(
     marks[(found / 3) as usize] = true;
     let front = before(found);
     row.push(from_of(triangles, front))?;
-    if odd {
-        Ok(front)
-    } else {
-        Ok(behind(found))
-    }
+    if odd { Ok(front) } else { Ok(behind(found)) }
 }

@@ -7,11 +7,9 @@ ghost use Rattle.viz_strip.specs.Kept.{StripsAreOne, StripsKeepTriangles};
 /// direction, with a triangle of a later one.
 pub fn strips_keep_triangles()
     ensures kept { StripsKeepTriangles }
-{
-}
+{}
 
 /// Triangles have one list of strips.
 pub fn strips_are_one()
     ensures one { StripsAreOne }
-{
-}
+{}

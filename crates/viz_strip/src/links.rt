@@ -63,8 +63,7 @@ fn link_all(
     requires points { length lasts.now ≤ 2 ^ 32 }
     requires sides { HaveSides (length lasts.now) triangles.now }
     requires slots { HaveSlots triangles.now (length seen.old) }
-    requires chained {
-        AreChained triangles.now (3 * length triangles.now) lasts.now befores.now }
+    requires chained { AreChained triangles.now (3 * length triangles.now) lasts.now befores.now }
     requires before_size { length befores.now ≡ 3 * length triangles.now }
     requires seen_size { length seen.old ≡ 2 * length lasts.now }
     requires first_size { length firsts.old ≡ 3 * length triangles.now }

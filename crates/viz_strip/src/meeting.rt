@@ -23,8 +23,7 @@ pub(crate) fn first_free(
         (to_of triangles.now side) (from_of triangles.now side) q) }
     ensures none { IfNone result (NoneIsFree triangles.now marks.now
         (to_of triangles.now side) (from_of triangles.now side)) }
-    ensures ready {
-        IsReady triangles.now marks.now links.new.firsts.items links.new.nexts.items }
+    ensures ready { IsReady triangles.now marks.now links.new.firsts.items links.new.nexts.items }
 {
     met(triangles, marks, &links.firsts, &mut links.nexts, side)
 }

@@ -89,6 +89,9 @@ const ROWS: [(&[[u64; 3]], &[&[u64]]); 12] = [
 #[test]
 fn triangles_are_made_into_strips(rt: HostRuntime) {
     for (triangles, want) in &ROWS {
-        assert!(rt; gives(rt.alloc(), triangles, want), "{triangles:?} {want:?}");
+        assert!(rt;
+            gives(rt.alloc(), triangles, want),
+            "{triangles:?} {want:?}"
+        );
     }
 }

@@ -1,5 +1,5 @@
 -- A strip that takes one triangle after the other, by marks of those that are taken.
-use Rattle.std.specs.Prelude.{◌≡◌, ℕ, ◌+◌, ◌*◌, ◌<◌, Bool, true, false, not, List, [], ◌∷◌, ◌++◌, length}
+use Rattle.std.specs.Prelude.{◌≡◌, ℕ, ◌*◌, ◌<◌, Bool, true, false, not, List, [], ◌∷◌, ◌++◌, length}
 use Rattle.std.specs.Prelude.{All, if◌then◌else◌}
 use Rattle.viz_strip.specs.Strips.{AreStrips, IsFirst, IsGrown, goes_on, third}
 use Rattle.viz_strip.specs.Steps.Links.{LeadBack, LeadOn}

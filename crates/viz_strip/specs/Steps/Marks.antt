@@ -1,5 +1,5 @@
 -- Triangles that are taken, by marks.
-use Rattle.std.specs.Prelude.{◌≡◌, ℕ, ◌<◌, Bool, true, false, not, List, [], ◌∷◌, length, count_by}
+use Rattle.std.specs.Prelude.{ℕ, Bool, false, not, List, [], ◌∷◌, count_by}
 use Rattle.std.specs.Prelude.{slice_index_or, if◌then◌else◌}
 
 -- whether a triangle is taken

@@ -1,6 +1,6 @@
 -- The sides of triangles by numbers: side k of triangle i has the number 3 i + k, and runs from
 -- corner k to the next one.
-use Rattle.std.specs.Prelude.{◌≡◌, ◌≢◌, ℕ, ◌+◌, ◌-◌, ◌*◌, ◌/◌, ◌%◌, ◌<◌, min, max, nat_lt, List, []}
+use Rattle.std.specs.Prelude.{◌≢◌, ℕ, ◌+◌, ◌-◌, ◌*◌, ◌/◌, ◌%◌, ◌<◌, min, max, nat_lt, List, []}
 use Rattle.std.specs.Prelude.{length, slice_index, slice_index_or, if◌then◌else◌}
 use Rattle.viz_strip.specs.Strips.{IsTriangle}
 

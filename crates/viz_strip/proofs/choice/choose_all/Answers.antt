@@ -1,4 +1,4 @@
-use Rattle.std.proofs.Common.{[], List, ℕ, subst, arith}
+use Rattle.std.proofs.Common.{List, ℕ, subst, arith}
 use Rattle.viz_strip.specs.Steps.Grown.{HaveMade}
 use Rattle.viz_strip.specs.Steps.Marks.{left}
 use Rattle.viz_strip.proofs.GrowthLemmas.{made-both, made-none}

@@ -1,4 +1,4 @@
-use Rattle.std.proofs.Common.{◌≡◌, ◌^◌, ◌∙◌, [], Bool, false, List, ℕ, length, refl, replicate, subst, ap}
+use Rattle.std.proofs.Common.{◌≡◌, ◌^◌, ◌∙◌, [], Bool, List, ℕ, length, refl, subst, ap}
 use Rattle.viz_strip.specs.Steps.Grown.{HaveMade}
 use Rattle.viz_strip.specs.Steps.Marks.{left}
 use Rattle.viz_strip.proofs.GrowthLemmas.{made-all}

@@ -1,5 +1,5 @@
 use Rattle.std.proofs.Common.{ℕ, subst, rules}
-use Rattle.std.specs.Prelude.{Option, IfNone, IfSome}
+use Rattle.std.specs.Prelude.{Option, IfSome}
 use Rattle.viz_strip.specs.Steps.Grown.{Stops, Takes}
 use Rattle.viz_strip.specs.Steps.Marks.{left}
 use Rattle.viz_strip.specs.Steps.Sides.{from_of, to_of}

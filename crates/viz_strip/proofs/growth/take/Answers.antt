@@ -1,4 +1,4 @@
-use Rattle.std.proofs.Common.{◌≡◌, Bool, List, ℕ, set, ◌/◌, ◌^◌, true, false, subst, sym, ap, ◌∙◌, ◌++◌, ◌∷◌, []}
+use Rattle.std.proofs.Common.{◌≡◌, Bool, ℕ, set, ◌/◌, ◌^◌, true, false, subst, sym, ap, ◌∙◌, ◌++◌, ◌∷◌, []}
 use Rattle.viz_strip.specs.Steps.Grown.{Takes}
 use Rattle.viz_strip.specs.Steps.Sides.{before_of, behind_of, from_of}
 use Rattle.viz_strip.proofs.GrowthLemmas.{takes-even, takes-odd}

@@ -1,4 +1,4 @@
-use Rattle.std.proofs.Common.{◌/◌, ◌<◌, ◌^◌, Bool, List, true, length, set, subst, sym, arith, rules}
+use Rattle.std.proofs.Common.{◌/◌, ◌<◌, ◌^◌, Bool, List, length, subst, sym, arith, rules}
 use Rattle.viz_strip.specs.Steps.Grown.{AreKept}
 use Rattle.viz_strip.specs.Steps.Links.{NoneIsFree}
 use Rattle.viz_strip.specs.Steps.Sides.{from_of, to_of}

@@ -1,4 +1,4 @@
-use Rattle.std.proofs.Common.{◌≡◌, ◌-◌, ◌*◌, ◌<◌, ℕ, length, get_or, subst, arith}
+use Rattle.std.proofs.Common.{◌≡◌, ◌-◌, ℕ, get_or, subst, arith}
 use Rattle.viz_strip.specs.Steps.Links.{IsLast}
 use Rattle.viz_strip.specs.Steps.Sides.{low_of}
 use Rattle.viz_strip.proofs.LinkLemmas.{nexts-lower, seen-lower}

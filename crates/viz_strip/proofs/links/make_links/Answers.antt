@@ -1,4 +1,4 @@
-use Rattle.std.proofs.Common.{◌≡◌, ◌*◌, ◌∙◌, ℕ, List, [], length, take, drop, ◌++◌, subst, sym, ap, arith, rules}
+use Rattle.std.proofs.Common.{◌≡◌, ◌*◌, ◌∙◌, ℕ, [], length, drop, subst, sym, ap, arith}
 use Rattle.std.proofs.lemmas.List.{take_at}
 use Rattle.viz_strip.specs.Steps.Links.{HaveFirsts, HaveNexts, LeadBack, LeadOn}
 use Rattle.viz_strip.specs.Steps.Sides.{HaveSlots}

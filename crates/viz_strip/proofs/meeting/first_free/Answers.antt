@@ -1,4 +1,4 @@
-use Rattle.std.proofs.Common.{◌≡◌, ◌*◌, ◌∙◌, ℕ, List, length, drop, subst, sym, ap, arith}
+use Rattle.std.proofs.Common.{◌≡◌, ◌∙◌, length, drop, subst, sym, ap, arith}
 use Rattle.std.proofs.lemmas.List.{take_at}
 use Rattle.viz_strip.specs.Steps.Links.{LeadOn}
 use Rattle.viz_strip.proofs.meeting.first_free.Goals as goal

@@ -1,4 +1,4 @@
-use Rattle.std.proofs.Common.{◌*◌, ◌<◌, ◌/◌, length, refl, arith, get_or}
+use Rattle.std.proofs.Common.{refl, arith, get_or}
 use Rattle.viz_strip.proofs.LinkLemmas.{on-passed}
 use Rattle.viz_strip.proofs.meeting.passed.Goals as goal
 

@@ -1,6 +1,4 @@
-use Rattle.std.proofs.Common.{◌≡◌, ◌-◌, ◌+◌, ◌≤◌, ◌++◌, ◌∷◌, [], ◌∙◌, ℕ, List, length, map, take, drop, All, refl, sym, ap, ap₂, subst, arith}
-use Rattle.viz_strip.specs.declared.rows.Span.{Span}
-use Rattle.viz_strip.specs.Steps.Rows.{LiesWithin, row_in}
+use Rattle.std.proofs.Common.{◌++◌, ◌∷◌, [], ◌∙◌, ℕ, List, ap, arith}
 use Rattle.viz_strip.proofs.RowLemmas.{rows-push}
 use Rattle.viz_strip.proofs.rows.Rows.push.Goals as goal
 
