@@ -1,0 +1,10 @@
+pub mod LinkLemmas
+pub mod RunLemmas
+pub mod KeptLemmas
+pub mod MarkLemmas
+pub mod GrowthLemmas
+pub mod RowLemmas
+pub mod SideLemmas
+pub mod RenameLemmas
+pub mod NameLemmas
+pub mod OneLemmas

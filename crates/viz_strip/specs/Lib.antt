@@ -1,0 +1,4 @@
+pub mod Strips
+pub mod Kept
+pub mod Names
+pub mod Steps

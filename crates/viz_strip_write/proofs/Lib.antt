@@ -1,0 +1,4 @@
+pub mod TextLemmas
+pub mod CellLemmas
+pub mod FitLemmas
+pub mod PointLemmas

@@ -1,0 +1,3 @@
+pub mod StripText
+pub mod FitStrips
+pub mod Steps

@@ -1,0 +1,15 @@
+//! Writing the triangles of a mesh as strips: the text of polydata.
+//!
+//! Contract: `strip_text` gives the text of the definition, or the refusal that it names.
+//! Definitions: `specs/StripText.antt`, `specs/FitStrips.antt`; the rule is that of
+//! docs/FORMATS.md, "Written strips".
+#![tactic(auto)]
+
+mod cells;
+mod heads;
+mod points;
+mod stop;
+mod text;
+
+pub use stop::StripStop;
+pub use text::strip_text;
