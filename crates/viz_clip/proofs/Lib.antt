@@ -9,3 +9,4 @@ pub mod NumberedLemmas
 pub mod CutLemmas
 pub mod PointLemmas
 pub mod MeshLemmas
+pub mod MadeLemmas

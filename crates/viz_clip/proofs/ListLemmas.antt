@@ -68,35 +68,35 @@ module _ {X : Type 0} where
 
   pub kept-true : (T : X → Bool) (xs : List X) → All (λ x. T x ≡ true) (kept (map T xs) xs)
   kept-true T [] = All-nil (λ x. T x ≡ true)
-  kept-true T (x ∷ xs) = at (T x) refl
+  kept-true T (x ∷ xs) = at (T x) refl (kept-true T xs)
     where
-      at : (b : Bool) → T x ≡ b → All (λ x. T x ≡ true) (kept (b ∷ map T xs) (x ∷ xs))
-      at true e = All-cons (λ x. T x ≡ true) x (kept (map T xs) xs) e (kept-true T xs)
-      at false e = kept-true T xs
+      at : (b : Bool) → T x ≡ b → All (λ y. T y ≡ true) (kept (map T xs) xs) → All (λ y. T y ≡ true) (kept (b ∷ map T xs) (x ∷ xs))
+      at true e rest = All-cons (λ y. T y ≡ true) x (kept (map T xs) xs) e rest
+      at false e rest = rest
 
   pub kept-false : (T : X → Bool) (xs : List X) → All (λ x. T x ≡ false) (kept (map not (map T xs)) xs)
   kept-false T [] = All-nil (λ x. T x ≡ false)
-  kept-false T (x ∷ xs) = at (T x) refl
+  kept-false T (x ∷ xs) = at (T x) refl (kept-false T xs)
     where
-      at : (b : Bool) → T x ≡ b → All (λ x. T x ≡ false) (kept (not b ∷ map not (map T xs)) (x ∷ xs))
-      at true e = kept-false T xs
-      at false e = All-cons (λ x. T x ≡ false) x (kept (map not (map T xs)) xs) e (kept-false T xs)
+      at : (b : Bool) → T x ≡ b → All (λ y. T y ≡ false) (kept (map not (map T xs)) xs) → All (λ y. T y ≡ false) (kept (not b ∷ map not (map T xs)) (x ∷ xs))
+      at true e rest = rest
+      at false e rest = All-cons (λ y. T y ≡ false) x (kept (map not (map T xs)) xs) e rest
 
   pub in-kept : (T : X → Bool) (xs : List X) (y : X) → Contains xs y → T y ≡ true → Contains (kept (map T xs) xs) y
   in-kept T [] y c t = absurd (no_member y c)
-  in-kept T (x ∷ xs) y c t = at (T x) refl
+  in-kept T (x ∷ xs) y c t = at (T x) refl (λ d. in-kept T xs y d t)
     where
-      at : (b : Bool) → T x ≡ b → Contains (kept (b ∷ map T xs) (x ∷ xs)) y
-      at true e = ⊎_elim (λ s. subst (Contains (x ∷ kept (map T xs) xs)) s (here x (kept (map T xs) xs))) (λ d. there x (kept (map T xs) xs) y (in-kept T xs y d t)) (member_cases x xs y c)
-      at false e = ⊎_elim (λ s. absurd (true≢false (sym t ∙ ap T (sym s) ∙ e))) (λ d. in-kept T xs y d t) (member_cases x xs y c)
+      at : (b : Bool) → T x ≡ b → (Contains xs y → Contains (kept (map T xs) xs) y) → Contains (kept (b ∷ map T xs) (x ∷ xs)) y
+      at true e rest = ⊎_elim (λ s. subst (Contains (x ∷ kept (map T xs) xs)) s (here x (kept (map T xs) xs))) (λ d. there x (kept (map T xs) xs) y (rest d)) (member_cases x xs y c)
+      at false e rest = ⊎_elim (λ s. absurd (true≢false (sym t ∙ ap T (sym s) ∙ e))) rest (member_cases x xs y c)
 
   pub in-left : (T : X → Bool) (xs : List X) (y : X) → Contains xs y → T y ≡ false → Contains (kept (map not (map T xs)) xs) y
   in-left T [] y c t = absurd (no_member y c)
-  in-left T (x ∷ xs) y c t = at (T x) refl
+  in-left T (x ∷ xs) y c t = at (T x) refl (λ d. in-left T xs y d t)
     where
-      at : (b : Bool) → T x ≡ b → Contains (kept (not b ∷ map not (map T xs)) (x ∷ xs)) y
-      at true e = ⊎_elim (λ s. absurd (true≢false (sym e ∙ ap T s ∙ t))) (λ d. in-left T xs y d t) (member_cases x xs y c)
-      at false e = ⊎_elim (λ s. subst (Contains (x ∷ kept (map not (map T xs)) xs)) s (here x (kept (map not (map T xs)) xs))) (λ d. there x (kept (map not (map T xs)) xs) y (in-left T xs y d t)) (member_cases x xs y c)
+      at : (b : Bool) → T x ≡ b → (Contains xs y → Contains (kept (map not (map T xs)) xs) y) → Contains (kept (not b ∷ map not (map T xs)) (x ∷ xs)) y
+      at true e rest = ⊎_elim (λ s. absurd (true≢false (sym e ∙ ap T s ∙ t))) rest (member_cases x xs y c)
+      at false e rest = ⊎_elim (λ s. subst (Contains (x ∷ kept (map not (map T xs)) xs)) s (here x (kept (map not (map T xs)) xs))) (λ d. there x (kept (map not (map T xs)) xs) y (rest d)) (member_cases x xs y c)
 
 pub kept-map : {X Y : Type 0} (g : X → Y) (marks : List Bool) (xs : List X) → kept marks (map g xs) ≡ map g (kept marks xs)
 kept-map g [] xs = refl

@@ -132,7 +132,7 @@ cut-edge count flags cell i j h ci cj =
       differ = differ flags i j a b;
     }
 
-edge-key : (count : ℕ) (flags : List Bool) (i j : ℕ) → count ≤ 2 ^ 32 → IsCutEdge count flags i j → IsEdgeKey count (key_of i j)
+pub edge-key : (count : ℕ) (flags : List Bool) (i j : ℕ) → count ≤ 2 ^ 32 → IsCutEdge count flags i j → IsEdgeKey count (key_of i j)
 edge-key count flags i j few e =
     let P : ℕ → ℕ → Type 0 = λ a b. (a < b) × (b < count) in
     let both = by-halves P i j e.differ (omega (arith, few, e.first)) (omega (arith, few, e.last)) (λ r. (r, e.last)) (λ r. (r, e.first)) in

@@ -151,11 +151,11 @@ module _ (f : Form) (s : SheetData) (cells : List (List ℕ)) (keys : List ℕ) 
   -- the crossing between an inside and an outside corner of a cell isn't wide
   between : All (IsNarrowCut values s.points) keys → (cell : List ℕ) (i j : ℕ) → Contains cells cell → Contains cell i → Contains cell j
       → get_or flags i false ≡ true → get_or flags j false ≡ false → IsNarrowEdge f (point_at s.points i) (point_at s.points j)
-  between h cell i j c ci cj yes no =
+  between h cell i j c ci cj on off =
       let tet = All-contains (IsTet (length s.names)) cells cell k.tets c in
       let F : ℕ → Bool = λ r. get_or flags r false in
-      let hi = in-kept F (ascending nat_cmp cell) i (in-ascending nat_cmp_total numbers-exact cell i ci) yes in
-      let hj = in-left F (ascending nat_cmp cell) j (in-ascending nat_cmp_total numbers-exact cell j cj) no in
+      let hi = in-kept F (ascending nat_cmp cell) i (in-ascending nat_cmp_total numbers-exact cell i ci) on in
+      let hj = in-left F (ascending nat_cmp cell) j (in-ascending nat_cmp_total numbers-exact cell j cj) off in
       let key = key_of i j in
       let has = k.has key (cell-key flags cells cell i j c hi hj) in
       let e = cut-edge (length s.names) flags cell i j tet.cell.below hi hj in

@@ -56,9 +56,10 @@ fn clipped(alloc: Global, sheet: &Sheet, form: &Form) -> Result<Clipped, WorkSto
     ensures narrow { OnOk result (AreNarrowCells form.now sheet.now) }
     ensures too_wide { result ≡ Err WorkStop.TooWide → AreNarrowCells form.now sheet.now → ⊥ }
 {
+    let cells = sheet.ranks();
     let values = values(alloc, form, sheet.places())?;
     let inside = insides(alloc, &values)?;
-    let keys = keys_in_order(alloc, &inside, sheet.ranks())?;
+    let keys = keys_in_order(alloc, &inside, cells)?;
     if inside.len() as u64 + keys.len() as u64 >= 1 << 32 {
         return Err(WorkStop::Memory);
     }
@@ -68,6 +69,6 @@ fn clipped(alloc: Global, sheet: &Sheet, form: &Form) -> Result<Clipped, WorkSto
     let corners = corner_leaves(alloc, sheet.leaves(), &ranks)?;
     let cuts = cut_leaves(alloc, sheet.leaves(), &keys)?;
     let numbers = Numbers::new(alloc, &inside, count, keys)?;
-    let tets = tets(alloc, &inside, &numbers, sheet.ranks())?;
+    let tets = tets(alloc, &inside, &numbers, cells)?;
     Ok(Clipped::new(corners, cuts, places, tets))
 }

@@ -3,12 +3,11 @@ use Rattle.std.specs.List.{All, Contains}
 use Rattle.std.proofs.lemmas.List.Elements.{All-get_or, Contains-get_or}
 use Rattle.viz_sheet.specs.Arrays.{ranks_in}
 use Rattle.viz_clip_meaning.specs.Rows.{rows}
-use Rattle.viz_clip.specs.Steps.Corners.{inside_of, outside_of}
+use Rattle.viz_clip.specs.Steps.Corners.{inside_of, last_corners}
 use Rattle.viz_clip.specs.Steps.Keys.{IsTet}
 use Rattle.viz_clip.specs.Steps.Numbers.{CanCut, corner_number, cut_number, numbered_in}
 use Rattle.viz_clip.proofs.MoreLemmas.{flat-more}
-use Rattle.viz_clip.proofs.NumberedLemmas.{can-cut, is-kept, vertices-are, tets-named}
-use Rattle.viz_clip.proofs.PointLemmas.{points-are, cells-narrow, cuts-narrow, values-narrow, keys-cut}
+use Rattle.viz_clip.proofs.NumberedLemmas.{can-cut}
 use Rattle.viz_clip.proofs.tets.tets.Goals as goal
 
 pub push_tets-requires-clause-can : goal.push_tets-requires-clause-can
@@ -23,7 +22,7 @@ push_tets-requires-clause-can c =
     let tet : IsTet (length inside) cell = subst (IsTet (length inside)) (sym c.get.ensures.value) (All-get_or (IsTet (length inside)) cells i [] l c.requires.cells) in
     let can = can-cut inside cells n cell c.requires.numbers tet among in
     let parted = c.corners_of-corners.ensures.parted in
-    subst (λ a. CanCut n a _) (sym parted.first) (subst (λ b. CanCut n (inside_of inside cell) b) (sym parted.last) can)
+    subst (λ a. CanCut n a (last_corners c.corners_of-corners.result)) (sym parted.first) (subst (λ b. CanCut n (inside_of inside cell) b) (sym parted.last) can)
 
 pub loop-i-preserved : goal.loop-i-preserved
 loop-i-preserved c =
