@@ -1,0 +1,8 @@
+//! Laws of clipped volumes. A function that calls one may rest on it.
+
+ghost use Rattle.viz_clip_law.specs.Facets.{FacetsLieInTwo};
+
+/// Each facet of a clipped volume lies in two of its tetrahedra, or in one.
+pub fn facets_lie_in_two()
+    ensures facets { FacetsLieInTwo }
+{}
