@@ -1,9 +1,9 @@
 -- What the passes of a clip make, together.
 use Rattle.std.proofs.Common.{◌≡◌, ℕ, ◌+◌, ◌^◌, ◌<◌, ◌≤◌, ℤ, pos, Bool, List, [], length, map, get_or, refl, sym, ap, ap₂, subst, ◌∙◌, arith}
 use Rattle.std.specs.Prelude.{int_le}
-use Rattle.std.specs.List.{All, flat_map, range_with_len}
+use Rattle.std.specs.List.{All, Contains, flat_map, range_with_len}
 use Rattle.std.proofs.lemmas.List.{length-append, length-map}
-use Rattle.std.proofs.lemmas.List.Elements.{All-contains, Contains-get_or}
+use Rattle.std.proofs.lemmas.List.Elements.{All-contains, All-from_get_or, Contains-get_or}
 use Rattle.viz_fraction.specs.declared.forms.Form.{Form}
 use Rattle.viz_fraction.specs.Forms.{IsNarrowValue, value_of}
 use Rattle.viz_fraction.specs.Points.{IsNarrow, Point}
@@ -12,12 +12,13 @@ use Rattle.viz_sheet.specs.Kept.{kept_rank}
 use Rattle.viz_sheet.proofs.KeptLemmas.{kept-most}
 use Rattle.viz_sheet.specs.Sheet.{SheetData}
 use Rattle.viz_sheet.specs.Ranked.{AreRanks, IsCell, by_names, names_at}
-use Rattle.viz_meaning.specs.Section.{is_inside_at, zero_point}
-use Rattle.viz_meaning.proofs.ListLemmas.{all-map, all-unmap, map-twice}
+use Rattle.viz_meaning.specs.Narrow.{IsNarrowCell}
+use Rattle.viz_meaning.specs.Section.{is_inside_at, point_of, zero_point}
+use Rattle.viz_meaning.proofs.ListLemmas.{all-map, all-unmap, contains-map, map-twice}
 use Rattle.viz_cells.specs.Steps.Crossings.{point_at}
 use Rattle.viz_cells.specs.Steps.Keys.{IsEdgeKey}
 use Rattle.viz_cells.specs.Steps.Numbered.{AreKeysOf}
-use Rattle.viz_cells.proofs.EdgeLemmas.{AreGiven, flags_of}
+use Rattle.viz_cells.proofs.EdgeLemmas.{AreGiven, flags_of, point-named}
 use Rattle.viz_clip_meaning.specs.declared.vertex.Vertex.{Vertex}
 use Rattle.viz_clip_meaning.specs.Clip.{AreNarrowCells, AreTetrahedra, ClippedData, clipped_of, clipped_tets, vertex_point, vertices_of}
 use Rattle.viz_clip.specs.declared.numbers.Numbers.{Numbers}
@@ -27,6 +28,7 @@ use Rattle.viz_clip.specs.Steps.Numbers.{CanNumber, numbered_in, ranks_inside}
 use Rattle.viz_clip.specs.Steps.Vertices.{IsKept, cut_leaves, leaf_at, tets_at, vertices_in}
 use Rattle.viz_clip.proofs.NumberedLemmas.{Clips, IsCutEdge, cut-edge, key-cell, edge-key, is-kept, tets-named, vertices-are}
 use Rattle.viz_clip.proofs.PointLemmas.{Cuts, cells-narrow, cuts-narrow, keys-cut, points-are, values-narrow}
+use Rattle.viz_clip.proofs.ListLemmas.{from-flat}
 use Rattle.viz_clip.proofs.VertexLemmas.{corner_count, inside-below}
 
 -- a sheet of tetrahedra by ranks
@@ -58,6 +60,32 @@ flag-count f s cells b = length-map s.points (is_inside_at f) ∙ b.valid.rule.m
 
 pub are-tets_by : (f : Form) (s : SheetData) (cells : List (List ℕ)) → Base s cells → All (IsTet (length (flags_of f s.points))) cells
 are-tets_by f s cells b = subst (λ m. All (IsTet m) cells) (sym (flag-count f s cells b)) (are-tets s cells b)
+
+-- no value is wide where no cell has a wide number
+pub narrow-points : (f : Form) (s : SheetData) (cells : List (List ℕ)) → Base s cells → AreNarrowCells f s → All (IsNarrowValue f) s.points
+narrow-points f s cells b h =
+    All-from_get_or (IsNarrowValue f) s.points zero_point (λ r l.
+    let below : r < length s.names = omega (arith, b.valid.rule.matched, l) in
+    let from = from-flat (λ c. c) cells r (b.valid.used r below) in
+    let named = names_at s.names from.item in
+    let is_cell = subst (λ (x : List (List (List ℕ))). Contains x named) b.named (contains-map (names_at s.names) cells from.item from.among) in
+    let narrow = All-contains (IsNarrowCell f s) s.cells named h.each is_cell in
+    subst (IsNarrowValue f) (point-named s r (given s cells b) below)
+    (All-contains (λ m. IsNarrowValue f (point_of s m)) named (get_or s.names r []) narrow.values
+    (contains-map (λ q. get_or s.names q []) from.item r from.gives)))
+
+-- cells by ranks have four corners just where they have four names
+pub four-both : (s : SheetData) (cells : List (List ℕ)) → by_names s.names cells ≡ s.cells → (All (λ c. length c ≡ 4) cells → AreTetrahedra s) × (AreTetrahedra s → All (λ c. length c ≡ 4) cells)
+four-both s cells named = (
+  λ h. record {
+      each =
+          subst (All (λ c. length c ≡ 4)) named
+          (all-map (λ c. length c ≡ 4) (names_at s.names) cells (λ i d l. length-map (get_or cells i d) (λ r. get_or s.names r []) ∙ h i d l));
+    },
+  λ h i d l.
+      sym (length-map (get_or cells i d) (λ r. get_or s.names r []))
+      ∙ all-unmap (λ c. length c ≡ 4) (names_at s.names) cells (subst (All (λ c. length c ≡ 4)) (sym named) h.each) i d l,
+)
 
 pub narrow-values : (f : Form) (s : SheetData) → All (IsNarrowValue f) s.points → All IsNarrow (values_in f s)
 narrow-values f s h = all-map IsNarrow (value_of f) s.points (λ i d l. (h i d l).sum)

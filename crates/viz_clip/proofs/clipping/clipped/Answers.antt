@@ -12,7 +12,7 @@ use Rattle.viz_clip.specs.Steps.Cuts.{IsCutAt, IsNarrowCut, kept_points}
 use Rattle.viz_clip.specs.Steps.Keys.{IsTet, cell_keys}
 use Rattle.viz_clip.specs.Steps.Numbers.{CanNumber, numbered_in, ranks_inside}
 use Rattle.viz_clip.specs.Steps.Vertices.{IsKept, cut_leaves, leaf_at, tets_at, vertices_in}
-use Rattle.viz_clip.proofs.MadeLemmas.{Base, are-tets_by, can-number, corners-below, cuts, edges, few-corners, flags-are, kept, narrow-values, points-below, result-is, values_in}
+use Rattle.viz_clip.proofs.MadeLemmas.{Base, are-tets_by, can-number, corners-below, cuts, edges, few-corners, flags-are, kept, narrow-points, narrow-values, points-below, result-is, values_in}
 use Rattle.viz_clip.proofs.PointLemmas.{cells-narrow, cuts-narrow, keys-cut, values-narrow}
 use Rattle.viz_clip.proofs.VertexLemmas.{corner_count}
 use Rattle.viz_clip.proofs.clipping.clipped.Goals as goal
@@ -121,8 +121,8 @@ tets-requires c =
       numbers = subst (λ (l : List Bool). CanNumber l cells n) (sym (c.deref-10.ensures.value ∙ F)) (can-number f s cells keys b of n numbers count keyed few);
     }
 
-pub new-requires : goal.new-requires
-new-requires c =
+pub new-requires-2 : goal.new-requires-2
+new-requires-2 c =
     let f = c.args.form.now in
     let s = c.args.sheet.now in
     let cells = ranks_in c.ranks-cells.result.now in
@@ -199,8 +199,8 @@ returns-clause-value c =
     let is_tets : c.in_ok-tets.tets.items ≡ flat_map (numbered_in flags n) cells =
     c.in_ok-tets.ensures.value ∙ ap (λ (l : List Bool). flat_map (numbered_in l n) cells) (c.deref-10.ensures.value ∙ F) in
     let is_vertices = ap₂ vertices_in is_corners is_cuts in
-    result-is f s cells keys b of n numbers count keyed c.new.result
-    (c.new.ensures.vertices ∙ is_vertices) (c.new.ensures.points ∙ is_points) (c.new.ensures.tets ∙ ap₂ tets_at is_vertices is_tets)
+    result-is f s cells keys b of n numbers count keyed c.new-2.result
+    (c.new-2.ensures.vertices ∙ is_vertices) (c.new-2.ensures.points ∙ is_points) (c.new-2.ensures.tets ∙ ap₂ tets_at is_vertices is_tets)
 
 pub returns-clause-narrow : goal.returns-clause-narrow
 returns-clause-narrow c =
@@ -244,3 +244,26 @@ returns-in_err-places-clause-too_wide c wide narrow =
     (subst (λ (l : List ℤ). All (IsNarrowCut l (points_in c.places-2.result.now)) c.deref-6.result.now) (sym seen_values)
     (subst (λ (p : List Point). All (IsNarrowCut (values_in f s) p) c.deref-6.result.now) (sym P)
     (subst (λ (l : List ℕ). All (IsNarrowCut (values_in f s) s.points) l) (sym seen_keys) (cuts-narrow f s cells keys (cuts f s cells keys b of) narrow))))
+
+pub returns-in_err-values-clause-too_wide : goal.returns-in_err-values-clause-too_wide
+returns-in_err-values-clause-too_wide c wide narrow =
+    let f = c.args.form.now in
+    let s = c.args.sheet.now in
+    let cells = ranks_in c.ranks-cells.result.now in
+    let flags = flags_of f s.points in
+    let b : Base s cells = record { valid = c.ranks-cells.ensures.valid; named = c.ranks-cells.ensures.value; sized = c.requires.level; tetrahedra = c.requires.tetrahedra } in
+    c.in_err-values.ensures.too_wide (search rules) (subst (λ (p : List Point). All (IsNarrowValue f) p) (sym c.places.ensures.value) (narrow-points f s cells b narrow))
+
+pub overflow_cast-count : goal.overflow_cast-count
+overflow_cast-count c =
+    let f = c.args.form.now in
+    let s = c.args.sheet.now in
+    let cells = ranks_in c.ranks-cells.result.now in
+    let flags = flags_of f s.points in
+    let b : Base s cells = record { valid = c.ranks-cells.ensures.valid; named = c.ranks-cells.ensures.value; sized = c.requires.level; tetrahedra = c.requires.tetrahedra } in
+    let V : c.in_ok-values.values.items ≡ values_in f s = c.in_ok-values.ensures.value ∙ ap (map (value_of f)) c.places.ensures.value in
+    let F : c.in_ok-inside.inside.items ≡ flags = c.in_ok-inside.ensures ∙ ap (map (int_le (pos 0))) (c.deref.ensures.value ∙ V) ∙ flags-are f s in
+    let keys = c.in_ok-keys.keys.items in
+    let of : AreKeysOf (cell_keys flags cells) keys = subst (λ (l : List Bool). AreKeysOf (cell_keys l cells) keys) (c.deref-2.ensures.value ∙ F) c.in_ok-keys.ensures.value in
+    let R : c.in_ok-ranks.ranks.items ≡ ranks_inside flags = c.in_ok-ranks.ensures ∙ ap ranks_inside (c.deref-3.ensures.value ∙ F) in
+    omega (arith, few-corners f s, c.if-len.false, c.len.ensures, c.len-2.ensures, c.in_ok-inside.inside.ok.0, c.in_ok-keys.keys.ok.0, c.len-count.ensures, c.in_ok-ranks.ranks.ok.0, ap length F, ap length R)
