@@ -3,6 +3,7 @@ use Rattle.std.proofs.Common.{◌≡◌, ℕ, zero, suc, ◌+◌, ◌<◌, ◌�
 use Rattle.std.specs.Prelude.{◌↔◌, IsTrue}
 use Rattle.std.specs.List.{All, Contains, count_by, flat_map, list_all, list_any}
 use Rattle.std.proofs.lemmas.Bool.{and_parts}
+use Rattle.std.proofs.lemmas.Bool.Decides.{nat_tests}
 use Rattle.std.proofs.lemmas.List.Elements.{All-nil, All-cons, All-contains, Contains-append_cases, Contains-append_left, Contains-append_right, Contains-get_or}
 use Rattle.viz_fraction.specs.declared.forms.Form.{Form}
 use Rattle.viz_sheet.specs.PairNames.{AreNames}
@@ -54,8 +55,7 @@ not-true true e = absurd (true≢false (sym e))
 not-true false e = refl
 
 above-zero : (n : ℕ) → 0 < n → (n == 0) ≡ false
-above-zero zero h = absurd (omega (arith, h))
-above-zero (suc n) h = refl
+above-zero n h = grind (arith, nat_tests)
 
 none-is : (n : ℕ) → (0 < n → ⊥) → n ≡ 0
 none-is zero h = refl
@@ -493,28 +493,25 @@ module _ (f : Form) (s : SheetData) (u v w : Vertex) (sheet : IsSheet s) (names 
   on-four : 0 < total → OnFour (is_in f s) u v w → Law
   on-four above o = at (all_cuts o.i o.j o.k) refl
     where
-      abbrev leaves : List ℕ
-      leaves = o.x.a ∷ o.x.b ∷ o.x.c ∷ o.x.d ∷ []
-
       no-lone : LiesInLone s facet → ⊥
       no-lone l =
           let m = four-in (is_in f s) u v w o (Contains (l.p ∷ l.q ∷ l.r ∷ [])) (l.leaves 0 u (omega arith)) (l.leaves 1 u (omega arith)) (l.leaves 2 u (omega arith)) in
           four-not l.p l.q l.r o.x.a o.x.b o.x.c o.x.d l.pq l.qr o.h.ab o.h.bc o.h.cd m.0 m.1 m.2 m.3
 
-      once : sharing s leaves ≤ 1
+      once : sharing s (four o.x) ≤ 1
       once = simple.once o.x.a o.x.b o.x.c o.x.d o.h.ab o.h.bc o.h.cd
 
       at : (b : Bool) → all_cuts o.i o.j o.k ≡ b → Law
       at true e =
-          let same : total ≡ sharing s leaves =
-          once-each (has_leaves leaves) (has_facet facet) (tets_in f s) s.cells
-          (λ cell c. four-cell f s u v w o cell (cell-of cell c) ∙ ap (λ b. cond (has_leaves leaves cell) (cond b 1 2) 0) e) in
+          let same : total ≡ sharing s (four o.x) =
+          once-each (has_leaves (four o.x)) (has_facet facet) (tets_in f s) s.cells
+          (λ cell c. four-cell f s u v w o cell (cell-of cell c) ∙ ap (λ b. cond (has_leaves (four o.x) cell) (cond b 1 2) 0) e) in
           let is : total ≡ 1 = omega (arith, same, once, above) in
           (inr is, (λ _. inl (sym (all-cut o.x o.i o.j o.k o.is_u o.is_v o.is_w) ∙ e), λ _. is))
       at false e =
-          let same : total ≡ sharing s leaves + sharing s leaves =
-          twice-each (has_leaves leaves) (has_facet facet) (tets_in f s) s.cells
-          (λ cell c. four-cell f s u v w o cell (cell-of cell c) ∙ ap (λ b. cond (has_leaves leaves cell) (cond b 1 2) 0) e) in
+          let same : total ≡ sharing s (four o.x) + sharing s (four o.x) =
+          twice-each (has_leaves (four o.x)) (has_facet facet) (tets_in f s) s.cells
+          (λ cell c. four-cell f s u v w o cell (cell-of cell c) ∙ ap (λ b. cond (has_leaves (four o.x) cell) (cond b 1 2) 0) e) in
           let is : total ≡ 2 = omega (arith, same, once, above) in
           (
             inl is,
