@@ -92,7 +92,7 @@ map-four f rs h = ap (map f) (four-items rs 0 h)
 -- four flags and ranks, parted, are the corners of a cell
 pub parted-first : (inside : List Bool) (cell ranks : List ℕ) → ranks ≡ ascending nat_cmp cell → length cell ≡ 4 → AreApart cell
     → kept (get_or inside (get_or ranks 0 0) false ∷ get_or inside (get_or ranks 1 0) false ∷ get_or inside (get_or ranks 2 0) false ∷ get_or inside (get_or ranks 3 0) false ∷ [])
-        (get_or ranks 0 0 ∷ get_or ranks 1 0 ∷ get_or ranks 2 0 ∷ get_or ranks 3 0 ∷ [])
+    (get_or ranks 0 0 ∷ get_or ranks 1 0 ∷ get_or ranks 2 0 ∷ get_or ranks 3 0 ∷ [])
     ≡ inside_of inside cell
 parted-first inside cell ranks e four apart =
     let len : length ranks ≡ 4 = ap length e ∙ four-ascending cell four apart in
@@ -100,7 +100,7 @@ parted-first inside cell ranks e four apart =
 
 pub parted-last : (inside : List Bool) (cell ranks : List ℕ) → ranks ≡ ascending nat_cmp cell → length cell ≡ 4 → AreApart cell
     → kept (map not (get_or inside (get_or ranks 0 0) false ∷ get_or inside (get_or ranks 1 0) false ∷ get_or inside (get_or ranks 2 0) false ∷ get_or inside (get_or ranks 3 0) false ∷ []))
-        (get_or ranks 0 0 ∷ get_or ranks 1 0 ∷ get_or ranks 2 0 ∷ get_or ranks 3 0 ∷ [])
+    (get_or ranks 0 0 ∷ get_or ranks 1 0 ∷ get_or ranks 2 0 ∷ get_or ranks 3 0 ∷ [])
     ≡ outside_of inside cell
 parted-last inside cell ranks e four apart =
     let len : length ranks ≡ 4 = ap length e ∙ four-ascending cell four apart in

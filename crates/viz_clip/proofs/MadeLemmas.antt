@@ -78,10 +78,10 @@ narrow-points f s cells b h =
 pub four-both : (s : SheetData) (cells : List (List ℕ)) → by_names s.names cells ≡ s.cells → (All (λ c. length c ≡ 4) cells → AreTetrahedra s) × (AreTetrahedra s → All (λ c. length c ≡ 4) cells)
 four-both s cells named = (
   λ h. record {
-      each =
-          subst (All (λ c. length c ≡ 4)) named
-          (all-map (λ c. length c ≡ 4) (names_at s.names) cells (λ i d l. length-map (get_or cells i d) (λ r. get_or s.names r []) ∙ h i d l));
-    },
+    each =
+        subst (All (λ c. length c ≡ 4)) named
+        (all-map (λ c. length c ≡ 4) (names_at s.names) cells (λ i d l. length-map (get_or cells i d) (λ r. get_or s.names r []) ∙ h i d l));
+  },
   λ h i d l.
       sym (length-map (get_or cells i d) (λ r. get_or s.names r []))
       ∙ all-unmap (λ c. length c ≡ 4) (names_at s.names) cells (subst (All (λ c. length c ≡ 4)) (sym named) h.each) i d l,
@@ -155,7 +155,7 @@ module _ (f : Form) (s : SheetData) (cells : List (List ℕ)) (keys : List ℕ) 
 
     pub kept : corner_count (flags_of f s.points) + length keys < 2 ^ 32
         → IsKept (map (leaf_at s.names) (ranks_inside (flags_of f s.points))) (map (cut_leaves s.names) keys)
-            (kept_points (ranks_inside (flags_of f s.points)) (values_in f s) keys s.points) (flat_map (numbered_in (flags_of f s.points) n) cells)
+        (kept_points (ranks_inside (flags_of f s.points)) (values_in f s) keys s.points) (flat_map (numbered_in (flags_of f s.points) n) cells)
     kept few = is-kept f s cells keys n clips (kept_points (ranks_inside (flags_of f s.points)) (values_in f s) keys s.points) point-count few
 
     -- these are the parts of the clipped volume

@@ -63,7 +63,7 @@ none-is (suc n) h = absurd (h (omega arith))
 
 -- ---- members of flattened lists
 
-contains-flat : {X : Type 0} (xss : List (List X)) (xs : List X) (x : X) → Contains xss xs → Contains xs x → Contains (flat_map (λ c. c) xss) x
+pub contains-flat : {X : Type 0} (xss : List (List X)) (xs : List X) (x : X) → Contains xss xs → Contains xs x → Contains (flat_map (λ c. c) xss) x
 contains-flat [] xs x c d = absurd (no_member xs c)
 contains-flat (ys ∷ xss) xs x c d =
     ⊎_elim
@@ -71,12 +71,12 @@ contains-flat (ys ∷ xss) xs x c d =
     (λ k. Contains-append_right ys (flat_map (λ c. c) xss) x (contains-flat xss xs x k d))
     (member_cases ys xss xs c)
 
-record IsFrom {X Y : Type 0} (g : X → List Y) (xs : List X) (y : Y) : Type 0 where
-  item : X
-  among : Contains xs item
-  gives : Contains (g item) y
+pub record IsFrom {X Y : Type 0} (g : X → List Y) (xs : List X) (y : Y) : Type 0 where
+  pub item : X
+  pub among : Contains xs item
+  pub gives : Contains (g item) y
 
-from-flat : {X Y : Type 0} (g : X → List Y) (xs : List X) (y : Y) → Contains (flat_map g xs) y → IsFrom g xs y
+pub from-flat : {X Y : Type 0} (g : X → List Y) (xs : List X) (y : Y) → Contains (flat_map g xs) y → IsFrom g xs y
 from-flat g [] y c = absurd (no_member y c)
 from-flat g (x ∷ xs) y c =
     ⊎_elim
@@ -470,17 +470,17 @@ module _ (f : Form) (s : SheetData) (u v w : Vertex) (sheet : IsSheet s) (names 
         one_or_two total above (omega (arith, same, most)),
         (
           λ e. inr (record {
-              p = o.p;
-              q = o.q;
-              r = o.r;
-              pq = o.pq;
-              qr = o.qr;
-              lone = sym same ∙ e;
-              leaves =
-                  All-cons (λ z. All (Contains (o.p ∷ o.q ∷ o.r ∷ [])) (leaves_at z)) u (v ∷ w ∷ []) (of_three o.i u o.is_u o.flat_i)
-                  (All-cons (λ z. All (Contains (o.p ∷ o.q ∷ o.r ∷ [])) (leaves_at z)) v (w ∷ []) (of_three o.j v o.is_v o.flat_j)
-                  (All-cons (λ z. All (Contains (o.p ∷ o.q ∷ o.r ∷ [])) (leaves_at z)) w [] (of_three o.k w o.is_w o.flat_k) (All-nil (λ z. All (Contains (o.p ∷ o.q ∷ o.r ∷ [])) (leaves_at z)))));
-            }),
+            p = o.p;
+            q = o.q;
+            r = o.r;
+            pq = o.pq;
+            qr = o.qr;
+            lone = sym same ∙ e;
+            leaves =
+                All-cons (λ z. All (Contains (o.p ∷ o.q ∷ o.r ∷ [])) (leaves_at z)) u (v ∷ w ∷ []) (of_three o.i u o.is_u o.flat_i)
+                (All-cons (λ z. All (Contains (o.p ∷ o.q ∷ o.r ∷ [])) (leaves_at z)) v (w ∷ []) (of_three o.j v o.is_v o.flat_j)
+                (All-cons (λ z. All (Contains (o.p ∷ o.q ∷ o.r ∷ [])) (leaves_at z)) w [] (of_three o.k w o.is_w o.flat_k) (All-nil (λ z. All (Contains (o.p ∷ o.q ∷ o.r ∷ [])) (leaves_at z)))));
+          }),
           λ e. ⊎_elim
               (λ cuts. absurd (true≢false (sym cuts ∙ none)))
               (λ l.
@@ -512,8 +512,7 @@ module _ (f : Form) (s : SheetData) (u v w : Vertex) (sheet : IsSheet s) (names 
           let same : total ≡ sharing s (four o.x) + sharing s (four o.x) =
           twice-each (has_leaves (four o.x)) (has_facet facet) (tets_in f s) s.cells
           (λ cell c. four-cell f s u v w o cell (cell-of cell c) ∙ ap (λ b. cond (has_leaves (four o.x) cell) (cond b 1 2) 0) e) in
-          let is : total ≡ 2 = omega (arith, same, once, above) in
-          (
+          let is : total ≡ 2 = omega (arith, same, once, above) in (
             inl is,
             (
               λ one. absurd (omega (arith, is, one)),

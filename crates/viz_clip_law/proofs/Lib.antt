@@ -6,3 +6,4 @@ pub mod CountLemmas
 pub mod MembersLemmas
 pub mod LeafLemmas
 pub mod FacetLaw
+pub mod ZeroLaw

@@ -34,7 +34,9 @@ const PAIR: [[i64; 4]; 5] = [
 ];
 
 const WHOLE: [(u8, [u32; 4]); 1] = [(4, [0, 1, 2, 3])];
+
 const TURNED: [(u8, [u32; 4]); 1] = [(4, [3, 1, 0, 2])];
+
 const BOTH: [(u8, [u32; 4]); 2] = [(4, [0, 1, 2, 3]), (4, [4, 3, 2, 1])];
 
 const fn plane(c: i64, r: i64) -> Form {
@@ -64,7 +66,12 @@ const ROWS: [Row; 7] = [
         points: &CORNER,
         cells: &WHOLE,
         form: plane(2, 1),
-        kept: &[[0, 0, 1, 0, 1], [0, 0, 1, 0, 2], [1, 0, 1, 0, 2], [0, 1, 1, 0, 2]],
+        kept: &[
+            [0, 0, 1, 0, 1],
+            [0, 0, 1, 0, 2],
+            [1, 0, 1, 0, 2],
+            [0, 1, 1, 0, 2],
+        ],
         tets: &[[0, 1, 2, 3]],
     },
     // Three are: a prism.
@@ -102,7 +109,12 @@ const ROWS: [Row; 7] = [
         points: &TOUCHED,
         cells: &WHOLE,
         form: above(0),
-        kept: &[[0, 0, 0, 0, 1], [0, 0, 0, 0, 1], [0, 0, 0, 0, 1], [0, 0, 0, 0, 1]],
+        kept: &[
+            [0, 0, 0, 0, 1],
+            [0, 0, 0, 0, 1],
+            [0, 0, 0, 0, 1],
+            [0, 0, 0, 0, 1],
+        ],
         tets: &[[0, 1, 2, 3]],
     },
     // All are inside, and none is.
@@ -110,7 +122,12 @@ const ROWS: [Row; 7] = [
         points: &CORNER,
         cells: &TURNED,
         form: above(0),
-        kept: &[[0, 0, 0, 0, 1], [1, 0, 0, 0, 1], [0, 1, 0, 0, 1], [0, 0, 1, 0, 1]],
+        kept: &[
+            [0, 0, 0, 0, 1],
+            [1, 0, 0, 0, 1],
+            [0, 1, 0, 0, 1],
+            [0, 0, 1, 0, 1],
+        ],
         tets: &[[0, 1, 2, 3]],
     },
     Row {
@@ -180,7 +197,12 @@ fn is_clipped(alloc: Global, row: &Row) -> bool {
 #[test]
 fn few_cells_are_clipped(rt: HostRuntime) {
     for row in &ROWS {
-        assert!(rt; is_clipped(rt.alloc(), row), "{:?} {:?}", row.form, row.tets);
+        assert!(rt;
+            is_clipped(rt.alloc(), row),
+            "{:?} {:?}",
+            row.form,
+            row.tets
+        );
     }
 }
 
@@ -200,12 +222,7 @@ fn why(answer: Option<Result<Clipped, ClipStop>>) -> Why {
     }
 }
 
-fn refusal(
-    alloc: Global,
-    points: &[[i64; 4]],
-    cells: &[(u8, [u32; 4])],
-    form: &Form,
-) -> Why {
+fn refusal(alloc: Global, points: &[[i64; 4]], cells: &[(u8, [u32; 4])], form: &Form) -> Why {
     match sheet(alloc, points, cells) {
         Some(sheet) => why(tried(alloc, &sheet, form)),
         None => Why::Other,
@@ -221,7 +238,10 @@ const TRIANGLE: [(u8, [u32; 4]); 2] = [(3, [0, 1, 2, 0]), (4, [0, 1, 2, 3])];
 fn other_cells_and_wide_numbers_are_refused(rt: HostRuntime) {
     let a = rt.alloc();
     let wide = plane(1 << 62, 0);
-    assert_eq!(rt; refusal(a, &CORNER, &TRIANGLE, &above(0)), Why::NotTetrahedra);
+    assert_eq!(rt;
+        refusal(a, &CORNER, &TRIANGLE, &above(0)),
+        Why::NotTetrahedra
+    );
     assert_eq!(rt; refusal(a, &FAR, &TRIANGLE, &wide), Why::NotTetrahedra);
     assert_eq!(rt; refusal(a, &FAR, &WHOLE, &wide), Why::TooWide);
     assert_eq!(rt; refusal(a, &FAR, &WHOLE, &plane(1, 0)), Why::Other);

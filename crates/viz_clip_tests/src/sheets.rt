@@ -47,11 +47,7 @@ fn sheet_with(alloc: Global, places: Places, ranks: Ranks) -> Option<Sheet> {
 }
 
 /// The sheet of these points and cells.
-pub(crate) fn sheet(
-    alloc: Global,
-    points: &[[i64; 4]],
-    cells: &[(u8, [u32; 4])],
-) -> Option<Sheet> {
+pub(crate) fn sheet(alloc: Global, points: &[[i64; 4]], cells: &[(u8, [u32; 4])]) -> Option<Sheet> {
     match places_of(alloc, points) {
         Some(places) => match ranks_of(alloc, cells) {
             Some(ranks) => sheet_with(alloc, places, ranks),
