@@ -10,7 +10,8 @@ use viz_sheet::{Mesh, Sheet};
 struct Row {
     points: &'static [[i64; 4]],
     cells: &'static [(u8, [u32; 4])],
-    form: Form,
+    /// The numbers c, q and r of the form; a and b are 0.
+    form: [i64; 3],
     kept: &'static [Five],
     tets: &'static [[u32; 4]],
 }
@@ -39,23 +40,14 @@ const TURNED: [(u8, [u32; 4]); 1] = [(4, [3, 1, 0, 2])];
 
 const BOTH: [(u8, [u32; 4]); 2] = [(4, [0, 1, 2, 3]), (4, [4, 3, 2, 1])];
 
-const fn plane(c: i64, r: i64) -> Form {
+/// The form of these numbers.
+fn form(numbers: &[i64; 3]) -> Form {
+    let [c, q, r] = *numbers;
     Form {
         a: 0,
         b: 0,
         c,
-        q: 0,
-        r,
-    }
-}
-
-/// The scalar above a level.
-const fn above(r: i64) -> Form {
-    Form {
-        a: 0,
-        b: 0,
-        c: 0,
-        q: 1,
+        q,
         r,
     }
 }
@@ -65,7 +57,7 @@ const ROWS: [Row; 7] = [
     Row {
         points: &CORNER,
         cells: &WHOLE,
-        form: plane(2, 1),
+        form: [2, 0, 1],
         kept: &[
             [0, 0, 1, 0, 1],
             [0, 0, 1, 0, 2],
@@ -78,7 +70,7 @@ const ROWS: [Row; 7] = [
     Row {
         points: &CORNER,
         cells: &WHOLE,
-        form: plane(-2, -1),
+        form: [-2, 0, -1],
         kept: &[
             [0, 0, 0, 0, 1],
             [1, 0, 0, 0, 1],
@@ -93,7 +85,7 @@ const ROWS: [Row; 7] = [
     Row {
         points: &TWO,
         cells: &TURNED,
-        form: above(0),
+        form: [0, 1, 0],
         kept: &[
             [1, 0, 0, 1, 1],
             [0, 1, 0, 1, 1],
@@ -108,7 +100,7 @@ const ROWS: [Row; 7] = [
     Row {
         points: &TOUCHED,
         cells: &WHOLE,
-        form: above(0),
+        form: [0, 1, 0],
         kept: &[
             [0, 0, 0, 0, 1],
             [0, 0, 0, 0, 1],
@@ -121,7 +113,7 @@ const ROWS: [Row; 7] = [
     Row {
         points: &CORNER,
         cells: &TURNED,
-        form: above(0),
+        form: [0, 1, 0],
         kept: &[
             [0, 0, 0, 0, 1],
             [1, 0, 0, 0, 1],
@@ -133,7 +125,7 @@ const ROWS: [Row; 7] = [
     Row {
         points: &CORNER,
         cells: &WHOLE,
-        form: above(1),
+        form: [0, 1, 1],
         kept: &[],
         tets: &[],
     },
@@ -141,7 +133,7 @@ const ROWS: [Row; 7] = [
     Row {
         points: &PAIR,
         cells: &BOTH,
-        form: above(0),
+        form: [0, 1, 0],
         kept: &[
             [0, 0, 0, 1, 1],
             [2, 2, 2, 1, 1],
@@ -186,7 +178,7 @@ fn has(mesh: Option<Mesh>, kept: &[Five], tets: &[[u32; 4]]) -> bool {
 fn is_clipped(alloc: Global, row: &Row) -> bool {
     match sheet(alloc, row.points, row.cells) {
         Some(sheet) => has(
-            meshed(alloc, tried(alloc, &sheet, &row.form)),
+            meshed(alloc, tried(alloc, &sheet, &form(&row.form))),
             row.kept,
             row.tets,
         ),
@@ -214,7 +206,7 @@ enum Why {
     Other,
 }
 
-fn why(answer: Option<Result<Clipped, ClipStop>>) -> Why {
+fn reason_of(answer: Option<Result<Clipped, ClipStop>>) -> Why {
     match answer {
         Some(Err(ClipStop::NotTetrahedra)) => Why::NotTetrahedra,
         Some(Err(ClipStop::TooWide)) => Why::TooWide,
@@ -222,9 +214,14 @@ fn why(answer: Option<Result<Clipped, ClipStop>>) -> Why {
     }
 }
 
-fn refusal(alloc: Global, points: &[[i64; 4]], cells: &[(u8, [u32; 4])], form: &Form) -> Why {
+fn refusal(
+    alloc: Global,
+    points: &[[i64; 4]],
+    cells: &[(u8, [u32; 4])],
+    numbers: &[i64; 3],
+) -> Why {
     match sheet(alloc, points, cells) {
-        Some(sheet) => why(tried(alloc, &sheet, form)),
+        Some(sheet) => reason_of(tried(alloc, &sheet, &form(numbers))),
         None => Why::Other,
     }
 }
@@ -237,12 +234,10 @@ const TRIANGLE: [(u8, [u32; 4]); 2] = [(3, [0, 1, 2, 0]), (4, [0, 1, 2, 3])];
 #[test]
 fn other_cells_and_wide_numbers_are_refused(rt: HostRuntime) {
     let a = rt.alloc();
-    let wide = plane(1 << 62, 0);
-    assert_eq!(rt;
-        refusal(a, &CORNER, &TRIANGLE, &above(0)),
-        Why::NotTetrahedra
-    );
+    let above = [0, 1, 0];
+    let wide = [1 << 62, 0, 0];
+    assert_eq!(rt; refusal(a, &CORNER, &TRIANGLE, &above), Why::NotTetrahedra);
     assert_eq!(rt; refusal(a, &FAR, &TRIANGLE, &wide), Why::NotTetrahedra);
     assert_eq!(rt; refusal(a, &FAR, &WHOLE, &wide), Why::TooWide);
-    assert_eq!(rt; refusal(a, &FAR, &WHOLE, &plane(1, 0)), Why::Other);
+    assert_eq!(rt; refusal(a, &FAR, &WHOLE, &[1, 0, 0]), Why::Other);
 }
