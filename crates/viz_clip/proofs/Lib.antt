@@ -1,0 +1,12 @@
+pub mod AddedLemmas
+pub mod CornerLemmas
+pub mod RowLemmas
+pub mod MoreLemmas
+pub mod ListLemmas
+pub mod CellLemmas
+pub mod VertexLemmas
+pub mod NumberedLemmas
+pub mod CutLemmas
+pub mod PointLemmas
+pub mod MeshLemmas
+pub mod MadeLemmas

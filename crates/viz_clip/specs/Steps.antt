@@ -1,0 +1,5 @@
+pub mod Corners
+pub mod Keys
+pub mod Numbers
+pub mod Cuts
+pub mod Vertices
