@@ -9,6 +9,7 @@
 mod arity;
 mod command;
 mod edits;
+mod files;
 mod lines;
 mod names;
 mod numbers;
@@ -21,6 +22,7 @@ mod verbs;
 pub use arity::{due, four, one, three, two};
 pub use command::{Command, Verb};
 pub use edits::edit_in;
+pub use files::{FileName, name_text};
 pub use lines::{is_plain, is_skipped, next_line};
 pub use names::{array_name, file_name, node_name};
 pub use numbers::{natural, number};

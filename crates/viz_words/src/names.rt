@@ -6,6 +6,7 @@ ghost use Rattle.viz_base.specs.Names.{is_name, IsName};
 ghost use Rattle.viz_words.specs.Names.{is_node_byte, is_file_byte, is_array_byte, begins_name};
 ghost use Rattle.viz_words.specs.Names.{is_node_name, is_file_name, is_array_name, named_in};
 
+use crate::files::FileName;
 use crate::refusal::ScriptRefusal;
 use viz_base::Word;
 
@@ -72,11 +73,11 @@ pub fn node_name(text: &[u8]) -> Result<Word, ScriptRefusal>
 }
 
 /// The name of a file: 1 to 64 letters, digits, `_`, `-` or `.`, the first neither `-` nor `.`.
-pub fn file_name(text: &[u8]) -> Result<Word, ScriptRefusal>
+pub fn file_name(text: &[u8]) -> Result<FileName, ScriptRefusal>
     ensures value { result ≡ named_in is_file_name text.now }
 {
     if is_name(text) && begins_name(text) && are_file_bytes(text) {
-        Ok(Word::new(text).unwrap())
+        Ok(FileName::of(Word::new(text).unwrap()))
     } else {
         Err(ScriptRefusal::Name)
     }
