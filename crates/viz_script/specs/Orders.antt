@@ -1,5 +1,5 @@
 -- The commands of a script, with their refusals (docs/FORMATS.md, "Scripts").
-use Rattle.std.specs.Prelude.{ℕ, List, Result, Ok}
+use Rattle.std.specs.Prelude.{◌≡◌, ℕ, true, List, Result, Ok}
 use Rattle.viz_network.specs.declared.edit.Edit.{Edit}
 use Rattle.viz_words.specs.declared.refusal.ScriptRefusal.{ScriptRefusal}
 use Rattle.viz_words.specs.declared.command.Verb.{Verb}
@@ -24,6 +24,12 @@ seen (order.Do e) = edit e
 seen (order.Load node file) = load node file
 seen (order.Update node file shape) = update node file shape.pieces shape.workers
 seen (order.Audit node shape) = audit node shape.pieces shape.workers
+
+-- what the command names as a file is the name of one
+abbrev pub NamesFile : Asked → Type 0
+NamesFile (load node file) = is_file_name file ≡ true
+NamesFile (update node file pieces workers) = is_file_name file ≡ true
+NamesFile _ = Unit {0}
 
 -- NODE FILE
 unfoldable pub load_in : List (List ℕ) → Result Asked ScriptRefusal

@@ -3,6 +3,7 @@
 use Rattle.std.specs.Prelude.{◌≡◌, ℕ, ℤ, pos, ◌+◌, Bool, ◌&&◌, ◌||◌, ◌==◌, nat_lt, int_le}
 use Rattle.std.specs.Prelude.{unsigned_abs, List, [], ◌∷◌, map, length, codes, Option, None, Some}
 use Rattle.std.specs.Prelude.{Result, Ok, Err, if◌then◌else◌}
+use Rattle.std.specs.List.{AllByRecursion}
 use Rattle.viz_kinds.specs.Values.{is_text}
 use Rattle.viz_words.specs.declared.refusal.ScriptRefusal.{ScriptRefusal}
 use Rattle.viz_words.specs.declared.refusal.ScriptRefusal.TheVariants as refusal
@@ -15,7 +16,7 @@ use Rattle.viz_words.specs.Numbers.{number_of}
 use Rattle.viz_words.specs.Commands.{verb_of, due}
 use Rattle.viz_script.specs.declared.order.Step.{Step}
 use Rattle.viz_script.specs.declared.order.Script.{Script}
-use Rattle.viz_script.specs.Orders.{Asked, seen, order_in}
+use Rattle.viz_script.specs.Orders.{Asked, seen, order_in, NamesFile}
 
 -- what a line says
 pub data Line : Type 0 where
@@ -113,3 +114,7 @@ abbrev pub Reads : Result Script ScriptStop → Result (List Stepped) Stop → T
 Reads (Ok script) read = read ≡ Ok (map stepped script.steps.items)
 Reads (Err (Refused line refusal)) read = read ≡ Err (line, refusal)
 Reads (Err Memory) read = Unit {0}
+
+-- each command of the script that names a file has a file's name
+abbrev pub NamesFiles : Script → Type 0
+NamesFiles script = AllByRecursion (λ step. NamesFile (seen step.order)) script.steps.items

@@ -2,6 +2,7 @@
 
 use viz_base::{Shape, Word};
 use viz_network::Edit;
+use viz_words::FileName;
 
 /// A command of a script.
 #[derive(Debug, Drop)]
@@ -11,12 +12,12 @@ pub enum Order {
     /// Loads a file into a node.
     Load {
         node: Word,
-        file: Word,
+        file: FileName,
     },
     /// Writes the result of a node to a file.
     Update {
         node: Word,
-        file: Word,
+        file: FileName,
         shape: Shape,
     },
     /// Counts the sides of a node's surface.

@@ -1,8 +1,8 @@
 //! The steps of a script.
 
-ghost use Rattle.std.specs.Prelude.{◌≡◌, ◌≤◌, map, length};
+ghost use Rattle.std.specs.Prelude.{◌≡◌, ◌≤◌, IfOk, map, length};
 ghost use Rattle.viz_words.specs.Lines.{lines_of};
-ghost use Rattle.viz_script.specs.Script.{stepped, steps_from, script_of, Reads};
+ghost use Rattle.viz_script.specs.Script.{stepped, steps_from, script_of, NamesFiles, Reads};
 ghost use Rattle.viz_script.specs.Steps.Loop.{heard_result, Goes, ReadsSteps};
 
 use crate::line::{Said, line_in};
@@ -97,6 +97,7 @@ fn steps_of(alloc: Global, text: &[u8], actors: u32, lines: usize) -> Result<Vec
 /// first refusal of the first line that has one. Want of memory may come in place of a result.
 pub fn parse(alloc: Global, bytes: &[u8], actors: u32) -> Result<Script, ScriptStop>
     ensures reads { Reads result (script_of actors bytes.now) }
+    ensures names { IfOk result NamesFiles }
 {
     if bytes.len() > BYTES {
         return Err(too_long());

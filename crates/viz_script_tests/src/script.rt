@@ -160,10 +160,10 @@ fn bytes_lines_and_phases_are_bounded(rt: HostRuntime) -> Result<(), Fail> {
 fn order_of(order: &Order) -> (&[u8], &[u8], i64, i64) {
     match order {
         Order::Do(edit) => edit_of(edit),
-        Order::Load { node, file } => (node.bytes(), file.bytes(), -1, 0),
+        Order::Load { node, file } => (node.bytes(), file.text().as_bytes(), -1, 0),
         Order::Update { node, file, shape } => (
             node.bytes(),
-            file.bytes(),
+            file.text().as_bytes(),
             i64::from(shape.pieces),
             i64::from(shape.workers),
         ),
