@@ -29,6 +29,6 @@ pub use laws::{
 };
 pub use parts::UpdateParts;
 pub use surface_laws::{audits_are_closed, audits_are_one};
-pub use updating::{update, update_from_scratch, word_text};
+pub use updating::{update, update_from_scratch};
 pub use viz_report::{Line, Reason};
 pub use viz_surface_law::Counts;

@@ -1,7 +1,6 @@
 //! An update: a node's file is written.
 
-ghost use Rattle.std.specs.Prelude.{◌≡◌, ◌↔◌, IfSome, IsSome};
-ghost use Rattle.std.specs.Str.{IsUtf8};
+ghost use Rattle.std.specs.Prelude.{◌≡◌, IfSome};
 ghost use Rattle.viz_account.specs.Answers.{line_of, at_of, missing_in, HandsOut, IsNamed};
 ghost use Rattle.viz_account.specs.Served.{Updates, Writes};
 ghost use Rattle.viz_account.specs.Steps.Made.{WritesText, IsPlanned};
@@ -18,14 +17,6 @@ use std::thread::Threads;
 use viz_base::{Gate, NodeId, Port, Shape, Word, WriteRefusal};
 use viz_network::Net;
 use viz_parts::Stored;
-
-/// The text of a file's name, as a port takes it; None where it is no text. It takes no memory.
-pub fn word_text(file: &Word) -> Option<&str>
-    ensures value { IfSome result (λ name. name.now ≡ file.now) }
-    ensures some { IsSome result ↔ IsUtf8 file.now }
-{
-    std::str::from_utf8(file.bytes()).ok()
-}
 
 // Writes the text of a file, for which so many tasks ran.
 fn write_made<P: Port>(

@@ -12,13 +12,13 @@ use crate::updating::{audit_node, update};
 use std::alloc::{AllocError, Global};
 use std::sync::Wait;
 use std::thread::Threads;
-use viz_account::word_text;
 use viz_base::{Bytes, Gate, Port, ReadRefusal, Shape, Shared, Word};
 use viz_history::EditAnswer;
 use viz_hub::{Hub, Pass};
 use viz_network::Edit;
 use viz_report::{Line, Reason};
 use viz_script::{Order, Step};
+use viz_words::FileName;
 
 // The line of an edit's answer.
 fn edit_line(answer: EditAnswer) -> Line
@@ -120,7 +120,7 @@ fn load<R: Wait, P: Port>(
     pass: &mut Pass,
     port: &mut P,
     node: &Word,
-    file: &Word,
+    file: &FileName,
 ) -> Line
     requires belongs { pass.old.turn ≡ hub.now }
     ensures same { pass.new ≡ at_seen pass.old pass.new.seen }
@@ -128,10 +128,7 @@ fn load<R: Wait, P: Port>(
         (Rattle.viz_script.specs.Orders.load node.now file.now) result
         pass.old.seen pass.new.seen port.old port.new }
 {
-    let Some(name) = word_text(file) else {
-        return Line::Memory;
-    };
-    match port.read(alloc, name) {
+    match port.read(alloc, file.text()) {
         Ok(bytes) => store(rt, alloc, hub, pass, node, bytes),
         Err(ReadRefusal::TooLong(_)) => Line::Refused {
             reason: Reason::TooLong,
@@ -151,7 +148,7 @@ fn write<R: Threads + Wait + Sync, P: Port, G: Gate + Sync>(
     port: &mut P,
     gate: &G,
     node: &Word,
-    file: &Word,
+    file: &FileName,
     shape: &Shape,
 ) -> (Pass, Line)
     requires belongs { pass.turn ≡ hub.now }
@@ -160,10 +157,7 @@ fn write<R: Threads + Wait + Sync, P: Port, G: Gate + Sync>(
         (Rattle.viz_script.specs.Orders.update node.now file.now shape.now.pieces
         shape.now.workers) result.1 pass.seen result.0.seen port.old port.new }
 {
-    let Some(name) = word_text(file) else {
-        return (pass, Line::Memory);
-    };
-    let (pass, answer) = update(rt, alloc, hub, pass, node, name, shape, port, gate);
+    let (pass, answer) = update(rt, alloc, hub, pass, node, file.text(), shape, port, gate);
     (pass, answer.line())
 }
 

@@ -4,7 +4,7 @@ use crate::story::Story;
 use std::alloc::Global;
 use std::process::Abort;
 use std::test::Fail;
-use viz_account::{Answer, AuditAnswer, update_from_scratch, word_text};
+use viz_account::{Answer, AuditAnswer, update_from_scratch};
 use viz_base::{Bytes, FILE_LIMIT, FailAt, MemoryPort, Shared, Word};
 use viz_network::{ApplyStop, Cause, Edit, Fault, Kind, Net, Param, Value};
 use viz_report::{Line, Reason};
@@ -152,6 +152,5 @@ fn answers_have_their_lines(rt: HostRuntime) -> Result<(), Fail> {
     assert!(rt; AuditAnswer::Unknown { at: 4 }.line() == unknown);
     assert!(rt; Answer::WriteFault { at: 4 }.line() == Line::WriteFault);
     assert!(rt; AuditAnswer::Memory.line() == Line::Memory);
-    assert!(rt; word_text(&word("o.vtk")?) == Some("o.vtk"));
     Ok(())
 }

@@ -1,4 +1,3 @@
-pub mod CommandLemmas
 pub mod NumberLemmas
 pub mod NetworkLemmas
 pub mod GivenLemmas

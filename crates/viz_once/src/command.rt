@@ -6,7 +6,7 @@ ghost use Rattle.viz_once.specs.Commands.{command_view};
 ghost use Rattle.viz_words.specs.Names.{is_file_name};
 
 use viz_base::Bytes;
-use viz_words::{file_name, number};
+use viz_words::{file_name, name_text, number};
 
 /// What a command does with a dataset.
 #[derive(Clone, Copy, PartialEq, Eq, Debug)]
@@ -44,10 +44,7 @@ pub fn file_name_text(word: &[u8]) -> Option<&str>
     if !is_file_name(word) {
         return None;
     }
-    match std::str::from_utf8(word) {
-        Ok(name) => Some(name),
-        Err(_) => None,
-    }
+    Some(name_text(word))
 }
 
 /// The contour of its words.

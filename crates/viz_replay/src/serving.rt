@@ -8,10 +8,10 @@ ghost use Rattle.viz_replay.specs.Served.{replay_of, IsServed};
 use crate::came::Came;
 use crate::network::network_of;
 use std::alloc::Global;
-use viz_account::{update_from_scratch, word_text};
+use viz_account::update_from_scratch;
 use viz_base::{Port, ReadRefusal, Word};
 use viz_journal::{JournalEntry, read_journal};
-use viz_words::{ScriptRefusal, ScriptStop};
+use viz_words::{FileName, ScriptRefusal, ScriptStop};
 
 /// The words of the command.
 #[derive(Clone, Copy, Debug)]
@@ -23,7 +23,7 @@ pub struct Replay<'a> {
     /// The node whose file is written.
     pub sink: Word,
     /// The name of that file.
-    pub output: Word,
+    pub output: FileName,
 }
 
 /// How many entries count.
@@ -51,11 +51,8 @@ fn serve_entries<P: Port>(
     let Ok(net) = network_of(alloc, entries, command.count) else {
         return Came::Memory;
     };
-    let Some(file) = word_text(&command.output) else {
-        return Came::Memory;
-    };
     let at = entries_at(command.count, entries);
-    let answer = update_from_scratch(alloc, &net, at, port, &command.sink, file);
+    let answer = update_from_scratch(alloc, &net, at, port, &command.sink, command.output.text());
     Came::Updated(answer.line())
 }
 
