@@ -32,7 +32,7 @@ use Rattle.viz_report.specs.declared.line.Line.{Line}
 use Rattle.viz_report.specs.declared.line.Line.TheVariants as line
 use Rattle.viz_report.specs.declared.line.Reason.TheVariants as reason
 use Rattle.viz_account.specs.Answers.{audit_line_of, line_of, HandsOut}
-use Rattle.viz_account.specs.Lines.{TellsUpdate, TellsAudit, Tells}
+use Rattle.viz_account.specs.Lines.{TellsUpdate, TellsAudit}
 use Rattle.viz_account.specs.Account.{edited, least, places_from, places, AreTold, faults_told, RoseBy}
 use Rattle.viz_account.specs.Served.{Extends, Serves, ServesAll}
 use Rattle.viz_account.specs.declared.answer.Answer.{Answer}
@@ -318,17 +318,6 @@ serves_audit m p new node shape a q on u =
       );
       faults = subst (λ k. RoseBy k (m.faults q) (m.faults q)) (sym still.2)
           (rose_none (m.faults q));
-    }
-
--- a command for which memory was wanting before anything was done
-pub serves_nothing : {P : Type 0} (m : port.Ghosts P) (limit pass : ℕ) (o : Asked) (h : List Entry) (q : P)
-    → Tells limit h (pass ∷ []) (length h) o line.Memory [] → Serves m limit pass o line.Memory h h q q
-serves_nothing m limit pass o h q told =
-    record {
-      further = ([], sym (append-nil h));
-      own = sym (append-nil (places (pass ∷ []) h));
-      gained = (length h, [], (λ tells. sym (append-nil (m.calls q))), told, omega arith, omega arith);
-      faults = rose_none (m.faults q);
     }
 
 -- ---- commands of an actor among steps

@@ -1,4 +1,4 @@
-use Rattle.std.proofs.Common.{◌≡◌, ◌++◌, [], ◌∷◌, IsTrue, inl, refl, subst, ap, rules}
+use Rattle.std.proofs.Common.{◌≡◌, ◌++◌, [], ◌∷◌, IsTrue, subst, ap, rules}
 use Rattle.viz_base.specs.declared.call.Call.TheVariants.{Read}
 use Rattle.viz_base.specs.declared.call.ReadAnswer.TheVariants as read
 use Rattle.viz_script.specs.Orders.{load}
@@ -6,12 +6,8 @@ use Rattle.viz_report.specs.declared.line.Line.TheVariants as line
 use Rattle.viz_report.specs.declared.line.Reason.TheVariants as reason
 use Rattle.viz_account.specs.Account.{RoseBy}
 use Rattle.viz_account.specs.Served.{Serves}
-use Rattle.viz_actor.proofs.ServeLemmas.{serves_too_long, serves_nothing}
+use Rattle.viz_actor.proofs.ServeLemmas.{serves_too_long}
 use Rattle.viz_actor.proofs.serving.load.Goals as goal
-
-pub returns-in_default-clause-serves : goal.returns-in_default-clause-serves
-returns-in_default-clause-serves g c =
-    serves_nothing g.P.Port c.args.hub.now.mark c.args.pass.now.number (load c.args.node.now c.args.file.now) c.args.pass.now.seen c.args.port.now (inl refl)
 
 pub returns-in-Err-TooLong-clause-serves : goal.returns-in-Err-TooLong-clause-serves
 returns-in-Err-TooLong-clause-serves g c =
