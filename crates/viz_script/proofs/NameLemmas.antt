@@ -124,6 +124,6 @@ seen-names [] h = tt
 seen-names (step ∷ steps) h = (h.0, seen-names steps h.1)
 
 -- each command of what was read names a file by a file's name
-pub read-names : (actors : ℕ) (texts : List (List ℕ)) (steps : List Step)
+pub read_names : (actors : ℕ) (texts : List (List ℕ)) (steps : List Step)
     → steps_from actors 1 1 texts ≡ Ok (map stepped steps) → AllByRecursion (λ step. NamesFile (seen step.order)) steps
-read-names actors texts steps read = seen-names steps (IfOk-at_ok AllName read (steps-names actors 1 1 texts))
+read_names actors texts steps read = seen-names steps (IfOk-at_ok AllName read (steps-names actors 1 1 texts))
