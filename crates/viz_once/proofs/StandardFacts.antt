@@ -8,7 +8,7 @@ use Rattle.viz_network.specs.declared.fault.Cause.{Cause}
 use Rattle.viz_network.specs.declared.fault.Cause.TheVariants as cause
 use Rattle.viz_report.specs.declared.line.Reason.{Reason}
 use Rattle.viz_report.specs.declared.line.Reason.TheVariants as reason
-use Rattle.viz_once.specs.declared.command.Filter.TheVariants.{Threshold, Contour}
+use Rattle.viz_once.specs.declared.command.NodeFilter.TheVariants.{Threshold, Contour}
 use Rattle.viz_once.specs.Command.{Command, file_name_of, filter_of, once_of}
 use Rattle.viz_once.specs.FixedHistory.{source, op, source_id, op_id}
 use Rattle.viz_once.specs.Report.{file_line, refused_line}
