@@ -1,6 +1,8 @@
 -- What the work on a dataset comes to.
-use Rattle.std.proofs.Common.{◌≡◌, ◌⊎◌, ℕ, List, [], ◌∷◌, length, map, Some, Result, Ok, Err, refl, sym, ap, subst, ◌∙◌, append-nil, inl, inr}
+use Rattle.std.proofs.Common.{◌≡◌, ◌⊎◌, ℕ, ◌≤◌, List, [], ◌∷◌, length, map, Some, Result, Ok, Err, refl, sym, ap, subst, ◌∙◌, append-nil, inl, inr}
+use Rattle.std.specs.List.{All}
 use Rattle.std.proofs.lemmas.List.{length-map}
+use Rattle.std.proofs.lemmas.List.Elements.{All-head}
 use Rattle.viz_base.specs.declared.node.NodeId.{NodeId}
 use Rattle.viz_base.specs.declared.node.Pick.TheVariants.{First}
 use Rattle.viz_dataset.specs.declared.dataset.Dataset.{Dataset}
@@ -20,8 +22,9 @@ use Rattle.viz_reshape.specs.declared.reshape.Reshape.{Reshape}
 use Rattle.viz_reshape.specs.declared.reshape.MadeFile.{MadeFile}
 use Rattle.viz_reshape.specs.declared.stop.MakeStop.{MakeStop}
 use Rattle.viz_reshape.specs.declared.stop.MakeStop.TheVariants.{Cause as Caused, Memory}
-use Rattle.viz_reshape.specs.Reshape.{Demands, IsClipOf, IsMadeOf, IsOfClip, IsReshaped, IsWritten}
-use Rattle.viz_reshape.specs.Steps.Work.{IsClipMesh, Makes, stop_at}
+use Rattle.viz_strip_write.specs.StripText.{IsFlat}
+use Rattle.viz_reshape.specs.Reshape.{Demands, HasNoTetrahedra, IsClipOf, IsMadeOf, IsOfClip, IsReshaped, IsWritten}
+use Rattle.viz_reshape.specs.Steps.Work.{IsClipMesh, IsOneSheet, Makes, stop_at}
 
 -- ---- results
 
@@ -96,3 +99,14 @@ op_stopped reshape source op bytes d Memory read h = tt
 pub made : (reshape : Reshape) (source op : NodeId) (bytes : List ℕ) (d : Dataset) (x : MadeFile) → IsReadingOf First 0 (Some bytes) (Ok d) → IsMadeOf reshape d (Ok x)
     → IsReshaped reshape source.0 op.0 bytes (Ok x)
 made reshape source op bytes d x read h = (Ok d, read, (Ok x, h, refl))
+
+-- ---- strips
+
+-- a mesh of one sheet of leaves without tetrahedra may be written with strips
+pub is-flat : (sheets : List SheetData) → IsOneSheet sheets → HasNoTetrahedra sheets → IsFlat sheets
+is-flat sheets h small = record {
+  sheet = h.sheet;
+  one = h.one;
+  leaves = h.leaves;
+  small = All-head (λ (s : SheetData). All (λ cell. length cell ≤ 3) s.cells) h.sheet [] (subst (All (λ (s : SheetData). All (λ cell. length cell ≤ 3) s.cells)) h.one small.each);
+}
