@@ -17,7 +17,8 @@ DONE = (0, b"file cells 0 points 4\n")
 USAGE = (1, b"vizrun: usage\n")
 # What help names: the words, and the statuses.
 HELP = [b"\n  once IN OUT threshold LO HI ", b"\n  once IN OUT contour V ", b"\n  strip IN OUT ",
-        b"\n  clip IN OUT A B C R ", b"\n  run SCRIPT JOURNAL ", b"\n  scratch JOURNAL N SINK OUT ", b"\n  make NUMBER NX NY NZ OUT ", b"--dir", b"--progress"]
+        b"\n  clip IN OUT A B C R ", b"\n  run SCRIPT JOURNAL ", b"\n  scratch JOURNAL N SINK OUT ",
+        b"\n  make NUMBER NX NY NZ OUT ", b"--dir", b"--progress"]
 HELP += [b"\n  %d  " % status for status in range(6)]
 # Words that are no command.
 NONE = [[], ["--help", "x"], ["x", "--help"], ["--version", "--help"], ["--dir"], ["--dir", "folder"],
