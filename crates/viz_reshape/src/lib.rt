@@ -16,5 +16,5 @@ mod strips;
 mod whole;
 
 pub use laws::reshapes_are_one;
-pub use reshape::{FileCounts, Reshape, MadeFile};
+pub use reshape::{FileCounts, MadeFile, Reshape};
 pub use whole::reshape_file;

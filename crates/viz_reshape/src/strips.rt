@@ -51,18 +51,14 @@ fn file_of(stripped: Stripped, points: u64) -> MadeFile
     ensures counts { result.counts
         ≡ FileCounts.Strips stripped.strips stripped.triangles points }
 {
-    let Stripped {
-        text,
-        strips,
-        triangles,
-    } = stripped;
+    let counts = FileCounts::Strips {
+        strips: stripped.strips,
+        triangles: stripped.triangles,
+        points,
+    };
     MadeFile {
-        text,
-        counts: FileCounts::Strips {
-            strips,
-            triangles,
-            points,
-        },
+        text: stripped.text,
+        counts,
     }
 }
 

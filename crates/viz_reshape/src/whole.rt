@@ -7,7 +7,7 @@ ghost use Rattle.viz_reshape.specs.Steps.Work.{IsOneIn, Makes, stop_at};
 
 use crate::clips::{clip_of, plane_form};
 use crate::reading::dataset_of;
-use crate::reshape::{Reshape, MadeFile};
+use crate::reshape::{MadeFile, Reshape};
 use crate::stop::MakeStop;
 use crate::strips::strips_of;
 use std::alloc::Global;
