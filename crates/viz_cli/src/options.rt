@@ -10,6 +10,9 @@ const COMMANDS: &str = "\
 WORDS are one of:
   once IN OUT threshold LO HI  keep the values of an image from LO to HI
   once IN OUT contour V        cut the surface at V out of an image or a mesh
+  strip IN OUT                 write the triangles of a mesh as strips
+  clip IN OUT A B C R          keep what of an image's or a grid's tetrahedra lies
+                               where A x + B y + C z is at least R
   run SCRIPT JOURNAL           serve a script, keep its edits and put a report
   scratch JOURNAL N SINK OUT   write the file of SINK after the first N edits
   make NUMBER NX NY NZ OUT     write a volume made of a number, and audit it

@@ -10,7 +10,6 @@ use Rattle.viz_base.specs.declared.call.WriteAnswer.TheVariants as write
 use Rattle.viz_network.specs.declared.fault.Fault.{Fault}
 use Rattle.viz_report.specs.declared.line.Reason.{Reason}
 use Rattle.viz_report.specs.declared.line.Reason.TheVariants as reason
-use Rattle.viz_scratch.specs.Laws.{FilesAreOne}
 use Rattle.viz_told.specs.declared.status.Status.{Status}
 use Rattle.viz_told.specs.declared.status.Status.TheVariants as status
 use Rattle.viz_told.specs.Calls.{HasFailed}
@@ -23,23 +22,23 @@ use Rattle.viz_once.specs.declared.outcome.Outcome.TheVariants as outcome
 use Rattle.viz_once.specs.Account.{Deed, Nothing, Asked, Answered, calls_of, IsOutcomeOf, Serves}
 use Rattle.viz_once.specs.Command.{Command}
 use Rattle.viz_once.specs.Complete.{Came, EndsBy, IsComplete}
-use Rattle.viz_once.specs.FixedHistory.{network_for, op_id}
 use Rattle.viz_once.specs.Reasons.{IsReason}
 use Rattle.viz_once.specs.Report.{status_of, telling_of}
+use Rattle.viz_once.proofs.ReasonLemmas.{FiltersAreOne, made_file}
 
 -- a command with a reason for its refusal didn't come to what it asked for
-no_came : FilesAreOne → (filter : Filter) (answer : ReadAnswer) (why : Reason) → IsReason filter answer why → Came filter answer → ⊥
+no_came : FiltersAreOne → (filter : Filter) (answer : ReadAnswer) (why : Reason) → IsReason filter answer why → Came filter answer → ⊥
 no_came files filter (read.TooLong taken) why is c = c
 no_came files filter read.Failed why is c = c
 no_came files filter (read.Given bytes) (reason.Fault fault name) is c =
-    let bad : (let r : Result (List ℕ) Fault = Ok c.0 in r) ≡ Err fault = files (network_for filter bytes) op_id (Ok c.0) (Err fault) c.1 is.file in
+    let bad : (let r : Result (List ℕ) Fault = Ok c.0 in r) ≡ Err fault = files filter bytes (Ok c.0) (Err fault) c.1 is.file in
     cc
 no_came files filter (read.Given bytes) (reason.Edit r) is c = is
 no_came files filter (read.Given bytes) reason.Full is c = is
 no_came files filter (read.Given bytes) reason.TooLong is c = is
 no_came files filter (read.Given bytes) reason.Unknown is c = is
 
-module _ {O : Type 0} (files : FilesAreOne) (o : out.Ghosts O) (c : Command) (before after : O) (ended : Status) (found : Outcome)
+module _ {O : Type 0} (files : FiltersAreOne) (o : out.Ghosts O) (c : Command) (before after : O) (ended : Status) (found : Outcome)
     (told : IsTold o (telling_of found) ended before after) (quiet : Rose (o.faults before) (o.faults after) → ⊥) where
   by_outcome : (r : Outcome) → found ≡ r → (ended ≡ status_of r) ⊎ (ended ≡ status.Memory)
   by_outcome r is = ends_whole o before after ended (telling_of r) (subst (λ (x : Outcome). IsTold o (telling_of x) ended before after) is told) quiet
@@ -61,13 +60,13 @@ module _ {O : Type 0} (files : FilesAreOne) (o : out.Ghosts O) (c : Command) (be
   ]
   ends_by (Asked (read.TooLong taken)) h none = refused (read.TooLong taken) h.0 h.1 h.2
   ends_by (Asked read.Failed) h none = absurd (none tt)
-  ends_by (Answered bytes text write.Written) h none = elim (by_outcome (outcome.Written h.0 h.1) h.3) [
-    | inl e ↦ inl (e, (text, h.2.file))
+  ends_by (Answered bytes text write.Written) h none = elim (by_outcome (outcome.Written h.0) h.2) [
+    | inl e ↦ inl (e, (text, made_file c.filter bytes text h.0 h.1))
     | inr memory ↦ inr (inr memory)
   ]
   ends_by (Answered bytes text write.Failed) h none = absurd (none tt)
 
-pub complete-Run : {P O : Type 0} → FilesAreOne → (m : port.Ghosts P) (o : out.Ghosts O) (c : Command) (old new : List P) (before after : O) (found : Outcome) (ended : Status)
+pub complete-Run : {P O : Type 0} → FiltersAreOne → (m : port.Ghosts P) (o : out.Ghosts O) (c : Command) (old new : List P) (before after : O) (found : Outcome) (ended : Status)
     → Serves m c found old new → IsTold o (telling_of found) ended before after → IsComplete m o c old new before after ended
 complete-Run files m o c [] new before after found ended h told = λ some quiet_ports quiet. absurd (some refl)
 complete-Run files m o c (p ∷ ps) [] before after found ended h told = absurd h

@@ -1,9 +1,10 @@
 -- What the status of a run says of the outcome that was found.
-use Rattle.std.proofs.Common.{◌≡◌, ℕ, Ok, Err, refl, ap, subst, inl, inr}
+use Rattle.std.proofs.Common.{◌≡◌, Ok, Err, refl, ap, subst, inl, inr}
 use Rattle.std.specs.Prelude.{◌⊎◌}
 use Rattle.viz_base.specs.declared.out.Out as out
 use Rattle.viz_base.specs.declared.refusal.WriteRefusal.TheVariants as writing
 use Rattle.viz_report.specs.declared.line.Reason.{Reason}
+use Rattle.viz_reshape.specs.declared.reshape.FileCounts.{FileCounts}
 use Rattle.viz_once.specs.declared.outcome.Failed.{Failed}
 use Rattle.viz_once.specs.declared.outcome.Outcome.{Outcome}
 use Rattle.viz_once.specs.declared.outcome.Outcome.TheVariants as outcome
@@ -16,7 +17,7 @@ use Rattle.viz_told.proofs.ToldLemmas.{Answer, in_its_place, ends_in_memory}
 
 -- what was found, and what the put answered, by the status
 abbrev pub ToldBy : Outcome → Answer → Status → Type 0
-ToldBy o a status.Done = (cells : ℕ) × (points : ℕ) × (o ≡ outcome.Written cells points) × (a ≡ Ok tt)
+ToldBy o a status.Done = (counts : FileCounts) × (o ≡ outcome.Written counts) × (a ≡ Ok tt)
 ToldBy o a status.Refused = (why : Reason) × (o ≡ outcome.Refused why) × (a ≡ Ok tt)
 ToldBy o a status.Script = o ≡ outcome.NoPort
 ToldBy o a status.Fault = ((failed : Failed) × (o ≡ outcome.Fault failed) × (a ≡ Ok tt)) ⊎ (a ≡ Err writing.Failed)
@@ -25,17 +26,17 @@ ToldBy o a status.Memory = Unit {0}
 
 pub told_by : (o : Outcome) (a : Answer) → ToldBy o a (status_after (status_of o) a)
 told_by outcome.NoPort (Ok done) = refl
-told_by (outcome.Written cells points) (Ok done) = (cells, points, refl, refl)
+told_by (outcome.Written counts) (Ok done) = (counts, refl, refl)
 told_by (outcome.Refused why) (Ok done) = (why, refl, refl)
 told_by (outcome.Fault failed) (Ok done) = inl (failed, refl, refl)
 told_by outcome.Memory (Ok done) = tt
 told_by outcome.NoPort (Err writing.Failed) = refl
-told_by (outcome.Written cells points) (Err writing.Failed) = inr refl
+told_by (outcome.Written counts) (Err writing.Failed) = inr refl
 told_by (outcome.Refused why) (Err writing.Failed) = inr refl
 told_by (outcome.Fault failed) (Err writing.Failed) = inr refl
 told_by outcome.Memory (Err writing.Failed) = tt
 told_by outcome.NoPort (Err writing.Memory) = tt
-told_by (outcome.Written cells points) (Err writing.Memory) = tt
+told_by (outcome.Written counts) (Err writing.Memory) = tt
 told_by (outcome.Refused why) (Err writing.Memory) = tt
 told_by (outcome.Fault failed) (Err writing.Memory) = tt
 told_by outcome.Memory (Err writing.Memory) = tt

@@ -12,14 +12,16 @@ use Rattle.viz_node_meaning.specs.Fold.{IsGiven}
 use Rattle.viz_node_meaning.specs.Information.{InformationRule}
 use Rattle.viz_node_meaning.specs.Scratch.{Answers, IsBehind, IsScratchOf, IsScratch}
 use Rattle.viz_scratch.specs.Written.{Style, IsTextOf, IsTextBehind, style_with, style_of}
-use Rattle.viz_once.specs.declared.command.Filter.{Filter}
-use Rattle.viz_once.specs.FixedHistory.{HasNumbers, network_for, source_id, op_id, IsFileFor}
+use Rattle.viz_once.specs.declared.command.NodeFilter.{NodeFilter}
+use Rattle.viz_once.specs.declared.command.Filter.TheVariants as filters
+use Rattle.viz_once.specs.Files.{IsNodeFile}
+use Rattle.viz_once.specs.FixedHistory.{HasNumbers, network_for, source_id, op_id, name_at}
 use Rattle.viz_once.specs.Reasons.{IsFaultFor}
-use Rattle.viz_once.specs.Steps.Nodes.{settings_of, source_node, op_node, name_at, tree_of}
+use Rattle.viz_once.specs.Steps.Nodes.{settings_of, source_node, op_node, tree_of}
 use Rattle.viz_once.proofs.GivenLemmas.{answers_more, of_either}
 use Rattle.viz_once.proofs.NetworkLemmas.{name_is, cone_is}
 
-module _ (filter : Filter) (bytes : List ℕ) (numbers : HasNumbers filter) where
+module _ (filter : NodeFilter) (bytes : List ℕ) (numbers : HasNumbers filter) where
   abbrev tree : Tree
   tree = tree_of (source_node bytes) (op_node filter)
 
@@ -51,7 +53,7 @@ module _ (filter : Filter) (bytes : List ℕ) (numbers : HasNumbers filter) wher
 
   -- the text of the dataset that the node gives is its file
   pub file_is : (style : Style) → style ≡ style_with (settings_of filter) → (d : Dataset) → IsScratch (network_for filter bytes) op_id (Ok d)
-      → (r : Result (List ℕ) Fault) → IsTextOf style op_id d r → IsFileFor filter bytes r
+      → (r : Result (List ℕ) Fault) → IsTextOf style op_id d r → IsNodeFile filter bytes r
   file_is style is d given r text = (Ok d, given, subst (λ (s : Style). IsTextOf s op_id d r) (style_is style is) text)
 
   -- ---- names
@@ -80,5 +82,5 @@ module _ (filter : Filter) (bytes : List ℕ) (numbers : HasNumbers filter) wher
   text_either (Ok d) fault h text = inr text.0
 
   -- where the filter's node has no file, that is a fault of a node that has a name
-  pub fault_is : (fault : Fault) → IsFileFor filter bytes (Err fault) → IsFaultFor filter bytes fault (name_at fault.node.0)
+  pub fault_is : (fault : Fault) → IsNodeFile filter bytes (Err fault) → IsFaultFor (filters.Node filter) bytes fault (name_at fault.node.0)
   fault_is fault h = record { file = h; named = name_is filter bytes numbers fault.node.0 (text_either h.0 fault h.1 h.2) }

@@ -6,30 +6,30 @@ use Rattle.viz_network.specs.Applies.{IsAccepted}
 use Rattle.viz_network.specs.Cone.{cone_of}
 use Rattle.viz_network.specs.Edits.{unless}
 use Rattle.viz_network.specs.Network.{Network, name_of}
-use Rattle.viz_once.specs.declared.command.Filter.{Filter}
-use Rattle.viz_once.specs.declared.command.Filter.TheVariants.{Threshold, Contour}
-use Rattle.viz_once.specs.FixedHistory.{param_of, value_of, HasNumbers, network_for, source_id, op_id}
+use Rattle.viz_once.specs.declared.command.NodeFilter.{NodeFilter}
+use Rattle.viz_once.specs.declared.command.NodeFilter.TheVariants.{Threshold, Contour}
+use Rattle.viz_once.specs.FixedHistory.{param_of, value_of, HasNumbers, network_for, source_id, op_id, name_at}
 use Rattle.viz_once.specs.Laws.{HistoriesAreLegal}
-use Rattle.viz_once.specs.Steps.Nodes.{source_node, op_node, made_network, name_at, tree_of}
+use Rattle.viz_once.specs.Steps.Nodes.{source_node, op_node, made_network, tree_of}
 
 -- ---- the numbers
 
-pub fits : (filter : Filter) → HasNumbers filter → is_value (param_of filter) (value_of filter) ≡ true
+pub fits : (filter : NodeFilter) → HasNumbers filter → is_value (param_of filter) (value_of filter) ≡ true
 fits (Threshold lo hi) h = rw (h.0, h.1) refl
 fits (Contour level) h = rw h refl
 
 -- ---- the network
 
-pub network_is : (filter : Filter) (bytes : List ℕ) → HasNumbers filter → network_for filter bytes ≡ made_network filter bytes
+pub network_is : (filter : NodeFilter) (bytes : List ℕ) → HasNumbers filter → network_for filter bytes ≡ made_network filter bytes
 network_is (Threshold lo hi) bytes h = rw (fits (Threshold lo hi) h) refl
 network_is (Contour level) bytes h = rw (fits (Contour level) h) refl
 
 -- the names of its nodes
-named_there : (filter : Filter) (bytes : List ℕ) (id : ℕ) → (id ≡ source_id) ⊎ (id ≡ op_id) → name_of (made_network filter bytes) id ≡ Some (name_at id)
+named_there : (filter : NodeFilter) (bytes : List ℕ) (id : ℕ) → (id ≡ source_id) ⊎ (id ≡ op_id) → name_of (made_network filter bytes) id ≡ Some (name_at id)
 named_there filter bytes id (inl e) = subst (λ (n : ℕ). name_of (made_network filter bytes) n ≡ Some (name_at n)) (sym e) refl
 named_there filter bytes id (inr e) = subst (λ (n : ℕ). name_of (made_network filter bytes) n ≡ Some (name_at n)) (sym e) refl
 
-pub name_is : (filter : Filter) (bytes : List ℕ) → HasNumbers filter → (id : ℕ) → (id ≡ source_id) ⊎ (id ≡ op_id) → name_of (network_for filter bytes) id ≡ Some (name_at id)
+pub name_is : (filter : NodeFilter) (bytes : List ℕ) → HasNumbers filter → (id : ℕ) → (id ≡ source_id) ⊎ (id ≡ op_id) → name_of (network_for filter bytes) id ≡ Some (name_at id)
 name_is filter bytes h id either = ap (λ (net : Network). name_of net id) (network_is filter bytes h) ∙ named_there filter bytes id either
 
 -- ---- its history
@@ -70,8 +70,8 @@ histories_are_legal (Contour level) bytes h = (
 -- ---- the cone
 
 -- what lies upstream of the filter's node
-cone_there : (filter : Filter) (bytes : List ℕ) → cone_of (made_network filter bytes) op_id ≡ Some (tree_of (source_node bytes) (op_node filter))
+cone_there : (filter : NodeFilter) (bytes : List ℕ) → cone_of (made_network filter bytes) op_id ≡ Some (tree_of (source_node bytes) (op_node filter))
 cone_there filter bytes = refl
 
-pub cone_is : (filter : Filter) (bytes : List ℕ) → HasNumbers filter → cone_of (network_for filter bytes) op_id ≡ Some (tree_of (source_node bytes) (op_node filter))
+pub cone_is : (filter : NodeFilter) (bytes : List ℕ) → HasNumbers filter → cone_of (network_for filter bytes) op_id ≡ Some (tree_of (source_node bytes) (op_node filter))
 cone_is filter bytes h = ap (λ (net : Network). cone_of net op_id) (network_is filter bytes h) ∙ cone_there filter bytes

@@ -3,11 +3,12 @@ use Rattle.std.proofs.Common.{◌≡◌, ℕ, ℤ, pos, neg_ℤ, ◌==◌, Bool,
 use Rattle.std.specs.Prelude.{codes, option_map, option_and_then}
 use Rattle.std.specs.Str.{bytes_eq}
 use Rattle.viz_lex.specs.Numbers.{natural_of}
-use Rattle.viz_once.specs.declared.command.Filter.{Filter}
-use Rattle.viz_once.specs.declared.command.Filter.TheVariants.{Threshold, Contour}
+use Rattle.viz_once.specs.declared.command.NodeFilter.{NodeFilter}
+use Rattle.viz_once.specs.declared.command.NodeFilter.TheVariants.{Threshold, Contour}
 use Rattle.viz_once.specs.Command.{Command, file_name_of, filter_of, once_of}
 use Rattle.viz_once.specs.FixedHistory.{fits_i64, HasNumbers}
-use Rattle.viz_once.specs.Laws.{WordsHaveNumbers}
+use Rattle.viz_once.specs.declared.command.Filter.TheVariants as filters
+use Rattle.viz_once.specs.Laws.{HaveNumbers, WordsHaveNumbers}
 use Rattle.viz_words.specs.Numbers.{within, number_of}
 
 -- nothing is something
@@ -28,8 +29,8 @@ number_fits (b ∷ bs) m e =
     within_fits (cond (b == 45) (option_map (λ n. neg_ℤ (pos n)) (natural_of bs)) (option_map (λ n. pos n) (natural_of (b ∷ bs)))) m e
 
 -- a filter, where it is one with numbers of 64 bits
-abbrev HasOwn : Option Filter → Type 0
-HasOwn o = (f : Filter) → o ≡ Some f → HasNumbers f
+abbrev HasOwn : Option NodeFilter → Type 0
+HasOwn o = (f : NodeFilter) → o ≡ Some f → HasNumbers f
 
 contour_has : (level : List ℕ) (b : Bool) (o : Option ℤ) → number_of level ≡ o → HasOwn (cond b (option_map (λ v. Contour v) o) None)
 contour_has level true (Some v) is = λ f e. (let same : Contour v ≡ f = cc in subst HasNumbers same (number_fits level v is))
@@ -52,14 +53,14 @@ filter_has (name ∷ lo ∷ hi ∷ []) = threshold_has lo hi (bytes_eq name (cod
 filter_has (a ∷ b ∷ c ∷ d ∷ more) = λ f e. none_is_some f e
 
 -- a command whose filter is one of these
-abbrev built : Option (List ℕ) → Option (List ℕ) → Option Filter → Option Command
-built input output filter = option_and_then (λ i. option_and_then (λ o. option_map (λ f. record { input = i; output = o; filter = f }) filter) output) input
+abbrev built : Option (List ℕ) → Option (List ℕ) → Option NodeFilter → Option Command
+built input output filter = option_and_then (λ i. option_and_then (λ o. option_map (λ f. record { input = i; output = o; filter = filters.Node f }) filter) output) input
 
-built_has : (input output : Option (List ℕ)) (filter : Option Filter) → HasOwn filter → (c : Command) → built input output filter ≡ Some c → HasNumbers c.filter
+built_has : (input output : Option (List ℕ)) (filter : Option NodeFilter) → HasOwn filter → (c : Command) → built input output filter ≡ Some c → HaveNumbers c.filter
 built_has (Some i) (Some o) (Some f) own c e =
-    let given : Command = record { input = i; output = o; filter = f } in
+    let given : Command = record { input = i; output = o; filter = filters.Node f } in
     let same : given ≡ c = cc in
-    subst (λ (d : Command). HasNumbers d.filter) same (own f refl)
+    subst (λ (d : Command). HaveNumbers d.filter) same (own f refl)
 built_has (Some i) (Some o) None own c e = none_is_some c e
 built_has (Some i) None filter own c e = none_is_some c e
 built_has None output filter own c e = none_is_some c e

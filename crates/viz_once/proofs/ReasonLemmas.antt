@@ -1,14 +1,19 @@
 -- A command is refused for one reason.
-use Rattle.std.proofs.Common.{◌≡◌, ℕ, List, Some, Result, Err, sym, ap, ◌∙◌}
+use Rattle.std.proofs.Common.{◌≡◌, ℕ, List, Some, Result, Ok, Err, sym, ap, subst, ◌∙◌}
 use Rattle.viz_base.specs.declared.call.ReadAnswer.{ReadAnswer}
 use Rattle.viz_base.specs.declared.call.ReadAnswer.TheVariants as read
 use Rattle.viz_network.specs.declared.fault.Fault.{Fault}
-use Rattle.viz_network.specs.Network.{name_of}
 use Rattle.viz_report.specs.declared.line.Reason.{Reason}
 use Rattle.viz_report.specs.declared.line.Reason.TheVariants as reason
+use Rattle.viz_reshape.specs.declared.reshape.FileCounts.{FileCounts}
+use Rattle.viz_reshape.specs.declared.reshape.FileCounts.TheVariants.{Cells, Strips}
+use Rattle.viz_reshape.specs.declared.reshape.MadeFile.{MadeFile}
+use Rattle.viz_reshape.specs.Laws.{ReshapesAreOne}
 use Rattle.viz_scratch.specs.Laws.{FilesAreOne}
 use Rattle.viz_once.specs.declared.command.Filter.{Filter}
-use Rattle.viz_once.specs.FixedHistory.{network_for, op_id}
+use Rattle.viz_once.specs.declared.command.Filter.TheVariants.{Node, Reshape}
+use Rattle.viz_once.specs.Files.{IsFileFor, IsMadeFor, IsNameFor}
+use Rattle.viz_once.specs.FixedHistory.{network_for, source_id, op_id, name_at}
 use Rattle.viz_once.specs.Reasons.{IsFaultFor, IsReason}
 
 -- a failed read is no reason
@@ -19,15 +24,51 @@ failed_none filter reason.Full a = a
 failed_none filter reason.TooLong a = a
 failed_none filter reason.Unknown a = a
 
-module _ (files : FilesAreOne) where
+-- a filter makes one file of bytes, or has one fault
+abbrev pub FiltersAreOne : Type 0
+FiltersAreOne = (filter : Filter) (bytes : List ℕ) (a b : Result (List ℕ) Fault)
+    → IsFileFor filter bytes a → IsFileFor filter bytes b → a ≡ b
+
+-- what is made with its counts is made
+pub made_file : (filter : Filter) (bytes text : List ℕ) (counts : FileCounts) → IsMadeFor filter bytes text counts → IsFileFor filter bytes (Ok text)
+made_file (Node filter) bytes text (Cells cells points) made = made.file
+made_file (Node filter) bytes text (Strips strips triangles points) made = absurd made
+made_file (Reshape reshape) bytes text counts made = (counts, made)
+
+abbrev Answer : Type 0
+Answer = Result MadeFile Fault
+
+abbrev text_in : Answer → Result (List ℕ) Fault
+text_in (Ok made) = Ok made.text
+text_in (Err fault) = Err fault
+
+-- what a reshape makes is one text or one fault
+pub filters_are_one : FilesAreOne → ReshapesAreOne → FiltersAreOne
+filters_are_one files reshapes (Node filter) bytes a b p q = files (network_for filter bytes) op_id a b p q
+filters_are_one files reshapes (Reshape reshape) bytes (Ok a) (Ok b) p q =
+    ap text_in (reshapes reshape source_id op_id bytes (Ok (record { text = a; counts = p.0 })) (Ok (record { text = b; counts = q.0 })) p.1 q.1)
+filters_are_one files reshapes (Reshape reshape) bytes (Ok a) (Err g) p q =
+    ap text_in (reshapes reshape source_id op_id bytes (Ok (record { text = a; counts = p.0 })) (Err g) p.1 q)
+filters_are_one files reshapes (Reshape reshape) bytes (Err f) (Ok b) p q =
+    ap text_in (reshapes reshape source_id op_id bytes (Err f) (Ok (record { text = b; counts = q.0 })) p q.1)
+filters_are_one files reshapes (Reshape reshape) bytes (Err f) (Err g) p q =
+    ap text_in (reshapes reshape source_id op_id bytes (Err f) (Err g) p q)
+
+-- a node has one name
+name_one : (filter : Filter) (bytes : List ℕ) (id : ℕ) (n m : List ℕ) → IsNameFor filter bytes id n → IsNameFor filter bytes id m → n ≡ m
+name_one (Node filter) bytes id n m a b =
+    let names : Some n ≡ Some m = sym a ∙ b in
+    cc
+name_one (Reshape reshape) bytes id n m a b = a ∙ sym b
+
+module _ (files : FiltersAreOne) where
   -- two faults of one node are one, and so are its names
   fault_one : (filter : Filter) (bytes : List ℕ) (f g : Fault) (n m : List ℕ) → IsFaultFor filter bytes f n → IsFaultFor filter bytes g m
       → reason.Fault f n ≡ reason.Fault g m
   fault_one filter bytes f g n m a b =
-      let both : (let r : Result (List ℕ) Fault = Err f in r) ≡ Err g = files (network_for filter bytes) op_id (Err f) (Err g) a.file b.file in
+      let both : (let r : Result (List ℕ) Fault = Err f in r) ≡ Err g = files filter bytes (Err f) (Err g) a.file b.file in
       let same : f ≡ g = cc in
-      let names : Some n ≡ Some m = sym a.named ∙ ap (λ (h : Fault). name_of (network_for filter bytes) h.node.0) same ∙ b.named in
-      let name : n ≡ m = cc in
+      let name : n ≡ m = name_one filter bytes g.node.0 n m (subst (λ (h : Fault). IsNameFor filter bytes h.node.0 n) same a.named) b.named in
       ap (λ (h : Fault). reason.Fault h n) same ∙ ap (reason.Fault g) name
 
   of_bytes : (filter : Filter) (bytes : List ℕ) (x y : Reason) → IsReason filter (read.Given bytes) x → IsReason filter (read.Given bytes) y → x ≡ y

@@ -10,7 +10,7 @@ use Rattle.viz_base.specs.declared.call.ReadAnswer.{ReadAnswer}
 use Rattle.viz_base.specs.declared.call.ReadAnswer.TheVariants as read
 use Rattle.viz_base.specs.declared.call.WriteAnswer.TheVariants as write
 use Rattle.viz_report.specs.declared.line.Reason.{Reason}
-use Rattle.viz_scratch.specs.Laws.{FilesAreOne}
+use Rattle.viz_reshape.specs.declared.reshape.FileCounts.{FileCounts}
 use Rattle.viz_told.specs.declared.status.Status.{Status}
 use Rattle.viz_told.specs.declared.status.Status.TheVariants as status
 use Rattle.viz_told.specs.Calls.{HasFailed}
@@ -25,36 +25,35 @@ use Rattle.viz_once.specs.declared.outcome.Outcome.{Outcome}
 use Rattle.viz_once.specs.declared.outcome.Outcome.TheVariants as outcome
 use Rattle.viz_once.specs.Account.{Deed, Nothing, Asked, Answered, calls_of, EndsUnwritten, IsOutcomeOf, Serves}
 use Rattle.viz_once.specs.Command.{Command}
-use Rattle.viz_once.specs.FixedHistory.{IsMadeFor}
+use Rattle.viz_once.specs.Files.{IsMadeFor}
 use Rattle.viz_once.specs.Promises.{IsScript, IsDone, IsRefused, TellsRefusals, IsFault, FirstDid, FirstAnswered, fault_line, WritesFile}
 use Rattle.viz_once.specs.Reasons.{IsReason}
 use Rattle.viz_once.specs.Report.{line_of, telling_of}
 use Rattle.viz_once.proofs.EndLemmas.{ToldBy, told_by, refused_ends}
-use Rattle.viz_once.proofs.ReasonLemmas.{failed_none, one_reason}
+use Rattle.viz_once.proofs.ReasonLemmas.{FiltersAreOne, failed_none, one_reason}
 
 -- ---- what a served command did, by its outcome
 
 -- the deed of a written file
-abbrev Wrote : Command → Deed → ℕ → ℕ → Type 0
-Wrote c deed cells points = (bytes text : List ℕ) × (deed ≡ Answered bytes text write.Written) × IsMadeFor c.filter bytes text cells points
+abbrev Wrote : Command → Deed → FileCounts → Type 0
+Wrote c deed counts = (bytes text : List ℕ) × (deed ≡ Answered bytes text write.Written) × IsMadeFor c.filter bytes text counts
 
-told_numbers : (c : Command) (bytes text : List ℕ) (cells points a b : ℕ) → outcome.Written cells points ≡ outcome.Written a b → IsMadeFor c.filter bytes text a b
-    → IsMadeFor c.filter bytes text cells points
-told_numbers c bytes text cells points a b e made =
-    let first : cells ≡ a = cc in
-    let second : points ≡ b = cc in
-    subst (λ (n : ℕ). IsMadeFor c.filter bytes text n points) (sym first) (subst (λ (n : ℕ). IsMadeFor c.filter bytes text a n) (sym second) made)
+told_counts : (c : Command) (bytes text : List ℕ) (counts others : FileCounts) → outcome.Written counts ≡ outcome.Written others → IsMadeFor c.filter bytes text others
+    → IsMadeFor c.filter bytes text counts
+told_counts c bytes text counts others e made =
+    let same : counts ≡ others = cc in
+    subst (IsMadeFor c.filter bytes text) (sym same) made
 
-written_deed : (c : Command) (deed : Deed) (cells points : ℕ) → IsOutcomeOf c deed (outcome.Written cells points) → Wrote c deed cells points
-written_deed c Nothing cells points h = absurd (let e : outcome.Written cells points ≡ outcome.Memory = h in cc)
-written_deed c (Asked (read.Given bytes)) cells points h = absurd (elim h [
-  | inl e ↦ let bad : outcome.Written cells points ≡ outcome.Memory = e in cc
-  | inr r ↦ let bad : outcome.Written cells points ≡ outcome.Refused r.0 = r.2 in cc
+written_deed : (c : Command) (deed : Deed) (counts : FileCounts) → IsOutcomeOf c deed (outcome.Written counts) → Wrote c deed counts
+written_deed c Nothing counts h = absurd (let e : outcome.Written counts ≡ outcome.Memory = h in cc)
+written_deed c (Asked (read.Given bytes)) counts h = absurd (elim h [
+  | inl e ↦ let bad : outcome.Written counts ≡ outcome.Memory = e in cc
+  | inr r ↦ let bad : outcome.Written counts ≡ outcome.Refused r.0 = r.2 in cc
 ])
-written_deed c (Asked (read.TooLong taken)) cells points h = absurd (let e : outcome.Written cells points ≡ outcome.Refused h.0 = h.2 in cc)
-written_deed c (Asked read.Failed) cells points h = absurd (let e : outcome.Written cells points ≡ outcome.Fault call.Read = h in cc)
-written_deed c (Answered bytes text write.Written) cells points h = (bytes, text, refl, told_numbers c bytes text cells points h.0 h.1 h.3 h.2)
-written_deed c (Answered bytes text write.Failed) cells points h = absurd (let e : outcome.Written cells points ≡ outcome.Fault call.Write = h.1 in cc)
+written_deed c (Asked (read.TooLong taken)) counts h = absurd (let e : outcome.Written counts ≡ outcome.Refused h.0 = h.2 in cc)
+written_deed c (Asked read.Failed) counts h = absurd (let e : outcome.Written counts ≡ outcome.Fault call.Read = h in cc)
+written_deed c (Answered bytes text write.Written) counts h = (bytes, text, refl, told_counts c bytes text counts h.0 h.2 h.1)
+written_deed c (Answered bytes text write.Failed) counts h = absurd (let e : outcome.Written counts ≡ outcome.Fault call.Write = h.1 in cc)
 
 -- the deed of a refusal
 refused_deed : (c : Command) (deed : Deed) (why : Reason) → IsOutcomeOf c deed (outcome.Refused why)
@@ -72,7 +71,7 @@ refused_deed c (Asked (read.TooLong taken)) why h =
     let same : why ≡ h.0 = (let e : outcome.Refused why ≡ outcome.Refused h.0 = h.2 in cc) in
     (read.TooLong taken, refl, subst (IsReason c.filter (read.TooLong taken)) (sym same) h.1)
 refused_deed c (Asked read.Failed) why h = absurd (let e : outcome.Refused why ≡ outcome.Fault call.Read = h in cc)
-refused_deed c (Answered bytes text write.Written) why h = absurd (let e : outcome.Refused why ≡ outcome.Written h.0 h.1 = h.3 in cc)
+refused_deed c (Answered bytes text write.Written) why h = absurd (let e : outcome.Refused why ≡ outcome.Written h.0 = h.2 in cc)
 refused_deed c (Answered bytes text write.Failed) why h = absurd (let e : outcome.Refused why ≡ outcome.Fault call.Write = h.1 in cc)
 
 -- the deed of a failed call
@@ -85,7 +84,7 @@ failed_deed c (Asked (read.Given bytes)) failed h = absurd (elim h [
 ])
 failed_deed c (Asked (read.TooLong taken)) failed h = absurd (let e : outcome.Fault failed ≡ outcome.Refused h.0 = h.2 in cc)
 failed_deed c (Asked read.Failed) failed h = (tt, tt, ap line_of h)
-failed_deed c (Answered bytes text write.Written) failed h = absurd (let e : outcome.Fault failed ≡ outcome.Written h.0 h.1 = h.3 in cc)
+failed_deed c (Answered bytes text write.Written) failed h = absurd (let e : outcome.Fault failed ≡ outcome.Written h.0 = h.2 in cc)
 failed_deed c (Answered bytes text write.Failed) failed h = (tt, h.0, ap line_of h.1)
 
 -- a served command has a port
@@ -97,7 +96,7 @@ never_no_port c (Asked (read.Given bytes)) h = elim h [
 ]
 never_no_port c (Asked (read.TooLong taken)) h = let e : (let o : Outcome = outcome.NoPort in o) ≡ outcome.Refused h.0 = h.2 in cc
 never_no_port c (Asked read.Failed) h = let e : (let o : Outcome = outcome.NoPort in o) ≡ outcome.Fault call.Read = h in cc
-never_no_port c (Answered bytes text write.Written) h = let e : (let o : Outcome = outcome.NoPort in o) ≡ outcome.Written h.0 h.1 = h.3 in cc
+never_no_port c (Answered bytes text write.Written) h = let e : (let o : Outcome = outcome.NoPort in o) ≡ outcome.Written h.0 = h.2 in cc
 never_no_port c (Answered bytes text write.Failed) h = let e : (let o : Outcome = outcome.NoPort in o) ≡ outcome.Fault call.Write = h.1 in cc
 
 -- ---- what a run did
@@ -165,11 +164,11 @@ module _ {P : Type 0} (m : port.Ghosts P) (c : Command) where
     done-Run is =
         let w = at status.Done is is_no_done in
         let t = w.1 in
-        let o = outcome.Written t.0 t.1 in
-        let s = served o old new (serves_as o t.2) (λ e. cc) in
-        let d = written_deed c s.0 t.0 t.1 s.1 in
-        let lines = gains l (line_of o) before after w.0 t.3 (put_as o w.0 t.2 w.2) in
-        (d.0, d.1, t.0, t.1, d.3, subst (λ (x : Deed). FirstDid m c x old new) {y = Answered d.0 d.1 write.Written} d.2 s.2, lines)
+        let o = outcome.Written t.0 in
+        let s = served o old new (serves_as o t.1) (λ e. cc) in
+        let d = written_deed c s.0 t.0 s.1 in
+        let lines = gains l (line_of o) before after w.0 t.2 (put_as o w.0 t.1 w.2) in
+        (d.0, d.1, t.0, d.3, subst (λ (x : Deed). FirstDid m c x old new) {y = Answered d.0 d.1 write.Written} d.2 s.2, lines)
 
     pub refused-Run : ended ≡ status.Refused → IsRefused m l c old new before after
     refused-Run is =
@@ -207,7 +206,7 @@ asked_deed c Nothing answer e = absurd cc
 asked_deed c (Asked other) answer e = cc
 asked_deed c (Answered bytes text other) answer e = absurd cc
 
-module _ (files : FilesAreOne) where
+module _ (files : FiltersAreOne) where
   -- the outcome of a command that is refused for a reason
   refused_or_memory : (c : Command) (answer : ReadAnswer) (why : Reason) (o : Outcome) → IsReason c.filter answer why → EndsUnwritten c answer o
       → (o ≡ outcome.Memory) ⊎ (o ≡ outcome.Refused why)

@@ -10,6 +10,7 @@ use Rattle.viz_base.specs.declared.call.ReadAnswer.TheVariants as read
 use Rattle.viz_base.specs.declared.call.WriteAnswer.{WriteAnswer}
 use Rattle.viz_base.specs.declared.call.WriteAnswer.TheVariants as write
 use Rattle.viz_report.specs.declared.line.Reason.{Reason}
+use Rattle.viz_reshape.specs.declared.reshape.FileCounts.{FileCounts}
 use Rattle.viz_told.specs.declared.status.Status.{Status}
 use Rattle.viz_told.specs.Calls.{IsCalled}
 use Rattle.viz_told.specs.Told.{IsTold}
@@ -17,7 +18,7 @@ use Rattle.viz_once.specs.declared.outcome.Failed.TheVariants as call
 use Rattle.viz_once.specs.declared.outcome.Outcome.{Outcome}
 use Rattle.viz_once.specs.declared.outcome.Outcome.TheVariants as outcome
 use Rattle.viz_once.specs.Command.{Command}
-use Rattle.viz_once.specs.FixedHistory.{IsFileFor, IsMadeFor}
+use Rattle.viz_once.specs.Files.{IsFileFor, IsMadeFor}
 use Rattle.viz_once.specs.Reasons.{IsReason}
 use Rattle.viz_once.specs.Report.{telling_of}
 
@@ -50,11 +51,10 @@ EndsUnwritten c (read.TooLong taken) o = Refuses c (read.TooLong taken) o
 EndsUnwritten c read.Failed o = o ≡ outcome.Fault call.Read
 
 -- the outcome of a command that wrote this text, by what the write answered: the text is the file
--- that the fixed history of the bytes gives, and its numbers are told where it was written
+-- that the filter makes of the bytes, and its counts are told where it was written
 abbrev pub EndsWritten : Command → List ℕ → List ℕ → WriteAnswer → Outcome → Type 0
 EndsWritten c bytes text write.Written o =
-    (cells points : ℕ) × IsMadeFor c.filter bytes text cells points
-    × (o ≡ outcome.Written cells points)
+    (counts : FileCounts) × IsMadeFor c.filter bytes text counts × (o ≡ outcome.Written counts)
 EndsWritten c bytes text write.Failed o = IsFileFor c.filter bytes (Ok text)
     × (o ≡ outcome.Fault call.Write)
 

@@ -12,11 +12,11 @@ use Rattle.viz_told.specs.Ports.{FirstRose}
 use Rattle.viz_once.specs.declared.command.Filter.{Filter}
 use Rattle.viz_once.specs.Account.{Deed, Nothing, Asked, Answered}
 use Rattle.viz_once.specs.Command.{Command}
-use Rattle.viz_once.specs.FixedHistory.{IsFileFor}
+use Rattle.viz_once.specs.Files.{IsFileFor}
 use Rattle.viz_once.specs.Promises.{FirstDid}
 
 -- a command came to what it asked for, by what its read answered: the file was within the limit,
--- and the filter's node has a file in the network of the fixed history
+-- and the filter makes a file of it
 abbrev pub Came : Filter → ReadAnswer → Type 0
 Came filter (read.Given bytes) = (text : List ℕ) × IsFileFor filter bytes (Ok text)
 Came filter answer = ⊥

@@ -1,7 +1,7 @@
--- The fixed history of a command of one file: a source, and the filter behind it
+-- The fixed history of a command of one file whose filter is a node: a source, and the filter behind it
 -- (docs/DEFINITIONS.md, "The fixed history of one file").
 use Rattle.std.specs.Prelude.{◌≡◌, ℕ, ℤ, pos, int_le, Bool, true, ◌&&◌, List, [], ◌∷◌, replicate}
-use Rattle.std.specs.Prelude.{codes, Result, Ok}
+use Rattle.std.specs.Prelude.{codes, nat_eq, if◌then◌else◌}
 use Rattle.viz_entries.specs.declared.entry.Entry.{Entry}
 use Rattle.viz_entries.specs.History.{entry, network_of}
 use Rattle.viz_kinds.specs.declared.kind.Kind.{Kind}
@@ -12,11 +12,9 @@ use Rattle.viz_kinds.specs.declared.param.Value.{Value}
 use Rattle.viz_kinds.specs.declared.param.Value.TheVariants.{Numbers}
 use Rattle.viz_kinds.specs.Values.{first_number, last_number}
 use Rattle.viz_network.specs.declared.edit.Edit.TheVariants.{Add, Load, Connect, Set}
-use Rattle.viz_network.specs.declared.fault.Fault.{Fault}
 use Rattle.viz_network.specs.Network.{Network}
-use Rattle.viz_scratch.specs.Written.{IsFileOf, HasCounts}
-use Rattle.viz_once.specs.declared.command.Filter.{Filter}
-use Rattle.viz_once.specs.declared.command.Filter.TheVariants.{Threshold, Contour}
+use Rattle.viz_once.specs.declared.command.NodeFilter.{NodeFilter}
+use Rattle.viz_once.specs.declared.command.NodeFilter.TheVariants.{Threshold, Contour}
 
 -- ---- the history
 
@@ -29,17 +27,17 @@ abbrev pub op : List ℕ
 op = codes "op"
 
 -- the kind of the filter's node
-abbrev pub kind_of : Filter → Kind
+abbrev pub kind_of : NodeFilter → Kind
 kind_of (Threshold lo hi) = kind.Threshold
 kind_of (Contour level) = kind.Contour
 
 -- the parameter that has the filter's numbers
-abbrev pub param_of : Filter → Param
+abbrev pub param_of : NodeFilter → Param
 param_of (Threshold lo hi) = param.Range
 param_of (Contour level) = param.Levels
 
 -- the filter's numbers as the value of that parameter
-abbrev pub value_of : Filter → Value
+abbrev pub value_of : NodeFilter → Value
 value_of (Threshold lo hi) = Numbers 2 (lo ∷ hi ∷ replicate 6 (pos 0))
 value_of (Contour level) = Numbers 1 (level ∷ replicate 7 (pos 0))
 
@@ -48,19 +46,19 @@ abbrev pub fits_i64 : ℤ → Bool
 fits_i64 n = int_le first_number n && int_le n last_number
 
 -- the filter's numbers are of 64 bits, as those of words are
-abbrev pub HasNumbers : Filter → Type 0
+abbrev pub HasNumbers : NodeFilter → Type 0
 HasNumbers (Threshold lo hi) = (fits_i64 lo ≡ true) × (fits_i64 hi ≡ true)
 HasNumbers (Contour level) = fits_i64 level ≡ true
 
 -- the source and its file, the filter's node behind it, and the filter's numbers, by the first pass
-abbrev pub history_of : Filter → List ℕ → List Entry
+abbrev pub history_of : NodeFilter → List ℕ → List Entry
 history_of filter bytes =
     entry 0 1 (Add kind.File source) ∷ entry 0 2 (Load source bytes) ∷ entry 0 3
     (Add (kind_of filter) op)
     ∷ entry 0 4 (Connect source op 1) ∷ entry 0 5 (Set op (param_of filter) (value_of filter)) ∷ []
 
 -- the network of the fixed history
-abbrev pub network_for : Filter → List ℕ → Network
+abbrev pub network_for : NodeFilter → List ℕ → Network
 network_for filter bytes = network_of (history_of filter bytes)
 
 -- the positions of the two Adds, which number the nodes
@@ -70,13 +68,6 @@ source_id = 1
 abbrev pub op_id : ℕ
 op_id = 3
 
--- ---- what its filter gives
-
--- this is the file of the filter's node in the network of the fixed history, or why it has none
-abbrev pub IsFileFor : Filter → List ℕ → Result (List ℕ) Fault → Type 0
-IsFileFor filter bytes r = IsFileOf (network_for filter bytes) op_id r
-
--- this text is the file of the filter's node, which gives a dataset of so many cells and points
-pub record IsMadeFor (filter : Filter) (bytes text : List ℕ) (cells points : ℕ) : Type 0 where
-  pub file : IsFileFor filter bytes (Ok text)
-  pub counts : HasCounts (network_for filter bytes) op_id cells points
+-- the name of the node of a number: the source's, or the other's
+abbrev pub name_at : ℕ → List ℕ
+name_at id = if nat_eq id source_id then source else op

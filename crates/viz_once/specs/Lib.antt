@@ -1,4 +1,5 @@
 pub mod FixedHistory
+pub mod Files
 pub mod Account
 pub mod Promises
 pub mod Complete

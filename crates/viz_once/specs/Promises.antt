@@ -7,6 +7,7 @@ use Rattle.viz_base.specs.declared.out.Out as out
 use Rattle.viz_base.specs.declared.call.ReadAnswer.{ReadAnswer}
 use Rattle.viz_base.specs.declared.call.WriteAnswer.TheVariants.{Written}
 use Rattle.viz_report.specs.declared.line.Reason.{Reason}
+use Rattle.viz_reshape.specs.declared.reshape.FileCounts.{FileCounts}
 use Rattle.viz_told.specs.declared.status.Status.{Status}
 use Rattle.viz_told.specs.declared.status.Status.TheVariants as status
 use Rattle.viz_told.specs.Calls.{IsCalled, HasFailed, HasAnswered}
@@ -15,9 +16,9 @@ use Rattle.viz_told.specs.Ports.{FirstOnly}
 use Rattle.viz_told.specs.Puts.{GainsLine, PutsOrBreaks, EndsInScript}
 use Rattle.viz_once.specs.Account.{Deed, Nothing, Asked, Answered, calls_of}
 use Rattle.viz_once.specs.Command.{Command}
-use Rattle.viz_once.specs.FixedHistory.{IsFileFor, IsMadeFor}
+use Rattle.viz_once.specs.Files.{IsFileFor, IsMadeFor}
 use Rattle.viz_once.specs.Reasons.{IsReason}
-use Rattle.viz_once.specs.Report.{file_line, refused_line}
+use Rattle.viz_once.specs.Report.{counts_line, refused_line}
 
 -- ---- of lists of ports
 
@@ -38,14 +39,14 @@ abbrev pub IsScript : {P O : Type 0} → port.Ghosts P → out.Ghosts O → List
 IsScript m o old new before after = (old ≡ []) × (new ≡ [])
     × PutsOrBreaks o no_port_line before after
 
--- a run that answers Done read some bytes, wrote the file that their fixed history gives, and told
--- its numbers
+-- a run that answers Done read some bytes, wrote the file that the filter makes of them, and told
+-- its counts
 abbrev pub IsDone : {P O : Type 0} → port.Ghosts P → out.Ghosts O → Command → List P → List P → O
     → O → Type 0
 IsDone m o c old new before after =
-    (bytes text : List ℕ) × (cells points : ℕ) × IsMadeFor c.filter bytes text cells points
+    (bytes text : List ℕ) × (counts : FileCounts) × IsMadeFor c.filter bytes text counts
     × FirstDid m c (Answered bytes text Written) old new
-    × GainsLine o (file_line cells points) before after
+    × GainsLine o (counts_line counts) before after
 
 -- a run that answers Refused read its input and did nothing else; a reason for it holds, and was
 -- told
@@ -77,7 +78,7 @@ fault_line Nothing = []
 fault_line (Asked answer) = read_fault_line
 fault_line (Answered bytes text answer) = write_fault_line
 
--- the text of a write, if there was one, is the file that the fixed history of the bytes gives
+-- the text of a write, if there was one, is the file that the filter makes of the bytes
 abbrev pub WritesFile : Command → Deed → Type 0
 WritesFile c (Answered bytes text answer) = IsFileFor c.filter bytes (Ok text)
 WritesFile c deed = Unit {0}

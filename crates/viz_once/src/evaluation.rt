@@ -10,7 +10,7 @@ ghost use Rattle.viz_node_meaning.specs.Scratch.{Answers, IsScratch};
 ghost use Rattle.viz_once.specs.FixedHistory.{network_for, op_id};
 ghost use Rattle.viz_once.specs.Steps.Nodes.{fed_by, nothing, stop_at, tree_of};
 
-use crate::command::Filter;
+use crate::command::NodeFilter;
 use crate::nodes::{op_node, source_node};
 use std::alloc::Global;
 use viz_base::{Bytes, NodeId, Shared};
@@ -109,7 +109,7 @@ fn given(alloc: Global, source: Node, node: &Node) -> Result<Shared<Dataset>, St
 ///
 /// `Fault` exactly where it or the source has one: the first information fault, else the first data
 /// fault. Want of memory may come in place of each.
-pub fn evaluated(alloc: Global, filter: &Filter, bytes: Bytes) -> Result<Shared<Dataset>, Stop>
+pub fn evaluated(alloc: Global, filter: &NodeFilter, bytes: Bytes) -> Result<Shared<Dataset>, Stop>
     ensures value { Answers (IsScratch (network_for filter.now bytes) op_id) result }
     ensures sound { IfOk result IsSound }
 {

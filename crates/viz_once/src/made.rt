@@ -1,27 +1,21 @@
-//! The file of the filter's node, with the numbers that its line tells.
+//! The file that a filter makes, with the counts that its line tells.
 
 ghost use Rattle.viz_once.specs.Steps.Made.{Makes};
+ghost use Rattle.viz_once.specs.declared.command.Filter.TheVariants.{Node};
 
-use crate::command::Filter;
+use crate::command::{Filter, NodeFilter};
 use crate::evaluation::evaluated;
-use crate::nodes::{OP, settings_of};
+use crate::nodes::{OP, SOURCE, settings_of};
 use std::alloc::Global;
 use viz_base::Bytes;
 use viz_network::Stop;
+use viz_reshape::{FileCounts, MadeFile, reshape_file};
 use viz_scratch::{cell_count, point_count, style_with, text_of};
 
-/// The text of the file, and its numbers.
-#[derive(Debug, Drop)]
-pub struct Made {
-    pub text: Bytes,
-    pub cells: u64,
-    pub points: u64,
-}
-
-/// What is made of a file's bytes, which are given up before the filter works. The dataset is
-/// counted first, since it is given up while its text is made.
-pub fn made_of(alloc: Global, filter: &Filter, bytes: Bytes) -> Result<Made, Stop>
-    ensures { Makes filter.now bytes result }
+/// What the node of a filter makes of a file's bytes, which are given up before the node works. The
+/// dataset is counted first, since it is given up while its text is made.
+fn node_file(alloc: Global, filter: &NodeFilter, bytes: Bytes) -> Result<MadeFile, Stop>
+    ensures { Makes (Node filter.now) bytes result }
 {
     let style = style_with(&settings_of(filter));
     let dataset = evaluated(alloc, filter, bytes)?;
@@ -29,11 +23,20 @@ pub fn made_of(alloc: Global, filter: &Filter, bytes: Bytes) -> Result<Made, Sto
     let points = point_count(dataset.get());
     let text = text_of(alloc, OP, &style, dataset)?;
     match (cells, points) {
-        (Some(cells), Some(points)) => Ok(Made {
+        (Some(cells), Some(points)) => Ok(MadeFile {
             text,
-            cells,
-            points,
+            counts: FileCounts::Cells { cells, points },
         }),
         _ => Err(Stop::Memory),
+    }
+}
+
+/// What a filter makes of a file's bytes, which are given up behind their reading.
+pub fn made_of(alloc: Global, filter: &Filter, bytes: Bytes) -> Result<MadeFile, Stop>
+    ensures { Makes filter.now bytes result }
+{
+    match filter {
+        Filter::Node(filter) => node_file(alloc, filter, bytes),
+        Filter::Reshape(reshape) => reshape_file(alloc, reshape, SOURCE, OP, bytes),
     }
 }

@@ -1,10 +1,10 @@
 //! The two nodes of the fixed history: a source, and the filter behind it.
 
 ghost use Rattle.std.specs.Prelude.{◌≡◌, IfOk};
-ghost use Rattle.viz_once.specs.FixedHistory.{HasNumbers};
-ghost use Rattle.viz_once.specs.Steps.Nodes.{settings_of, source_node, op_node, name_at};
+ghost use Rattle.viz_once.specs.FixedHistory.{HasNumbers, name_at};
+ghost use Rattle.viz_once.specs.Steps.Nodes.{settings_of, source_node, op_node};
 
-use crate::command::Filter;
+use crate::command::NodeFilter;
 use std::alloc::{AllocError, Global};
 use viz_base::{Bytes, NodeId, Pick, Shared, Word};
 use viz_kinds::Settings;
@@ -17,13 +17,13 @@ pub const SOURCE: NodeId = NodeId(1);
 pub const OP: NodeId = NodeId(3);
 
 /// The parameters of the filter's node.
-pub fn settings_of(filter: &Filter) -> Settings
+pub fn settings_of(filter: &NodeFilter) -> Settings
     ensures value { result ≡ settings_of filter.now }
     ensures numbers { HasNumbers filter.now }
 {
     match filter {
-        Filter::Threshold { lo, hi } => Settings::Threshold { lo: *lo, hi: *hi },
-        Filter::Contour { level } => Settings::Contour {
+        NodeFilter::Threshold { lo, hi } => Settings::Threshold { lo: *lo, hi: *hi },
+        NodeFilter::Contour { level } => Settings::Contour {
             count: 1,
             levels: [*level, 0, 0, 0, 0, 0, 0, 0],
         },
@@ -49,7 +49,7 @@ pub fn source_node(alloc: Global, bytes: Bytes) -> Result<Node, AllocError>
 }
 
 /// The filter's node, which the source feeds.
-pub fn op_node(filter: &Filter) -> Node
+pub fn op_node(filter: &NodeFilter) -> Node
     ensures value { result ≡ op_node filter.now }
     ensures numbers { HasNumbers filter.now }
 {

@@ -1,6 +1,7 @@
 //! What a run found.
 
 use viz_report::Reason;
+use viz_reshape::FileCounts;
 
 /// Which call of a port failed.
 #[derive(Clone, Copy, PartialEq, Eq, Debug)]
@@ -14,10 +15,10 @@ pub enum Failed {
 pub enum Outcome {
     /// No port is there.
     NoPort,
-    /// The file was written, with so many cells and points.
-    Written { cells: u64, points: u64 },
-    /// Nothing was written, and why: the file is too long to be loaded, or the filter's node has no
-    /// file, for a fault.
+    /// The file was written, with these counts.
+    Written(FileCounts),
+    /// Nothing was written, and why: the file is too long to be loaded, or the filter makes no file
+    /// of it, for a fault.
     Refused(Reason),
     /// A call of the port failed.
     Fault(Failed),

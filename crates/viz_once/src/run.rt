@@ -1,4 +1,4 @@
-//! One run of the words `once IN OUT` and a filter.
+//! One run of a command of one file.
 
 ghost use Rattle.std.specs.Prelude.{◌≡◌, ◌≢◌, ◌⊎◌};
 ghost use Rattle.viz_base.specs.Faults.{Rose, one_more};
@@ -12,6 +12,7 @@ use crate::command::Once;
 use crate::serving::serve_ports;
 use std::alloc::Global;
 use viz_base::{Out, Port};
+use viz_reshape::reshapes_are_one;
 use viz_scratch::files_are_one;
 use viz_told::{Status, tell};
 
@@ -51,6 +52,7 @@ pub fn run_once<P: Port, O: Out>(
     ensures one_put { O.puts out.new ≡ one_more (O.puts out.old) }
 {
     files_are_one();
+    reshapes_are_one();
     let outcome = serve_ports(alloc, command, ports);
     tell(alloc, out, &outcome)
 }

@@ -4,15 +4,16 @@ ghost use Rattle.viz_once.specs.Account.{IsServed, Serves};
 ghost use Rattle.viz_once.specs.Commands.{command_view};
 
 use crate::command::Once;
-use crate::made::{Made, made_of};
+use crate::made::made_of;
 use crate::nodes::name_at;
 use crate::outcome::{Failed, Outcome};
 use std::alloc::Global;
 use viz_base::{LongText, Port, ReadRefusal, WriteRefusal};
 use viz_network::Stop;
 use viz_report::Reason;
+use viz_reshape::MadeFile;
 
-/// Reads the command's input, and writes the file that its fixed history gives.
+/// Reads the command's input, and writes the file that its filter makes.
 fn serve<P: Port>(alloc: Global, command: &Once<'_>, port: &mut P) -> Outcome
     ensures { IsServed P.Port (command_view command.now) result port.old port.new }
 {
@@ -30,16 +31,12 @@ fn serve<P: Port>(alloc: Global, command: &Once<'_>, port: &mut P) -> Outcome
         }
         Err(Stop::Memory) => return Outcome::Memory,
     };
-    let Made {
-        text,
-        cells,
-        points,
-    } = made;
+    let MadeFile { text, counts } = made;
     let Ok(text) = LongText::of(alloc, text) else {
         return Outcome::Memory;
     };
     match port.write(alloc, command.output, &text) {
-        Ok(()) => Outcome::Written { cells, points },
+        Ok(()) => Outcome::Written(counts),
         Err(WriteRefusal::Failed) => Outcome::Fault(Failed::Write),
         Err(WriteRefusal::Memory) => Outcome::Memory,
     }

@@ -12,4 +12,6 @@ mod mesh_files;
 #[cfg(test)]
 mod once;
 #[cfg(test)]
+mod reshapes;
+#[cfg(test)]
 mod runs;

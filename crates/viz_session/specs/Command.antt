@@ -2,7 +2,7 @@
 use Rattle.std.specs.Prelude.{ℕ, List, [], ◌∷◌, codes, Option, None, Some, Result, Ok, Err}
 use Rattle.std.specs.Prelude.{option_map, option_and_then, if◌then◌else◌}
 use Rattle.std.specs.Str.{bytes_eq}
-use Rattle.viz_once.specs.Command.{Command as OneFile, file_name_of, once_of}
+use Rattle.viz_once.specs.Command.{Command as OneFile, file_name_of, once_of, strip_of, clip_of}
 use Rattle.viz_words.specs.declared.refusal.ScriptRefusal.{ScriptRefusal}
 use Rattle.viz_words.specs.Names.{named_in, is_node_name, is_file_name}
 use Rattle.viz_words.specs.Numbers.{natural_in}
@@ -58,6 +58,8 @@ unfoldable pub command_of : List (List ℕ) → Option Command
 command_of [] = None
 command_of (verb ∷ words) =
     if bytes_eq verb (codes "once") then option_map (λ c. Once c) (once_of words)
+    else if bytes_eq verb (codes "strip") then option_map (λ c. Once c) (strip_of words)
+    else if bytes_eq verb (codes "clip") then option_map (λ c. Once c) (clip_of words)
     else if bytes_eq verb (codes "run") then script_of words
     else if bytes_eq verb (codes "scratch") then scratch_of words
     else if bytes_eq verb (codes "make") then make_of words else None

@@ -6,14 +6,14 @@ ghost use Rattle.viz_session.specs.Runs.{command_view};
 
 use viz_base::Bytes;
 use viz_make::{Make, volume_extent};
-use viz_once::{Once, file_name_text, read_once};
+use viz_once::{Once, file_name_text, read_clip, read_once, read_strip};
 use viz_replay::Replay;
 use viz_words::{file_name, natural, node_name};
 
 /// A command of the program.
 #[derive(Clone, Copy, Debug)]
 pub enum Command<'a> {
-    /// The words `once IN OUT` and a filter.
+    /// The words `once IN OUT` and a filter, `strip IN OUT`, or `clip IN OUT A B C R`.
     Once(Once<'a>),
     /// The words `run SCRIPT JOURNAL`.
     Script { script: &'a str, journal: &'a str },
@@ -91,6 +91,12 @@ pub fn read_command(words: &[Bytes]) -> Option<Command<'_>>
     };
     if verb.list() == b"once".as_slice() {
         return Some(Command::Once(read_once(rest)?));
+    }
+    if verb.list() == b"strip".as_slice() {
+        return Some(Command::Once(read_strip(rest)?));
+    }
+    if verb.list() == b"clip".as_slice() {
+        return Some(Command::Once(read_clip(rest)?));
     }
     if verb.list() == b"run".as_slice() {
         return script(rest);

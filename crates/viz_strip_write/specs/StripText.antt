@@ -8,6 +8,7 @@ use Rattle.viz_mesh_write.specs.Cells.{points_of, cells_of, of_size}
 use Rattle.viz_mesh_write.specs.MeshText.{title_lines, dataset_line, points_text, scalars_text}
 use Rattle.viz_mesh_write.specs.MeshText.{section_text, some_section}
 use Rattle.viz_strip.specs.Strips.{AreStrips}
+use Rattle.viz_strip_write.specs.declared.stripped.Stripped.{Stripped}
 
 -- a mesh that may be written so: one sheet without tetrahedra, whose names are leaves
 pub record IsFlat (sheets : List SheetData) : Type 0 where
@@ -42,6 +43,18 @@ pub record IsTextOf (points : List Point) (cells : List (List ℕ)) (text : List
   pub strips : List (List ℕ)
   pub are : AreStrips (of_size 3 cells) strips
   pub text_is : text ≡ text_by points cells strips
+
+-- the same with how many strips and triangles there are
+pub record IsCountedText (points : List Point) (cells : List (List ℕ)) (made : Stripped) : Type 0 where
+  pub strips : List (List ℕ)
+  pub are : AreStrips (of_size 3 cells) strips
+  pub text_is : made.text ≡ text_by points cells strips
+  pub strips_are : made.strips ≡ length strips
+  pub triangles_are : made.triangles ≡ length (of_size 3 cells)
+
+-- the text of a mesh with strips, and how many strips and triangles it has
+abbrev pub IsStripped : List SheetData → Stripped → Type 0
+IsStripped sheets made = IsCountedText (points_of sheets) (cells_of sheets) made
 
 -- the text of a mesh
 abbrev pub IsStripText : List SheetData → List ℕ → Type 0

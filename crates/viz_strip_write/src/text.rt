@@ -10,13 +10,14 @@ ghost use Rattle.viz_sheet.specs.Arrays.{points_in, ranks_in};
 ghost use Rattle.viz_sheet.specs.Ranked.{IsCell};
 ghost use Rattle.viz_strip.specs.Strips.{AreStrips};
 ghost use Rattle.viz_strip_write.specs.FitStrips.{AreFew, FitCells, FitCounts, FitStrips};
-ghost use Rattle.viz_strip_write.specs.StripText.{IsFlat, IsStripText, IsTextOf, cells_text};
-ghost use Rattle.viz_strip_write.specs.StripText.{text_by};
+ghost use Rattle.viz_strip_write.specs.StripText.{IsCountedText, IsFlat, IsStripText, IsStripped};
+ghost use Rattle.viz_strip_write.specs.StripText.{cells_text, text_by};
 
 use crate::cells::{count_of_size, put_of_size, put_rows, size_of_rows, triangles_of};
 use crate::heads::{put_head, put_points_line, put_scalars_head, put_section_line};
 use crate::points::{Coordinates, Scalar, put_points};
 use crate::stop::StripStop;
+use crate::stripped::Stripped;
 use std::alloc::{AllocError, Global};
 use viz_base::Bytes;
 use viz_sheet::{Mesh, Places, Ranks, Sheet};
@@ -200,7 +201,8 @@ fn text_with(
     requires counts { AreFew (ranks_in ranks.now) counts.vertices counts.lines }
     requires fits { FitCells (length (points_in places.now)) (ranks_in ranks.now) }
     requires strips { AreStrips (of_size 3 (ranks_in ranks.now)) rows.now }
-    ensures value { IfOk result (λ v. IsTextOf (points_in places.now) (ranks_in ranks.now) v.items) }
+    ensures value { IfOk result (λ v. v.items
+        ≡ text_by (points_in places.now) (ranks_in ranks.now) rows.now) }
     ensures counts { OnOk result
         (FitCounts (length (points_in places.now)) (ranks_in ranks.now)) }
     ensures coordinates { OnOk result (FitRows (coordinates 3) (points_in places.now)) }
@@ -222,9 +224,9 @@ fn text_with(
 }
 
 /// The text of points and cells.
-fn text_of(alloc: Global, places: &Places, ranks: &Ranks) -> Result<Vec<u8>, StripStop>
+fn text_of(alloc: Global, places: &Places, ranks: &Ranks) -> Result<Stripped, StripStop>
     requires each { All (IsCell (length (points_in places.now))) (ranks_in ranks.now) }
-    ensures value { IfOk result (λ v. IsTextOf (points_in places.now) (ranks_in ranks.now) v.items) }
+    ensures value { IfOk result (IsCountedText (points_in places.now) (ranks_in ranks.now)) }
     ensures counts { OnOk result
         (FitCounts (length (points_in places.now)) (ranks_in ranks.now)) }
     ensures coordinates { OnOk result (FitRows (coordinates 3) (points_in places.now)) }
@@ -242,12 +244,16 @@ fn text_of(alloc: Global, places: &Places, ranks: &Ranks) -> Result<Vec<u8>, Str
     };
     let rows = strips_of(alloc, places.len(), ranks)?;
     let text = text_with(alloc, counts, places, ranks, &rows)?;
-    Ok(text)
+    Ok(Stripped {
+        text: Bytes::new(text),
+        strips: rows.len() as u64,
+        triangles: count_of_size(ranks, 3),
+    })
 }
 
 /// The text of a sheet.
-fn sheet_text(alloc: Global, sheet: &Sheet) -> Result<Vec<u8>, StripStop>
-    ensures value { IfOk result (λ v. IsStripText (sheet.now ∷ []) v.items) }
+fn sheet_text(alloc: Global, sheet: &Sheet) -> Result<Stripped, StripStop>
+    ensures value { IfOk result (IsStripped (sheet.now ∷ [])) }
     ensures counts { OnOk result (FitStrips (sheet.now ∷ [])) }
     ensures numbers { OnOk result (FitNumbers 3 (sheet.now ∷ [])) }
     ensures too_many { IsErrOf result StripStop.TooMany → ¬ FitStrips (sheet.now ∷ []) }
@@ -256,6 +262,24 @@ fn sheet_text(alloc: Global, sheet: &Sheet) -> Result<Vec<u8>, StripStop>
 {
     let text = text_of(alloc, places_of(sheet), ranks_of(sheet))?;
     Ok(text)
+}
+
+/// The text that `strip_text` gives, with how many strips and triangles it has.
+///
+/// # Errors
+///
+/// Those of `strip_text`.
+pub fn counted_strip_text(alloc: Global, mesh: &Mesh) -> Result<Stripped, StripStop>
+    requires flat { IsFlat mesh.now }
+    ensures value { IfOk result (IsStripped mesh.now) }
+    ensures fits { OnOk result (FitStrips mesh.now × FitNumbers 3 mesh.now) }
+    ensures too_many { IsErrOf result StripStop.TooMany → ¬ FitStrips mesh.now }
+    ensures too_wide { IsErrOf result StripStop.TooWide
+        → FitStrips mesh.now × ¬ FitNumbers 3 mesh.now }
+{
+    let sheets = mesh.sheets();
+    let made = sheet_text(alloc, &sheets[0])?;
+    Ok(made)
 }
 
 /// The text of a mesh of one sheet of leaves without tetrahedra: as polydata in words with three
@@ -274,7 +298,6 @@ pub fn strip_text(alloc: Global, mesh: &Mesh) -> Result<Bytes, StripStop>
     ensures too_wide { IsErrOf result StripStop.TooWide
         → FitStrips mesh.now × ¬ FitNumbers 3 mesh.now }
 {
-    let sheets = mesh.sheets();
-    let text = sheet_text(alloc, &sheets[0])?;
-    Ok(Bytes::new(text))
+    let made = counted_strip_text(alloc, mesh)?;
+    Ok(made.text)
 }

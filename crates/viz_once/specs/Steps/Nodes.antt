@@ -1,5 +1,5 @@
 -- The two nodes of the fixed history. Only private contracts and proofs speak of them.
-use Rattle.std.specs.Prelude.{ℕ, zero, suc, pos, nat_eq, false, if◌then◌else◌, List, [], ◌∷◌}
+use Rattle.std.specs.Prelude.{ℕ, zero, suc, pos, false, List, [], ◌∷◌}
 use Rattle.std.specs.Prelude.{replicate, None, Some}
 use Rattle.viz_base.specs.declared.node.NodeId.{NodeId}
 use Rattle.viz_base.specs.declared.node.Pick.TheVariants.{First}
@@ -13,12 +13,12 @@ use Rattle.viz_network.specs.Network.{Network}
 use Rattle.viz_node_meaning.specs.Rules.{Inputs}
 use Rattle.viz_node_rules.specs.declared.stop.OwnStop.{OwnStop}
 use Rattle.viz_node_rules.specs.declared.stop.OwnStop.TheVariants as own
-use Rattle.viz_once.specs.declared.command.Filter.{Filter}
-use Rattle.viz_once.specs.declared.command.Filter.TheVariants.{Threshold, Contour}
+use Rattle.viz_once.specs.declared.command.NodeFilter.{NodeFilter}
+use Rattle.viz_once.specs.declared.command.NodeFilter.TheVariants.{Threshold, Contour}
 use Rattle.viz_once.specs.FixedHistory.{source, op, source_id, op_id}
 
 -- the parameters of the filter's node
-abbrev pub settings_of : Filter → Settings
+abbrev pub settings_of : NodeFilter → Settings
 settings_of (Threshold lo hi) = settings.Threshold lo hi
 settings_of (Contour level) = settings.Contour 1 (level ∷ replicate 7 (pos 0))
 
@@ -34,7 +34,7 @@ source_node bytes = record {
 }
 
 -- the filter's node
-abbrev pub op_node : Filter → Node
+abbrev pub op_node : NodeFilter → Node
 op_node filter = record {
   id = record { 0 = op_id };
   settings = settings_of filter;
@@ -45,12 +45,8 @@ op_node filter = record {
 }
 
 -- both, with their names
-abbrev pub made_network : Filter → List ℕ → Network
+abbrev pub made_network : NodeFilter → List ℕ → Network
 made_network filter bytes = (source, source_node bytes) ∷ (op, op_node filter) ∷ []
-
--- the name of one of both
-abbrev pub name_at : ℕ → List ℕ
-name_at id = if nat_eq id source_id then source else op
 
 -- ---- the cone
 

@@ -1,5 +1,6 @@
 use Rattle.viz_once.proofs.RunLemmas.{others-Run, usage-Run, script-Run, done-Run, refused-Run, fault-Run, cause-Run, refuses-Run}
 use Rattle.viz_once.proofs.CompleteLemmas.{complete-Run}
+use Rattle.viz_once.proofs.ReasonLemmas.{filters_are_one}
 use Rattle.viz_once.proofs.run.run_once.Goals as goal
 
 pub returns-clause-usage : goal.returns-clause-usage
@@ -15,10 +16,10 @@ pub returns-clause-refused : goal.returns-clause-refused
 returns-clause-refused g c = refused-Run g.P.Port _ g.O.Out _ _ _ _ _ _ c.serve_ports-outcome.ensures c.tell.ensures
 
 pub returns-clause-refuses : goal.returns-clause-refuses
-returns-clause-refuses g c = refuses-Run c.files_are_one.ensures g.P.Port g.O.Out _ _ _ _ _ _ _ c.serve_ports-outcome.ensures c.tell.ensures
+returns-clause-refuses g c = refuses-Run (filters_are_one c.files_are_one.ensures c.reshapes_are_one.ensures.one) g.P.Port g.O.Out _ _ _ _ _ _ _ c.serve_ports-outcome.ensures c.tell.ensures
 
 pub returns-clause-complete : goal.returns-clause-complete
-returns-clause-complete g c = complete-Run c.files_are_one.ensures g.P.Port g.O.Out _ _ _ _ _ _ _ c.serve_ports-outcome.ensures c.tell.ensures
+returns-clause-complete g c = complete-Run (filters_are_one c.files_are_one.ensures c.reshapes_are_one.ensures.one) g.P.Port g.O.Out _ _ _ _ _ _ _ c.serve_ports-outcome.ensures c.tell.ensures
 
 pub returns-clause-fault : goal.returns-clause-fault
 returns-clause-fault g c = fault-Run g.P.Port _ g.O.Out _ _ _ _ _ _ c.serve_ports-outcome.ensures c.tell.ensures

@@ -4,8 +4,9 @@ use Rattle.viz_base.specs.declared.call.WriteAnswer.TheVariants as write
 use Rattle.viz_report.specs.declared.line.Reason.TheVariants as reason
 use Rattle.viz_once.specs.Account.{Asked, Answered}
 use Rattle.viz_once.specs.Commands.{command_view}
-use Rattle.viz_once.specs.FixedHistory.{IsFileFor, IsMadeFor}
+use Rattle.viz_once.specs.Files.{IsFileFor, IsMadeFor}
 use Rattle.viz_once.specs.Reasons.{IsFaultFor}
+use Rattle.viz_once.proofs.ReasonLemmas.{made_file}
 use Rattle.viz_once.proofs.ServeLemmas.{written, unwritten}
 use Rattle.viz_once.proofs.serving.serve.Goals as goal
 
@@ -39,7 +40,7 @@ returns-in-Ok-write g c =
     let r = c.in-Ok.ensures in
     let w = c.in-Ok-write.ensures in (
       Answered bytes text write.Written,
-      (made.cells, made.points, subst (λ (t : List ℕ). IsMadeFor filter bytes t made.cells made.points) (sym c.in-Ok-of.ensures) c.in-Ok-made_of.ensures, refl),
+      (made.counts, subst (λ (t : List ℕ). IsMadeFor filter bytes t made.counts) (sym c.in-Ok-of.ensures) c.in-Ok-made_of.ensures, refl),
       written g.P.Port (command_view c.args.command.now) c.args.port.now c.read.new.self c.write.new.self bytes r.told r.bytes r.kept r.later r.same_limit w.later w.same_limit text write.Written w.told w.written w.kept (λ f. absurd f),
     )
 
@@ -47,11 +48,12 @@ pub returns-in-Err-Failed-write : goal.returns-in-Err-Failed-write
 returns-in-Err-Failed-write g c =
     let filter = c.args.command.now.filter in
     let bytes = c.in-Ok.bytes in
+    let made = c.in-Ok-made_of.made in
     let text = c.in-Ok-of.text in
     let r = c.in-Ok.ensures in
     let w = rw c.in-Err-Failed-write.field-0-is at c.in-Err-Failed-write.ensures in (
       Answered bytes text write.Failed,
-      (subst (λ (t : List ℕ). IsFileFor filter bytes (Ok t)) (sym c.in-Ok-of.ensures) c.in-Ok-made_of.ensures.file, refl),
+      (subst (λ (t : List ℕ). IsFileFor filter bytes (Ok t)) (sym c.in-Ok-of.ensures) (made_file filter bytes made.text made.counts c.in-Ok-made_of.ensures), refl),
       written g.P.Port (command_view c.args.command.now) c.args.port.now c.read.new.self c.write.new.self bytes r.told r.bytes r.kept r.later r.same_limit w.later w.same_limit text write.Failed w.told (λ t. w.prefix t refl) w.kept (λ f. w.failed refl),
     )
 

@@ -1,0 +1,4 @@
+pub mod DecisionLemmas
+pub mod ReadingLemmas
+pub mod WorkLemmas
+pub mod OneLemmas

@@ -1,0 +1,3 @@
+pub mod Reshape
+pub mod Laws
+pub mod Steps
