@@ -1,0 +1,4 @@
+pub mod OnceLemmas
+pub mod LeafLemmas
+pub mod BoundaryLemmas
+pub mod FitLaw
