@@ -1,4 +1,4 @@
-use Rattle.std.proofs.Common.{ℕ, ◌≤◌, List, [], arith, below_more, get_or, length, subst, sym, ap, ◌∙◌}
+use Rattle.std.proofs.Common.{ℕ, ◌≤◌, [], arith, below_more, get_or, length, subst, sym, ap, ◌∙◌}
 use Rattle.std.proofs.lemmas.List.{length-map}
 use Rattle.std.proofs.lemmas.List.Elements.{All-from_get_or}
 use Rattle.viz_strip_tests.proofs.flat.is_small.Goals as goal
