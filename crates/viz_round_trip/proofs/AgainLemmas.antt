@@ -25,7 +25,7 @@ use Rattle.viz_round_trip.proofs.PieceLemmas.{all-of_size}
 
 -- ---- members of members
 
-abbrev members : {X : Type 0} → List (List X) → List X
+abbrev pub members : {X : Type 0} → List (List X) → List X
 members lists = flat_map (λ list. list) lists
 
 contains-map : {X Y : Type 0} (f : X → Y) (xs : List X) (x : X) → Contains xs x → Contains (map f xs) (f x)
@@ -73,7 +73,7 @@ used_from first (s ∷ sheets) i h lt =
     (cases_lt i (length s.points)) in
     subst (λ (xs : List ℕ). Contains xs (first + i)) (sym both) place
 
-used_index : (sheets : List SheetData) (i : ℕ) → All IsSheet sheets → i < length (points_of sheets) → Contains (members (cells_of sheets)) i
+pub used_index : (sheets : List SheetData) (i : ℕ) → All IsSheet sheets → i < length (points_of sheets) → Contains (members (cells_of sheets)) i
 used_index sheets i h lt =
     let same : 0 + i ≡ i = omega arith in
     subst (λ (k : ℕ). Contains (members (cells_of sheets)) k) same (used_from 0 sheets i h lt)
@@ -89,13 +89,13 @@ cond_there true c cs i h = Contains-append_right c (members cs) i h
 cond_there false c cs i h = h
 
 -- a member of a cell of 1 to 3 points
-record IsOfSize (cells : List (List ℕ)) (i : ℕ) : Type 0 where
-  size : ℕ
-  some : 1 ≤ size
-  most : size ≤ 3
-  member : Contains (members (of_size size cells)) i
+pub record IsOfSize (cells : List (List ℕ)) (i : ℕ) : Type 0 where
+  pub size : ℕ
+  pub some : 1 ≤ size
+  pub most : size ≤ 3
+  pub member : Contains (members (of_size size cells)) i
 
-of_some_size : (n : ℕ) (cells : List (List ℕ)) (i : ℕ) → All (IsCell n) cells → has_tetrahedra cells ≡ false → Contains (members cells) i → IsOfSize cells i
+pub of_some_size : (n : ℕ) (cells : List (List ℕ)) (i : ℕ) → All (IsCell n) cells → has_tetrahedra cells ≡ false → Contains (members cells) i → IsOfSize cells i
 of_some_size n [] i is none h = absurd (no_member i h)
 of_some_size n (c ∷ cs) i is none h =
     let p = or_parts (length c == 4) (has_tetrahedra cs) none in
@@ -150,7 +150,7 @@ member_below n (c ∷ cs) i is h =
 
 -- ---- all are kept
 
-trues : ℕ → List Bool
+pub trues : ℕ → List Bool
 trues zero = []
 trues (suc n) = true ∷ trues n
 
@@ -171,14 +171,14 @@ below_true zero i e = absurd cc
 below_true (suc n) zero e = omega arith
 below_true (suc n) (suc i) e = let lt = below_true n i e in omega (arith, lt)
 
-kept_all : {X : Type 0} (xs : List X) (n : ℕ) → length xs ≡ n → xs ≡ kept (trues n) xs
+pub kept_all : {X : Type 0} (xs : List X) (n : ℕ) → length xs ≡ n → xs ≡ kept (trues n) xs
 unfolding trues
 kept_all [] zero e = refl
 kept_all [] (suc n) e = refl
 kept_all (x ∷ xs) zero e = absurd (omega (arith, e))
 kept_all (x ∷ xs) (suc n) e = ap (λ ys. x ∷ ys) (kept_all xs n (omega (arith, e)))
 
-marks_all : (n : ℕ) (cells : List (List ℕ)) → All (IsCell n) cells → ((i : ℕ) → i < n → Contains (members cells) i) → AreMarks n cells (trues n)
+pub marks_all : (n : ℕ) (cells : List (List ℕ)) → All (IsCell n) cells → ((i : ℕ) → i < n → Contains (members cells) i) → AreMarks n cells (trues n)
 marks_all n cells is used = record {
   size = length-trues n;
   each = λ i. ((λ e. used i (below_true n i e)), (λ h. true_below n i (member_below n cells i is h)));
@@ -186,7 +186,7 @@ marks_all n cells is used = record {
 
 -- ---- points
 
-map_range : {X Y : Type 0} (f : ℕ → Y) (g : X → Y) (k : ℕ) (xs : List X) → ((i : ℕ) (x : X) → i < length xs → get_or xs i x ≡ x → f (k + i) ≡ g x) → map f (range_with_len k (length xs)) ≡ map g xs
+pub map_range : {X Y : Type 0} (f : ℕ → Y) (g : X → Y) (k : ℕ) (xs : List X) → ((i : ℕ) (x : X) → i < length xs → get_or xs i x ≡ x → f (k + i) ≡ g x) → map f (range_with_len k (length xs)) ≡ map g xs
 map_range f g k [] h = refl
 map_range f g k (x ∷ xs) h =
     let first : k + 0 ≡ k = omega arith in
@@ -194,12 +194,12 @@ map_range f g k (x ∷ xs) h =
     (map_range f g (k + 1) xs (λ i y lt e. let next : (k + 1) + i ≡ k + suc i = omega arith in ap f next ∙ h (suc i) y (omega (arith, lt)) e))
 
 -- the three numbers of a point
-record AreNumbers (digits : ℕ) (ns : List ℤ) (i : ℕ) (p : Point) : Type 0 where
-  x : get_or ns (3 * i) (pos 0) ≡ fixed_of p.x p.w digits
-  y : get_or ns (3 * i + 1) (pos 0) ≡ fixed_of p.y p.w digits
-  z : get_or ns (3 * i + 2) (pos 0) ≡ fixed_of p.z p.w digits
+pub record AreNumbers (digits : ℕ) (ns : List ℤ) (i : ℕ) (p : Point) : Type 0 where
+  pub x : get_or ns (3 * i) (pos 0) ≡ fixed_of p.x p.w digits
+  pub y : get_or ns (3 * i + 1) (pos 0) ≡ fixed_of p.y p.w digits
+  pub z : get_or ns (3 * i + 2) (pos 0) ≡ fixed_of p.z p.w digits
 
-numbers_at : (digits : ℕ) (ps : List Point) (i : ℕ) (p : Point) → i < length ps → get_or ps i p ≡ p → AreNumbers digits (flat_map (coordinates digits) ps) i p
+pub numbers_at : (digits : ℕ) (ps : List Point) (i : ℕ) (p : Point) → i < length ps → get_or ps i p ≡ p → AreNumbers digits (flat_map (coordinates digits) ps) i p
 numbers_at digits [] i p lt e = absurd (omega (arith, lt))
 numbers_at digits (q ∷ ps) zero p lt e = record {
   x = ap (λ (p : Point). fixed_of p.x p.w digits) e;

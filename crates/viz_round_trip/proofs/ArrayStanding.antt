@@ -45,7 +45,7 @@ unfolding digits
 one_continues behind = refl
 
 -- one component, which is written
-stands-components : (old : Reading) (behind : List ℕ) → rest_of old ≡ 32 ∷ (decimal 1 ++ 10 ∷ behind) → Stands components old 1 (10 ∷ behind)
+pub stands-components : (old : Reading) (behind : List ℕ) → rest_of old ≡ 32 ∷ (decimal 1 ++ 10 ∷ behind) → Stands components old 1 (10 ∷ behind)
 stands-components old behind e =
     let first = stands-count old 32 1 (10 ∷ behind) refl (omega arith) refl e in
     let beside : is_beside old ≡ true = ap continues e ∙ one_continues behind in

@@ -18,7 +18,7 @@ use Rattle.viz_round_trip.proofs.WordStanding.{word-solid, blank-one, stands-nex
 use Rattle.viz_round_trip.proofs.ArrayStanding.{given, stands-association, head_of, scalars_text, stands-scalars}
 
 -- a byte behind a newline that is no blank
-not_blank : (text : List ℕ) (b : ℕ) (bs : List ℕ) → is_blank b ≡ false → text ≡ 10 ∷ b ∷ bs → ¬ IsBlank text
+pub not_blank : (text : List ℕ) (b : ℕ) (bs : List ℕ) → is_blank b ≡ false → text ≡ 10 ∷ b ∷ bs → ¬ IsBlank text
 not_blank text b bs solid e h =
     let blank = IsBlank-head b bs (IsBlank-tail 10 (b ∷ bs) (subst IsBlank e h)) in
     let none : true ≡ false = sym blank ∙ solid in

@@ -59,7 +59,7 @@ number_fits (negsuc n) h = lt-ltb n (2 ^ 63) h.sfits
 abbrev Fits64 : ℤ → Type 0
 Fits64 n = FitsSigned w64 n
 
-points_fit : (digits : ℕ) (ps : List Point) → All (λ p. FitsRow (coordinates digits p)) ps → list_all (fits I64) (numbers_of_points digits ps) ≡ true
+pub points_fit : (digits : ℕ) (ps : List Point) → All (λ p. FitsRow (coordinates digits p)) ps → list_all (fits I64) (numbers_of_points digits ps) ≡ true
 points_fit digits [] h = refl
 points_fit digits (p ∷ ps) h =
     let row = (All-head (λ p. FitsRow (coordinates digits p)) p ps h).each in
@@ -72,7 +72,7 @@ points_fit digits (p ∷ ps) h =
     let z_fits = number_fits z (All-head Fits64 z [] (All-tail Fits64 y (z ∷ []) yz)) in
     rw (x_fits, y_fits, z_fits, points_fit digits ps (All-tail (λ p. FitsRow (coordinates digits p)) p ps h)) refl
 
-scalars_fit : (ps : List Point) → All (λ p. FitsRow (scalars p)) ps → list_all (fits I64) (map scalar ps) ≡ true
+pub scalars_fit : (ps : List Point) → All (λ p. FitsRow (scalars p)) ps → list_all (fits I64) (map scalar ps) ≡ true
 scalars_fit [] h = refl
 scalars_fit (p ∷ ps) h =
     let here = number_fits (scalar p) (All-head Fits64 (scalar p) [] (All-head (λ p. FitsRow (scalars p)) p ps h).each) in
@@ -95,7 +95,7 @@ known-from digits sheets are = record {
   cells = cells-are sheets are.known;
 }
 
-below-of : (n : ℕ) (cs : List (List ℕ)) → All (IsCell n) cs → HaveIndices n cs
+pub below-of : (n : ℕ) (cs : List (List ℕ)) → All (IsCell n) cs → HaveIndices n cs
 below-of n cs h = All-weaker (IsCell n) (HasIndices n) (λ c is. is.below) cs h
 
 sized-of : (n : ℕ) (cs : List (List ℕ)) → All (IsCell n) cs → All HasSize cs
@@ -177,7 +177,7 @@ stands-poly_all binary digits ps cs old known some small e =
 
 -- ---- the whole file
 
-regrouped : (title form dataset points cells scalars : List ℕ) → title ++ form ++ dataset ++ points ++ cells ++ scalars ≡ title ++ (form ++ (dataset ++ (points ++ (cells ++ scalars))))
+pub regrouped : (title form dataset points cells scalars : List ℕ) → title ++ form ++ dataset ++ points ++ cells ++ scalars ≡ title ++ (form ++ (dataset ++ (points ++ (cells ++ scalars))))
 regrouped title form dataset points cells scalars = simp append_assoc refl
 
 -- the text of these points and cells
@@ -247,7 +247,7 @@ reads-again binary digits sheets are some =
 
 -- ---- a mesh without points
 
-abbrev empty_text : Bool → ℕ → List ℕ
+abbrev pub empty_text : Bool → ℕ → List ℕ
 empty_text binary digits =
     title_lines digits ++ form_line binary ++ dataset_line false ++ points_text binary digits [] ++ section_text binary (codes "POLYGONS") [] ++ []
 
@@ -260,7 +260,7 @@ stands-none binary old left blank e =
     let all : Stands (parts g) old [] left = record { new = old; is = (refl, subst IsBlank (sym e) blank); rest = e } in
     stands-follow (parts g) (λ all. choose (is_zero g.pick || has_fit g (joined all)) (gives (picked_of g (joined all))) no_array) old [] None left left all (stands-gives None all.new left all.rest)
 
-stands-empty : (binary : Bool) (digits : ℕ) (old : Reading) → digits ≤ 9 → rest_of old ≡ empty_text binary digits → StandsHere (file Zero digits) old (Mesh empty_mesh)
+pub stands-empty : (binary : Bool) (digits : ℕ) (old : Reading) → digits ≤ 9 → rest_of old ≡ empty_text binary digits → StandsHere (file Zero digits) old (Mesh empty_mesh)
 stands-empty binary digits old few e =
     let section = section_text binary (codes "POLYGONS") [] in
     let behind = points_text binary digits [] ++ (section ++ []) in

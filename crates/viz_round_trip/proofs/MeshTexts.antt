@@ -49,7 +49,7 @@ unfolding grid_text
 grid_parts binary cs tail =
     append_assoc (section_text binary (codes "CELLS") cs) (types_text binary cs) tail ∙ ap (λ (t : List ℕ). section_text binary (codes "CELLS") cs ++ t) (types_parts binary cs tail) ∙ section_parts binary (codes "CELLS") cs (codes "CELL_TYPES" ++ types_behind binary cs tail)
 
-some_parts : (binary : Bool) (key : List ℕ) (cs : List (List ℕ)) (tail : List ℕ) → some_section binary key cs ++ tail ≡ some_behind binary key cs tail
+pub some_parts : (binary : Bool) (key : List ℕ) (cs : List (List ℕ)) (tail : List ℕ) → some_section binary key cs ++ tail ≡ some_behind binary key cs tail
 some_parts binary key [] tail = refl
 some_parts binary key (c ∷ cs) tail = section_parts binary key (c ∷ cs) tail
 

@@ -12,7 +12,7 @@ use Rattle.viz_mesh_write.specs.Cells.{of_size}
 use Rattle.viz_round_trip.specs.MeshTrip.{by_kinds}
 use Rattle.viz_round_trip.proofs.PolyStanding.{kinds_of}
 
-kept_whole : (test : Bool) (piece : List ℕ) → test ≡ true → kept test piece ≡ piece ∷ []
+pub kept_whole : (test : Bool) (piece : List ℕ) → test ≡ true → kept test piece ≡ piece ∷ []
 kept_whole true piece e = refl
 kept_whole false piece e = absurd cc
 
@@ -33,12 +33,12 @@ grid-pieces n (c ∷ cs) h =
 
 -- ---- polydata
 
-vertex_piece : (n : ℕ) (c : List ℕ) → IsCell n c → length c ≡ 1 → vertices_of c ≡ c ∷ []
+pub vertex_piece : (n : ℕ) (c : List ℕ) → IsCell n c → length c ≡ 1 → vertices_of c ≡ c ∷ []
 vertex_piece n [] is e = absurd (omega (arith, e))
 vertex_piece n (a ∷ []) is e = refl
 vertex_piece n (a ∷ b ∷ c) is e = absurd (omega (arith, e))
 
-line_piece : (n : ℕ) (c : List ℕ) → IsCell n c → length c ≡ 2 → lines_of c ≡ c ∷ []
+pub line_piece : (n : ℕ) (c : List ℕ) → IsCell n c → length c ≡ 2 → lines_of c ≡ c ∷ []
 line_piece n [] is e = absurd (omega (arith, e))
 line_piece n (a ∷ []) is e = absurd (omega (arith, e))
 line_piece n (a ∷ b ∷ []) is e =
@@ -62,7 +62,7 @@ whole_cond f true c cs h e = ap₂ (λ (x y : List (List ℕ)). x ++ y) (h refl)
 whole_cond f false c cs h e = e
 
 -- the pieces of cells of one size
-whole_size : (n size : ℕ) (f : List ℕ → List (List ℕ)) (cells : List (List ℕ)) → ((c : List ℕ) → IsCell n c → length c ≡ size → f c ≡ c ∷ []) → All (IsCell n) cells → flat_map f (of_size size cells) ≡ of_size size cells
+pub whole_size : (n size : ℕ) (f : List ℕ → List (List ℕ)) (cells : List (List ℕ)) → ((c : List ℕ) → IsCell n c → length c ≡ size → f c ≡ c ∷ []) → All (IsCell n) cells → flat_map f (of_size size cells) ≡ of_size size cells
 whole_size n size f [] h is = refl
 whole_size n size f (c ∷ cs) h is =
     whole_cond f (length c == size) c (of_size size cs) (λ e. h c (All-head (IsCell n) c cs is) (eqb-true (length c) size e)) (whole_size n size f cs h (All-tail (IsCell n) c cs is))

@@ -29,13 +29,13 @@ use Rattle.viz_round_trip.proofs.GridStanding.{key-next, stands-no_fields}
 -- ---- one section
 
 -- the tests of the four keywords are those of the next word
-record AreNext (r : Reading) (key : List ℕ) : Type 0 where
-  vertices : is_next (codes "VERTICES") r ≡ same_word key (codes "VERTICES")
-  lines : is_next (codes "LINES") r ≡ same_word key (codes "LINES")
-  polygons : is_next (codes "POLYGONS") r ≡ same_word key (codes "POLYGONS")
-  strips : is_next (codes "TRIANGLE_STRIPS") r ≡ same_word key (codes "TRIANGLE_STRIPS")
+pub record AreNext (r : Reading) (key : List ℕ) : Type 0 where
+  pub vertices : is_next (codes "VERTICES") r ≡ same_word key (codes "VERTICES")
+  pub lines : is_next (codes "LINES") r ≡ same_word key (codes "LINES")
+  pub polygons : is_next (codes "POLYGONS") r ≡ same_word key (codes "POLYGONS")
+  pub strips : is_next (codes "TRIANGLE_STRIPS") r ≡ same_word key (codes "TRIANGLE_STRIPS")
 
-are-next : (r : Reading) (gap key behind : List ℕ) → IsNextWord (rest_of r) gap key behind → AreNext r key
+pub are-next : (r : Reading) (gap key behind : List ℕ) → IsNextWord (rest_of r) gap key behind → AreNext r key
 are-next r gap key behind h = record {
   vertices = is_next-word (codes "VERTICES") r gap key behind h;
   lines = is_next-word (codes "LINES") r gap key behind h;
@@ -44,11 +44,11 @@ are-next r gap key behind h = record {
 }
 
 -- a section that is due, and what stands behind it
-abbrev one_section : {V : Type 0} → Bool → ℕ → (Reading → Bool) → (ℕ × List ℕ → List (List ℕ) → Rule V) → V → Rule V
+abbrev pub one_section : {V : Type 0} → Bool → ℕ → (Reading → Bool) → (ℕ × List ℕ → List (List ℕ) → Rule V) → V → Rule V
 one_section binary points due next all =
     follow (fields binary) (λ passed. beside due (follow word (λ key. demand true (fault_at Sections51 key.0) (follow (section binary points) (λ cells. next key cells)))) (gives all))
 
-stands-one : {V : Type 0} (binary : Bool) (points : ℕ) (due : Reading → Bool) (next : ℕ × List ℕ → List (List ℕ) → Rule V) (all x : V) (key : List ℕ) (cs : List (List ℕ)) (old : Reading) (gap tail left : List ℕ)
+pub stands-one : {V : Type 0} (binary : Bool) (points : ℕ) (due : Reading → Bool) (next : ℕ × List ℕ → List (List ℕ) → Rule V) (all x : V) (key : List ℕ) (cs : List (List ℕ)) (old : Reading) (gap tail left : List ℕ)
     → IsBlank gap → is_solid key ≡ true → same_word key (codes "FIELD") ≡ false → points < 2 ^ 31 → size_of cs < 2 ^ 31 → HaveIndices points cs → ((r : Reading) → AreNext r key → due r ≡ true)
     → rest_of old ≡ gap ++ (key ++ section_behind binary cs tail) → ((place : ℕ) (new : Reading) → rest_of new ≡ cells_gap binary cs ++ tail → Stands (next (place, key) cs) new x left)
     → Stands (one_section binary points due next all) old x left
@@ -68,7 +68,7 @@ stands-one binary points due next all x key cs old gap tail left blank solid oth
     (stands-follow (section binary points) (λ cells. next (place, key) cells) first.new cs x (cells_gap binary cs ++ tail) left cells rest))))
 
 -- no section is due
-stands-end : {V : Type 0} (binary : Bool) (points : ℕ) (due : Reading → Bool) (next : ℕ × List ℕ → List (List ℕ) → Rule V) (all : V) (old : Reading) (left : List ℕ) → is_next (codes "FIELD") old ≡ false → due old ≡ false → rest_of old ≡ left
+pub stands-end : {V : Type 0} (binary : Bool) (points : ℕ) (due : Reading → Bool) (next : ℕ × List ℕ → List (List ℕ) → Rule V) (all : V) (old : Reading) (left : List ℕ) → is_next (codes "FIELD") old ≡ false → due old ≡ false → rest_of old ≡ left
     → Stands (one_section binary points due next all) old all left
 stands-end binary points due next all old left no_field free e =
     let none : Stands (fields binary) old tt left = record { new = old; is = (0, refl, no_field); rest = e } in
@@ -105,13 +105,13 @@ with_data behind = codes "POINT_DATA" ++ 32 ∷ behind
 data_next : (r : Reading) (behind : List ℕ) → rest_of r ≡ 10 ∷ with_data behind → IsNextWord (rest_of r) (10 ∷ []) (codes "POINT_DATA") (32 ∷ behind)
 data_next r behind e = key-next r (10 ∷ []) (codes "POINT_DATA") behind (blank-one 10 refl) refl e
 
-no_field : (r : Reading) (behind : List ℕ) → rest_of r ≡ 10 ∷ with_data behind → is_next (codes "FIELD") r ≡ false
+pub no_field : (r : Reading) (behind : List ℕ) → rest_of r ≡ 10 ∷ with_data behind → is_next (codes "FIELD") r ≡ false
 no_field r behind e = is_next-word (codes "FIELD") r (10 ∷ []) (codes "POINT_DATA") (32 ∷ behind) (data_next r behind e)
 
-no_section : (r : Reading) (behind : List ℕ) → rest_of r ≡ 10 ∷ with_data behind → AreNext r (codes "POINT_DATA")
+pub no_section : (r : Reading) (behind : List ℕ) → rest_of r ≡ 10 ∷ with_data behind → AreNext r (codes "POINT_DATA")
 no_section r behind e = are-next r (10 ∷ []) (codes "POINT_DATA") (32 ∷ behind) (data_next r behind e)
 
-full_gap : (binary : Bool) (c : List ℕ) (cs : List (List ℕ)) (new : Reading) (tail : List ℕ) → rest_of new ≡ cells_gap binary (c ∷ cs) ++ tail → rest_of new ≡ 10 ∷ tail
+pub full_gap : (binary : Bool) (c : List ℕ) (cs : List (List ℕ)) (new : Reading) (tail : List ℕ) → rest_of new ≡ cells_gap binary (c ∷ cs) ++ tail → rest_of new ≡ 10 ∷ tail
 full_gap binary c cs new tail e =
     e ∙ ap (λ (gap : List ℕ). gap ++ tail) (gap-some binary (length (map cell_numbers (c ∷ cs))) (omega arith))
 
@@ -208,7 +208,7 @@ stands-kinds binary points (a ∷ more) b c old behind few are lines others e =
 -- ---- polydata
 
 -- the next word is that of a section, or of attributes
-metadata_other : (r : Reading) (key behind : List ℕ) → is_solid key ≡ true → same_word key (codes "METADATA") ≡ false → rest_of r ≡ 10 ∷ (key ++ 32 ∷ behind) → is_next (codes "METADATA") r ≡ false
+pub metadata_other : (r : Reading) (key behind : List ℕ) → is_solid key ≡ true → same_word key (codes "METADATA") ≡ false → rest_of r ≡ 10 ∷ (key ++ 32 ∷ behind) → is_next (codes "METADATA") r ≡ false
 metadata_other r key behind solid other e = is_next-word (codes "METADATA") r (10 ∷ []) key (32 ∷ behind) (key-next r (10 ∷ []) key behind (blank-one 10 refl) solid e) ∙ other
 
 -- the cells of polydata, kind by kind, and the attributes of points
@@ -226,7 +226,7 @@ no_metadata binary [] [] [] behind r e = metadata_other r (codes "POINT_DATA") _
 abbrev pub poly_with : ℕ → List Point → List (List ℕ) → List (List ℕ) → List (List ℕ) → Poly
 poly_with digits ps a b c = record { points = points_in_file digits ps; cells = kinds_of a b c }
 
-some_gap : (binary : Bool) (digits : ℕ) (ps : List Point) (tail text : List ℕ) → 0 < length ps → text ≡ points_gap binary digits ps ++ tail → text ≡ 10 ∷ tail
+pub some_gap : (binary : Bool) (digits : ℕ) (ps : List Point) (tail text : List ℕ) → 0 < length ps → text ≡ points_gap binary digits ps ++ tail → text ≡ 10 ∷ tail
 some_gap binary digits ps tail text some e =
     e ∙ ap (λ (gap : List ℕ). gap ++ tail) (gap-some binary (length (map (coordinates digits) ps)) (omega (arith, some, length-map ps (coordinates digits))))
 
