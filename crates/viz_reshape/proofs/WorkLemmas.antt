@@ -15,7 +15,7 @@ use Rattle.viz_network.specs.declared.fault.Fault.{Fault}
 use Rattle.viz_network.specs.declared.fault.Stop.{Stop}
 use Rattle.viz_node_meaning.specs.Data.{IsReadingOf}
 use Rattle.viz_node_meaning.specs.Scratch.{Answers}
-use Rattle.viz_clip_meaning.specs.Clip.{AreNarrowCells, AreTetrahedra}
+use Rattle.viz_clip_meaning.specs.Clip.{AreNarrowCells, AreTetrahedra, ClippedData, clipped_of, sheet_of}
 use Rattle.viz_sheet.specs.Ranked.{ranks_of}
 use Rattle.viz_sheet.specs.Sheet.{SheetData}
 use Rattle.viz_reshape.specs.declared.reshape.Reshape.{Reshape}
@@ -74,6 +74,15 @@ clip_written form sheets made r h w =
 pub clip_stopped : (form : Form) (sheets : List SheetData) (stop : MakeStop) → Makes (IsClipMesh form sheets) (Err stop) → Makes (IsClipOf form sheets) (Err stop)
 clip_stopped form sheets (Caused cause) h = (h.0, h.1, clip_refused form h.0 cause h.2)
 clip_stopped form sheets Memory h = tt
+
+-- the clip of the one sheet of a mesh
+pub clip_is : (form : Form) (sheets : List SheetData) (t s : SheetData) (clipped : ClippedData) (made : List SheetData) → sheets ≡ t ∷ [] → s ≡ t → AreTetrahedra s → AreNarrowCells form s
+    → clipped ≡ clipped_of form s → made ≡ sheet_of clipped ∷ [] → IsClipMesh form sheets (Ok made)
+clip_is form sheets t s clipped made one same tets narrow value mesh = (
+  s,
+  one ∙ ap (λ (x : SheetData). x ∷ []) (sym same),
+  inl (tets, inl (narrow, ap (λ (l : List SheetData). let r : Decided (List SheetData) = Ok l in r) (mesh ∙ ap (λ (c : ClippedData). sheet_of c ∷ []) value))),
+)
 
 -- ---- counts of one sheet
 
