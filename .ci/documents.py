@@ -7,7 +7,7 @@ import subprocess
 import sys
 
 TOP = os.path.dirname(os.path.dirname(os.path.abspath(__file__)))
-PROVED = ["docs/PROVED.md", "docs/PROVED-OF-DATA.md"]
+PROVED = ["docs/PROVED%s.md" % it for it in ("", "-OF-UPDATES", "-OF-DATA", "-OF-FILTERS")]
 PAGES = ["README.md", "bench/README.md"] + PROVED + [
     "docs/%s.md" % page for page in
     ("ARCHITECTURE", "DEFINITIONS", "DEFINITIONS-OF-DATA", "FORMATS", "FILTERS", "USING",
