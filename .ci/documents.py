@@ -10,8 +10,8 @@ TOP = os.path.dirname(os.path.dirname(os.path.abspath(__file__)))
 PROVED = ["docs/PROVED%s.md" % it for it in ("", "-OF-UPDATES", "-OF-DATA", "-OF-FILTERS")]
 PAGES = ["README.md", "bench/README.md"] + PROVED + [
     "docs/%s.md" % page for page in
-    ("ARCHITECTURE", "DEFINITIONS", "DEFINITIONS-OF-DATA", "FORMATS", "FILTERS", "USING",
-     "DECISIONS", "GLOSSARY", "PROOF-NOTES", "MEASURED")]
+    ("ARCHITECTURE", "DEFINITIONS", "DEFINITIONS-OF-DATA", "DEFINITIONS-OF-FILES", "FORMATS",
+     "FILTERS", "USING", "DECISIONS", "GLOSSARY", "PROOF-NOTES", "MEASURED")]
 SUFFIXES = (".md", ".rt", ".antt", ".txt", ".py", ".vtk", ".edit", ".sh")
 errors = []
 
