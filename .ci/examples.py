@@ -29,6 +29,7 @@ NOT_TYPED = {
     "python3 docs/whole.py ": "it needs VTK and numpy, which the gate hasn't",
     "python3 docs/scaled.py ": "it needs VTK, which the gate hasn't",
     "python3 docs/mesh42.py ": "it needs VTK and numpy, which the gate hasn't",
+    "python3 docs/clip.py ": "it needs VTK and numpy, which the gate hasn't",
     "xvfb-run ": "it draws with VTK, which the gate hasn't",
 }
 # What is said of a kind, in this order; a kind has a line for each of its parameters.
