@@ -13,7 +13,7 @@ use Rattle.viz_scratch.specs.Laws.{FilesAreOne}
 use Rattle.viz_once.specs.declared.command.Filter.{Filter}
 use Rattle.viz_once.specs.declared.command.Filter.TheVariants.{Node, Reshape}
 use Rattle.viz_once.specs.Files.{IsFileFor, IsMadeFor, IsNameFor}
-use Rattle.viz_once.specs.FixedHistory.{network_for, source_id, op_id, name_at}
+use Rattle.viz_once.specs.FixedHistory.{network_for, source_id, op_id}
 use Rattle.viz_once.specs.Reasons.{IsFaultFor, IsReason}
 
 -- a failed read is no reason

@@ -52,7 +52,7 @@ fn is_file_name(word: &[u8]) -> bool
 /// first neither `-` nor `.`.
 #[tactic(auto, unfolding(crate::specs::Command::file_name_of))]
 pub fn file_name_text(word: &[u8]) -> Option<&str>
-    ensures { option_map (λ name. name.now) result ≡ file_name_of word.now }
+    ensures value { option_map (λ name. name.now) result ≡ file_name_of word.now }
 {
     if !is_file_name(word) {
         return None;
@@ -93,7 +93,7 @@ fn read_filter(words: &[Bytes]) -> Option<NodeFilter>
 /// The command that the words behind `once` are: IN OUT and those of a filter.
 #[tactic(auto, unfolding(crate::specs::Command::once_of))]
 pub fn read_once(words: &[Bytes]) -> Option<Once<'_>>
-    ensures { option_map command_view result ≡ once_of words.now }
+    ensures value { option_map command_view result ≡ once_of words.now }
 {
     let [input, output, behind @ ..] = words else {
         return None;
@@ -111,7 +111,7 @@ pub fn read_once(words: &[Bytes]) -> Option<Once<'_>>
 /// The command that the words behind `strip` are: IN OUT.
 #[tactic(auto, unfolding(crate::specs::Command::strip_of))]
 pub fn read_strip(words: &[Bytes]) -> Option<Once<'_>>
-    ensures { option_map command_view result ≡ strip_of words.now }
+    ensures value { option_map command_view result ≡ strip_of words.now }
 {
     let [input, output] = words else {
         return None;
@@ -159,7 +159,7 @@ fn read_plane(a: &[u8], b: &[u8], c: &[u8], r: &[u8]) -> Option<Reshape>
 /// The command that the words behind `clip` are: IN OUT A B C R.
 #[tactic(auto, unfolding(crate::specs::Command::clip_of))]
 pub fn read_clip(words: &[Bytes]) -> Option<Once<'_>>
-    ensures { option_map command_view result ≡ clip_of words.now }
+    ensures value { option_map command_view result ≡ clip_of words.now }
 {
     let [input, output, a, b, c, r] = words else {
         return None;

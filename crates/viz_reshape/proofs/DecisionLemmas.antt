@@ -1,5 +1,5 @@
 -- What is decided step by step.
-use Rattle.std.proofs.Common.{◌≡◌, ◌⊎◌, Result, Ok, Err, refl, sym, ap, ◌∙◌, inl, inr}
+use Rattle.std.proofs.Common.{◌≡◌, Result, Ok, sym, ap, ◌∙◌, inl, inr}
 use Rattle.viz_network.specs.declared.fault.Cause.{Cause}
 use Rattle.viz_reshape.specs.Reshape.{Is, Demands}
 

@@ -1,5 +1,5 @@
 -- What is made of a file is one.
-use Rattle.std.proofs.Common.{◌≡◌, ℕ, List, [], ◌∷◌, length, get_or, Result, Ok, Err, refl, sym, ap, ap₂, subst, ◌∙◌}
+use Rattle.std.proofs.Common.{◌≡◌, ℕ, List, [], ◌∷◌, length, get_or, Result, Ok, Err, sym, ap, ap₂, subst, ◌∙◌}
 use Rattle.viz_dataset.specs.declared.dataset.Dataset.{Dataset}
 use Rattle.viz_dataset.specs.declared.dataset.Dataset.TheVariants.{Image, Mesh}
 use Rattle.viz_fraction.specs.declared.forms.Form.{Form}
@@ -17,7 +17,6 @@ use Rattle.viz_clip_meaning.specs.Clip.{AreTetrahedra, AreNarrowCells}
 use Rattle.viz_strip.specs.Kept.{StripsAreOne}
 use Rattle.viz_strip_write.specs.FitStrips.{FitStrips}
 use Rattle.viz_strip_write.specs.StripText.{text_by}
-use Rattle.viz_reshape.specs.declared.reshape.FileCounts.{FileCounts}
 use Rattle.viz_reshape.specs.declared.reshape.FileCounts.TheVariants.{Strips}
 use Rattle.viz_reshape.specs.declared.reshape.Reshape.{Reshape}
 use Rattle.viz_reshape.specs.declared.reshape.Reshape.TheVariants.{Strip, Clip}

@@ -1,5 +1,5 @@
 -- What the work on a dataset comes to.
-use Rattle.std.proofs.Common.{◌≡◌, ◌⊎◌, ℕ, ◌≤◌, List, [], ◌∷◌, length, map, Some, Result, Ok, Err, refl, sym, ap, subst, ◌∙◌, append-nil, inl, inr}
+use Rattle.std.proofs.Common.{◌≡◌, ℕ, ◌≤◌, List, [], ◌∷◌, length, Some, Result, Ok, Err, refl, sym, ap, subst, ◌∙◌, append-nil, inl, inr}
 use Rattle.std.specs.List.{All}
 use Rattle.std.proofs.lemmas.List.{length-map}
 use Rattle.std.proofs.lemmas.List.Elements.{All-head}
@@ -7,12 +7,9 @@ use Rattle.viz_base.specs.declared.node.NodeId.{NodeId}
 use Rattle.viz_base.specs.declared.node.Pick.TheVariants.{First}
 use Rattle.viz_dataset.specs.declared.dataset.Dataset.{Dataset}
 use Rattle.viz_fraction.specs.declared.forms.Form.{Form}
-use Rattle.viz_fraction.specs.Points.{Point}
 use Rattle.viz_mesh_write.specs.Cells.{cells_of, moved, points_of}
 use Rattle.viz_network.specs.declared.fault.Cause.{Cause}
 use Rattle.viz_network.specs.declared.fault.Cause.TheVariants.{TooWide, WrongInput}
-use Rattle.viz_network.specs.declared.fault.Fault.{Fault}
-use Rattle.viz_network.specs.declared.fault.Stop.{Stop}
 use Rattle.viz_node_meaning.specs.Data.{IsReadingOf}
 use Rattle.viz_node_meaning.specs.Scratch.{Answers}
 use Rattle.viz_clip_meaning.specs.Clip.{AreNarrowCells, AreTetrahedra, ClippedData, clipped_of, sheet_of}
@@ -23,7 +20,7 @@ use Rattle.viz_reshape.specs.declared.reshape.MadeFile.{MadeFile}
 use Rattle.viz_reshape.specs.declared.stop.MakeStop.{MakeStop}
 use Rattle.viz_reshape.specs.declared.stop.MakeStop.TheVariants.{Cause as Caused, Memory}
 use Rattle.viz_strip_write.specs.StripText.{IsFlat}
-use Rattle.viz_reshape.specs.Reshape.{Demands, HasNoTetrahedra, IsClipOf, IsMadeOf, IsOfClip, IsReshaped, IsWritten}
+use Rattle.viz_reshape.specs.Reshape.{HasNoTetrahedra, IsClipOf, IsMadeOf, IsOfClip, IsReshaped, IsWritten}
 use Rattle.viz_reshape.specs.Steps.Work.{IsClipMesh, IsOneSheet, Makes, stop_at}
 
 -- ---- results

@@ -1,5 +1,5 @@
 -- Words of private contracts: the one sheet of a file, and what is made unless memory runs out.
-use Rattle.std.specs.Prelude.{◌≡◌, ℕ, List, [], ◌∷◌, length, All, Result, Ok, Err}
+use Rattle.std.specs.Prelude.{◌≡◌, List, [], ◌∷◌, length, All, Result, Ok, Err}
 use Rattle.viz_sheet.specs.Sheet.{SheetData}
 use Rattle.viz_dataset.specs.declared.dataset.Dataset.{Dataset}
 use Rattle.viz_meaning.specs.Tetrahedra.{sheets_of}
