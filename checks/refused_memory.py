@@ -22,6 +22,9 @@ SHIM = os.path.join(TOP, "out/checks/refuse.so")
 VOLUME = ("# vtk DataFile Version 3.0\nc\nASCII\nDATASET STRUCTURED_POINTS\nDIMENSIONS 3 3 5\n"
           "ORIGIN 0 0 0\nSPACING 1 1 1\nPOINT_DATA 45\nSCALARS s int\nLOOKUP_TABLE default\n"
           + " ".join(str((7 * n) % 11) for n in range(45)) + "\n")
+SQUARE = ("# vtk DataFile Version 3.0\nq\nASCII\nDATASET POLYDATA\nPOINTS 4 int\n"
+          "0 0 0 1 0 0 1 1 0 0 1 0\nPOLYGONS 2 8\n3 0 1 2\n3 0 2 3\n"
+          "POINT_DATA 4\nSCALARS s int\nLOOKUP_TABLE default\n0 0 0 0\n")
 FRONT = ["1 add file src", "1 load src c.vtk", "1 add contour iso", "1 connect src iso 1"]
 # The lines of each script.
 SCRIPTS = {
@@ -37,6 +40,8 @@ SCRIPTS = {
 # The words of each command; of a script `s` is the script and `j` the journal.
 COMMANDS = {name: ["run", "s", "j"] for name in SCRIPTS}
 COMMANDS["one file"] = ["once", "c.vtk", "a.vtk", "contour", "5"]
+COMMANDS["strips"] = ["strip", "q.vtk", "a.vtk"]
+COMMANDS["a clip"] = ["clip", "c.vtk", "a.vtk", "0", "0", "2", "1"]
 COMMANDS["a volume"] = ["make", "7", "3", "2", "2", "a.vtk"]
 # How each kind of call is refused: by error numbers (input and output, no space, no file), or for
 # half of the bytes.
@@ -54,8 +59,9 @@ def wrong(name, way, number, what):
 def folder_of(name, root):
     """A fresh folder with the files that a command reads."""
     folder = tempfile.mkdtemp(dir=root)
-    with open(os.path.join(folder, "c.vtk"), "w") as file:
-        file.write(VOLUME)
+    for path, content in ("c.vtk", VOLUME), ("q.vtk", SQUARE):
+        with open(os.path.join(folder, path), "w") as file:
+            file.write(content)
     if name in SCRIPTS:
         with open(os.path.join(folder, "s"), "w") as file:
             file.write("\n".join(SCRIPTS[name]) + "\n")
@@ -83,7 +89,8 @@ def whole_files(name, way, number, found, plain, folder):
     """Each file that a line tells as whole has the bytes that are due."""
     for line in found.out.splitlines():
         told = re.match(r"file (?:(\d+) (\d+) )?(?:at (\d+) )?cells \d+ points \d+", line)
-        if told and not told[1] and found.files.get("a.vtk") != plain.files["a.vtk"]:
+        strips = re.match(r"strips \d+ triangles \d+ points \d+", line)
+        if (strips or told and not told[1]) and found.files.get("a.vtk") != plain.files["a.vtk"]:
             wrong(name, way, number, "a.vtk isn't whole")
         if told and told[1]:
             _, _, node, path, *_ = target_of(name, told[1], told[2])
