@@ -1,5 +1,5 @@
 -- The readers of offsets and indices decide their rules.
-use Rattle.std.proofs.Common.{◌≡◌, ℕ, ℤ, ◌^◌, Bool, true, false, not, ◌||◌, List, [], ◌∷◌, length, Result, Ok, Err, refl, sym, ap, if◌then◌else◌}
+use Rattle.std.proofs.Common.{◌≡◌, ℕ, ◌^◌, Bool, not, ◌||◌, List, [], Result, Ok, Err, refl, sym, ap, if◌then◌else◌}
 use Rattle.std.specs.Prelude.{◌==◌, codes, unwrap_or, unsigned_abs}
 use Rattle.viz_column.specs.declared.kind.Kind8.{Kind8}
 use Rattle.viz_column.specs.declared.kind.Kind8.TheVariants.{U8}
@@ -9,10 +9,9 @@ use Rattle.viz_lex.specs.declared.fault.FileFault.{FileFault}
 use Rattle.viz_lex.specs.declared.fault.FileKind.TheVariants.{Keyword, ValueRange, Count, Index, TooMany, Unsupported}
 use Rattle.viz_lex.specs.Reading.{Reading, ◌>>=◌}
 use Rattle.viz_lex.specs.Steps.{has, due_word, due_number, keyword_at}
-use Rattle.viz_lex.specs.Rules.{Rule, gives, Decides}
-use Rattle.viz_lex.specs.Repeats.{times, times_knowing}
+use Rattle.viz_lex.specs.Rules.{gives, Decides}
 use Rattle.viz_lex.specs.Items.{word, number, keyword, block}
-use Rattle.viz_lex.specs.Readers.{times_at, known_at, bytes_at}
+use Rattle.viz_lex.specs.Readers.{times_at, bytes_at}
 use Rattle.viz_lex.proofs.ReadingLemmas.{done, done_is}
 use Rattle.viz_lex.proofs.RuleLemmas.{along-to, decides-gives, decides-follow, decides-demand, decides-choose, decides-beside, decides-times}
 use Rattle.viz_lex.proofs.KnownLemmas.{decides-times_knowing}

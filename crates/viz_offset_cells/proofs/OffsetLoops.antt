@@ -1,11 +1,10 @@
 -- Offsets that were read don't fall, and the last is how many indices there are.
-use Rattle.std.proofs.Common.{◌≡◌, ℕ, ℤ, pos, negsuc, zero, suc, ◌-◌, ◌+◌, ◌≤◌, ◌<◌, Bool, true, false, not, ◌&&◌, ◌||◌, List, [], ◌∷◌, ◌++◌, length, length-append, Result, Ok, Err, refl, sym, ap, subst, ◌∙◌, append_assoc, arith, if◌then◌else◌}
-use Rattle.std.specs.Prelude.{◌==◌, get_or, unsigned_abs, nat_le}
+use Rattle.std.proofs.Common.{◌≡◌, ℕ, ℤ, pos, negsuc, zero, suc, ◌-◌, ◌+◌, ◌≤◌, Bool, true, false, not, ◌&&◌, ◌||◌, List, [], ◌∷◌, ◌++◌, length, length-append, Ok, refl, sym, ap, subst, ◌∙◌, append_assoc, arith, if◌then◌else◌}
+use Rattle.std.specs.Prelude.{◌==◌, unsigned_abs, nat_le}
 use Rattle.std.proofs.lemmas.Bool.{leb-true, eqb-true, true≢false}
 use Rattle.std.proofs.lemmas.List.{append-nil}
 use Rattle.std.proofs.Math.Seq.{get_or-append_seam}
 use Rattle.viz_column.specs.declared.kind.Kind8.{Kind8}
-use Rattle.viz_lex.specs.declared.fault.FileFault.{FileFault}
 use Rattle.viz_lex.specs.Reading.{Reading}
 use Rattle.viz_lex.specs.Readers.{known_at}
 use Rattle.viz_lex.proofs.ReadingLemmas.{done_is, bind_ok}

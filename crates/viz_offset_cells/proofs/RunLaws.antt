@@ -1,5 +1,5 @@
 -- The numbers of cells that are read run by run are those of the runs of the whole list.
-use Rattle.std.proofs.Common.{◌≡◌, ℕ, ℤ, pos, negsuc, zero, suc, ◌-◌, ◌+◌, ◌≤◌, Bool, true, false, not, ◌||◌, List, [], ◌∷◌, ◌++◌, length, Result, Ok, Err, refl, sym, ap, subst, ◌∙◌, append_assoc, arith, if◌then◌else◌}
+use Rattle.std.proofs.Common.{◌≡◌, ℕ, ℤ, pos, negsuc, suc, ◌-◌, ◌+◌, Bool, true, false, not, ◌||◌, List, [], ◌∷◌, ◌++◌, length, Result, Ok, Err, refl, sym, ap, subst, ◌∙◌, append_assoc, arith, if◌then◌else◌}
 use Rattle.std.specs.Prelude.{◌==◌, codes, take, drop, unsigned_abs}
 use Rattle.std.proofs.lemmas.Bool.{eqb-true, true≢false}
 use Rattle.std.proofs.lemmas.List.{append-nil, drop-drop}
@@ -9,7 +9,7 @@ use Rattle.viz_lex.specs.declared.fault.FileFault.{FileFault}
 use Rattle.viz_lex.specs.Reading.{Reading, ◌>>=◌}
 use Rattle.viz_lex.specs.Steps.{keyword_at}
 use Rattle.viz_lex.specs.Rules.{Decides}
-use Rattle.viz_lex.specs.Readers.{times_at, known_at}
+use Rattle.viz_lex.specs.Readers.{times_at}
 use Rattle.viz_lex.proofs.ReadingLemmas.{bind_ok}
 use Rattle.viz_lex.proofs.RuleLemmas.{decides-gives, decides-follow}
 use Rattle.viz_lex.proofs.PassRules.{decides-same}
@@ -22,7 +22,7 @@ use Rattle.viz_mesh_read.proofs.SectionLaws.{as_numbers}
 use Rattle.viz_mesh_read.proofs.GridLaws.{in_front}
 use Rattle.viz_offset_cells.specs.Runs.{runs_from, runs_between}
 use Rattle.viz_offset_cells.specs.Offsets.{has_cuts, offset_section, offset_numbers}
-use Rattle.viz_offset_cells.specs.Steps.{index_type_at, index_at, offset_at, offsets_at, runs_at, all_runs_at, connectivity_at, cut_cells_at, any_cells_at, offset_section_at, AreCuts, AreAllCuts}
+use Rattle.viz_offset_cells.specs.Steps.{index_type_at, index_at, offsets_at, runs_at, all_runs_at, connectivity_at, cut_cells_at, any_cells_at, offset_section_at, AreCuts, AreAllCuts}
 use Rattle.viz_offset_cells.proofs.Times.{put_behind, and_more, times_at-length, times_at-add, known_at-times}
 use Rattle.viz_offset_cells.proofs.Loops.{cuts-rise}
 use Rattle.viz_offset_cells.proofs.OffsetLoops.{known-cuts}

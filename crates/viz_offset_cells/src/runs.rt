@@ -94,7 +94,16 @@ fn all_cells(
     let room = (offsets.len() as u64).saturating_add(indices.min(left));
     let mut numbers = Vec::with_capacity(alloc, room as usize)?;
     if let [first, later @ ..] = offsets {
-        cells(lexer, &mut numbers, binary, kind, points, *first, later, indices)?;
+        cells(
+            lexer,
+            &mut numbers,
+            binary,
+            kind,
+            points,
+            *first,
+            later,
+            indices,
+        )?;
     }
     Ok(numbers)
 }

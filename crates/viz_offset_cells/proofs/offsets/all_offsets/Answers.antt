@@ -1,4 +1,4 @@
-use Rattle.std.proofs.Common.{◌≡◌, ◌++◌, ◌∷◌, [], Ok, subst, sym, arith}
+use Rattle.std.proofs.Common.{◌≡◌, ◌++◌, ◌∷◌, [], Ok, arith}
 use Rattle.std.proofs.lemmas.Grind.{common_steps}
 use Rattle.viz_offset_cells.specs.Steps.{offset_at}
 use Rattle.viz_offset_cells.proofs.Loops.{known-on, known-done}
