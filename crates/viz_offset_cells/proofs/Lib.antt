@@ -1,0 +1,6 @@
+pub mod IndexLaws
+pub mod Loops
+pub mod OffsetLaws
+pub mod OffsetLoops
+pub mod RunLaws
+pub mod Times

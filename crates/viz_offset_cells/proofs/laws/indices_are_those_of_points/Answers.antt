@@ -1,0 +1,5 @@
+use Rattle.viz_offset_cells.proofs.IndexLaws.{section-below}
+use Rattle.viz_offset_cells.proofs.laws.indices_are_those_of_points.Goals as goal
+
+pub returns : goal.returns
+returns c = record { section = section-below }
