@@ -20,6 +20,10 @@ POINTS 4 int
 POLYGONS 2 8
 3 0 1 2
 3 0 2 3
+POINT_DATA 4
+SCALARS s int
+LOOKUP_TABLE default
+0 0 0 0
 ";
 
 const SQUARE_STRIP: &str = "# vtk DataFile Version 3.0
@@ -56,6 +60,10 @@ CELLS 1 5
 4 0 1 2 3
 CELL_TYPES 1
 10
+POINT_DATA 4
+SCALARS s int
+LOOKUP_TABLE default
+0 0 0 0
 ";
 
 const UPPER_HALF: &str = "# vtk DataFile Version 3.0
