@@ -44,7 +44,6 @@ kind_text kind.HeaderNumber = codes "HeaderNumber"
 kind_text kind.TooMany = codes "TooMany"
 kind_text kind.Truncated = codes "Truncated"
 kind_text kind.Unsupported = codes "Unsupported"
-kind_text kind.Sections51 = codes "Sections51"
 
 -- the word of a fault of a file: its kind, and the place of its first byte
 abbrev pub file_text : FileFault → List ℕ

@@ -60,7 +60,6 @@ fn kind_word(kind: &FileKind) -> &'static str
         FileKind::TooMany => "TooMany",
         FileKind::Truncated => "Truncated",
         FileKind::Unsupported => "Unsupported",
-        FileKind::Sections51 => "Sections51",
     }
 }
 

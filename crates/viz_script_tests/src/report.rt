@@ -130,7 +130,6 @@ fn a_bad_file_has_its_kind_and_place(rt: HostRuntime) -> Result<(), Fail> {
         (FileKind::TooMany, "TooMany"),
         (FileKind::Truncated, "Truncated"),
         (FileKind::Unsupported, "Unsupported"),
-        (FileKind::Sections51, "Sections51"),
     ] {
         let want = format!(in alloc; "fault:src:BadFile({want},163)")?;
         refused(&rt, alloc, fault(bad_file(kind))?, &want)?;
