@@ -24,4 +24,4 @@ pub use laws::{
 };
 pub use passed::pass_field;
 pub use stop::AttrStop;
-pub use types::{Stored, type_word};
+pub use types::{Stored, is_left_out, stored_of, type_word};

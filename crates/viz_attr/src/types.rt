@@ -55,8 +55,10 @@ impl Stored {
     }
 }
 
-fn stored_of(word: &[u8]) -> Option<Stored>
-    ensures { result ≡ stored_of word.now }
+/// How the type that a word names is stored, in any case of letters; None where it names none that
+/// is read here.
+pub fn stored_of(word: &[u8]) -> Option<Stored>
+    ensures value { result ≡ stored_of word.now }
 {
     if is_word(word, b"char") {
         return Some(Stored::Whole(Kind8::I8));
@@ -91,8 +93,9 @@ fn stored_of(word: &[u8]) -> Option<Stored>
     None
 }
 
-fn is_left_out(word: &[u8]) -> bool
-    ensures { result ≡ is_left_out_type word.now }
+/// Whether a word names a type of the format that isn't read here.
+pub fn is_left_out(word: &[u8]) -> bool
+    ensures value { result ≡ is_left_out_type word.now }
 {
     is_word(word, b"bit")
         || is_word(word, b"vtkIdType")

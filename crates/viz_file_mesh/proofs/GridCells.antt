@@ -6,7 +6,7 @@ use Rattle.std.proofs.lemmas.Bool.{true≢false, eqb-true, eqb-false, and_parts,
 use Rattle.std.proofs.lemmas.List.Elements.{All-nil, All-cons, All-head, All-tail}
 use Rattle.viz_lex.specs.Reading.{Reading}
 use Rattle.viz_lex.specs.Steps.{has}
-use Rattle.viz_mesh_read.specs.Sections.{numbers_of_cells, HasIndices, HaveIndices}
+use Rattle.viz_counted_cells.specs.Sections.{numbers_of_cells, HasIndices, HaveIndices}
 use Rattle.viz_mesh_read.specs.Grid.{points_of_type, cell_type, cell_types, Grid, grid}
 use Rattle.viz_mesh_read.proofs.IndexLaws.{grid-below}
 use Rattle.viz_mesh_read.proofs.PieceLemmas.{in_cells-list}

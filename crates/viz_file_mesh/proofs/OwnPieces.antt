@@ -4,7 +4,7 @@ use Rattle.std.specs.List.{All, list_all, flat_map}
 use Rattle.std.proofs.lemmas.Bool.{and_parts}
 use Rattle.std.proofs.lemmas.List.{append-nil}
 use Rattle.std.proofs.lemmas.List.Elements.{All-head, All-tail}
-use Rattle.viz_mesh_read.specs.Sections.{numbers_of_cells}
+use Rattle.viz_counted_cells.specs.Sections.{numbers_of_cells}
 use Rattle.viz_mesh_read.specs.Poly.{ByKind}
 use Rattle.viz_mesh_read.specs.Pieces.{in_cells, is_triangle, triangles_of, pieces_in}
 use Rattle.viz_mesh_read.proofs.PieceLemmas.{in_cells-list}

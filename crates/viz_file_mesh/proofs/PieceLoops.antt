@@ -2,8 +2,8 @@
 use Rattle.std.proofs.Common.{◌≡◌, ℕ, suc, ◌-◌, ◌+◌, ◌<◌, ◌≤◌, Bool, true, false, List, [], ◌∷◌, ◌++◌, length, refl, sym, subst, arith}
 use Rattle.std.specs.List.{All}
 use Rattle.std.proofs.lemmas.List.Elements.{All-nil, All-cons, All-head, All-tail}
-use Rattle.viz_mesh_read.specs.Grid.{behind_first}
-use Rattle.viz_mesh_read.specs.Pieces.{kept, first_indices, in_cells}
+use Rattle.viz_counted_cells.specs.Numbered.{first_indices, behind_first}
+use Rattle.viz_mesh_read.specs.Pieces.{kept, in_cells}
 use Rattle.viz_sheet.specs.Ranked.{IsCell}
 use Rattle.viz_file_mesh.specs.GridPieces.{repeats_none, grid_piece}
 

@@ -7,7 +7,7 @@ use Rattle.std.proofs.lemmas.List.Elements.{All-nil, All-cons, All-append, All-g
 use Rattle.viz_lex.specs.Reading.{Reading}
 use Rattle.viz_mesh_read.specs.declared.coordinates.FilePoints.{FilePoints}
 use Rattle.viz_mesh_read.specs.Points.{points}
-use Rattle.viz_mesh_read.specs.Sections.{HasIndices, HaveIndices}
+use Rattle.viz_counted_cells.specs.Sections.{HasIndices, HaveIndices}
 use Rattle.viz_mesh_read.specs.Poly.{ByKind, Poly, polydata, HaveIndicesByKind}
 use Rattle.viz_mesh_read.specs.Pieces.{kept, vertex_of, vertices_of, segment_of, is_segment, lines_of, triangle_of, is_triangle, triangles_of, pieces_of}
 use Rattle.viz_mesh_read.proofs.IndexLaws.{polydata-below}

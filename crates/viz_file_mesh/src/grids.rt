@@ -3,9 +3,8 @@
 ghost use Rattle.std.specs.Prelude.{◌≡◌, ◌++◌, ℕ, List, All, IfOk, OnOk, IfSome, IsTrue, length};
 ghost use Rattle.std.specs.Prelude.{map, true};
 ghost use Rattle.std.specs.List.{list_all};
-ghost use Rattle.viz_mesh_read.specs.Grid.{first_count, behind_first};
-ghost use Rattle.viz_mesh_read.specs.Pieces.{first_indices, in_cells};
-ghost use Rattle.viz_mesh_read.specs.Sections.{section_of, numbers_of_cells};
+ghost use Rattle.viz_mesh_read.specs.Pieces.{in_cells};
+ghost use Rattle.viz_counted_cells.specs.Sections.{section_of, numbers_of_cells};
 ghost use Rattle.viz_sheet.specs.Arrays.{ranks_in};
 ghost use Rattle.viz_sheet.specs.Ranked.{IsCell};
 ghost use Rattle.viz_file_mesh.specs.GridPieces.{is_among, repeats_none, grid_piece};
@@ -13,36 +12,10 @@ ghost use Rattle.viz_file_mesh.specs.GridPieces.{grid_pieces_in};
 
 use crate::cells::{CellIndices, mixed_cell};
 use std::alloc::{AllocError, Global};
-use viz_mesh_read::{CellArrays, CellNumbers, CellSection};
+use viz_counted_cells::{
+    CellArrays, CellNumbers, CellSection, behind_first, first_count, first_indices,
+};
 use viz_sheet::{Mixed, Ranks};
-
-/// The indices of the first cell, and none where there is no cell.
-fn first_indices(numbers: &[u32]) -> &[u32]
-    ensures { result.now ≡ first_indices numbers.now }
-{
-    match numbers {
-        [c, rest @ ..] => &rest[..(*c as usize).min(rest.len())],
-        [] => numbers,
-    }
-}
-
-/// The numbers behind the first cell.
-fn behind_first(numbers: &[u32]) -> &[u32]
-    ensures { result.now ≡ behind_first numbers.now }
-{
-    match numbers {
-        [c, rest @ ..] => &rest[(*c as usize).min(rest.len())..],
-        [] => numbers,
-    }
-}
-
-/// How many indices the first cell has, and 0 where there is no cell.
-fn first_size(numbers: &[u32]) -> u32 {
-    match numbers {
-        [c, ..] => *c,
-        [] => 0,
-    }
-}
 
 /// No index is repeated.
 fn repeats_none(cell: &[u32]) -> bool
@@ -141,7 +114,7 @@ fn ranks_of_size(alloc: Global, count: u64, numbers: &[u32]) -> Result<Option<Ra
     ensures { IfOk result (λ ranks. IfSome ranks (λ r.
         ranks_in r ≡ grid_pieces_in (count, numbers.now))) }
 {
-    let ranks = match first_size(numbers) {
+    let ranks = match first_count(numbers) {
         1 => pieces_of_size(alloc, count, numbers)?.map(Ranks::Vertices),
         2 => pieces_of_size(alloc, count, numbers)?.map(Ranks::Lines),
         3 => pieces_of_size(alloc, count, numbers)?.map(Ranks::Triangles),

@@ -1,7 +1,7 @@
 //! The mesh of a file's points and cells.
 
 ghost use Rattle.std.specs.Prelude.{◌≡◌, ◌≤◌, ◌∷◌, [], All, IfOk, length};
-ghost use Rattle.viz_mesh_read.specs.Sections.{section_of};
+ghost use Rattle.viz_counted_cells.specs.Sections.{section_of};
 ghost use Rattle.viz_mesh_read.specs.Poly.{sections_of};
 ghost use Rattle.viz_mesh_read.specs.Pieces.{pieces_in};
 ghost use Rattle.viz_sheet.specs.Arrays.{points_in, ranks_in};

@@ -3,7 +3,7 @@
 ghost use Rattle.std.specs.Prelude.{◌≡◌, ◌++◌, [], All, IfOk, OnOk, map, length};
 ghost use Rattle.std.specs.List.{list_all};
 ghost use Rattle.std.specs.Prelude.{true, false};
-ghost use Rattle.viz_mesh_read.specs.Sections.{section_of, numbers_of_cells};
+ghost use Rattle.viz_counted_cells.specs.Sections.{section_of, numbers_of_cells};
 ghost use Rattle.viz_mesh_read.specs.Poly.{sections_of};
 ghost use Rattle.viz_mesh_read.specs.Pieces.{in_cells, is_triangle, triangles_of, pieces_in};
 ghost use Rattle.viz_sheet.specs.Arrays.{ranks_in};
@@ -11,7 +11,8 @@ ghost use Rattle.viz_file_mesh.specs.Steps.Polygons.{HasPolygonsAlone};
 
 use crate::cells::CellIndices;
 use std::alloc::{AllocError, Global};
-use viz_mesh_read::{CellArrays, CellNumbers, CellSection, PolyCells, PolyPieces, split};
+use viz_counted_cells::{CellArrays, CellNumbers, CellSection};
+use viz_mesh_read::{PolyCells, PolyPieces, split};
 use viz_sheet::{Mixed, Ranks};
 
 /// These cells behind those before.

@@ -10,7 +10,7 @@ use Rattle.viz_attr.specs.Steps.Parts.{attributes_at}
 use Rattle.viz_attr.proofs.AttributeLaws.{decides-attributes}
 use Rattle.viz_dataset.specs.declared.dataset.Dataset.TheVariants.{Image, Mesh}
 use Rattle.viz_mesh_read.specs.declared.coordinates.FilePoints.{FilePoints}
-use Rattle.viz_mesh_read.specs.Sections.{numbers_of_cells}
+use Rattle.viz_counted_cells.specs.Sections.{numbers_of_cells}
 use Rattle.viz_mesh_read.specs.Grid.{Grid, grid, grid_numbers}
 use Rattle.viz_mesh_read.specs.GridSteps.{grid_at}
 use Rattle.viz_mesh_read.specs.Poly.{ByKind, Poly, polydata, polydata_numbers, numbers_by_kind}

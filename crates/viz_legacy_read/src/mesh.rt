@@ -3,7 +3,7 @@
 ghost use Rattle.std.specs.Prelude.{◌≡◌, ◌≤◌, None, All, IfOk, IfSome};
 ghost use Rattle.viz_mesh_read.specs.Grid.{grid_of};
 ghost use Rattle.viz_mesh_read.specs.GridSteps.{grid_at};
-ghost use Rattle.viz_mesh_read.specs.Sections.{section_of};
+ghost use Rattle.viz_counted_cells.specs.Sections.{section_of};
 ghost use Rattle.viz_mesh_read.specs.Poly.{polydata_of, sections_of};
 ghost use Rattle.viz_mesh_read.specs.PolySteps.{polydata_at};
 ghost use Rattle.viz_mesh_read.specs.Pieces.{pieces_in};

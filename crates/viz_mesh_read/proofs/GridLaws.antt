@@ -1,10 +1,10 @@
 -- The reader of a grid decides its rule.
-use Rattle.std.proofs.Common.{◌≡◌, ℕ, suc, Bool, not, List, [], ◌∷◌, ◌++◌, length, Result, Ok, Err, refl, ap, ◌∙◌, add-one}
+use Rattle.std.proofs.Common.{◌≡◌, ℕ, suc, Bool, List, [], ◌∷◌, ◌++◌, length, Result, Ok, Err, refl, ap, ◌∙◌, add-one}
 use Rattle.std.specs.Prelude.{codes, drop, unwrap_or, ◌==◌}
 use Rattle.viz_lex.specs.declared.fault.FileFault.{FileFault}
-use Rattle.viz_lex.specs.declared.fault.FileKind.TheVariants.{Count, CellType, Sections51}
+use Rattle.viz_lex.specs.declared.fault.FileKind.TheVariants.{Count, CellType}
 use Rattle.viz_lex.specs.Reading.{Reading, ◌>>=◌}
-use Rattle.viz_lex.specs.Steps.{has, same_word, due_word, due_number, keyword_kind, keyword_at, is_next}
+use Rattle.viz_lex.specs.Steps.{has, due_word, due_number, keyword_at, is_next}
 use Rattle.viz_lex.specs.Rules.{Decides}
 use Rattle.viz_lex.specs.Repeats.{Skips}
 use Rattle.viz_lex.specs.Items.{word, number, keyword}
@@ -20,13 +20,18 @@ use Rattle.viz_attr.specs.Steps.{same_count_at}
 use Rattle.viz_attr.proofs.PassedLaws.{decides-passed_field}
 use Rattle.viz_mesh_read.specs.declared.coordinates.FilePoints.{FilePoints}
 use Rattle.viz_mesh_read.specs.Points.{points}
-use Rattle.viz_mesh_read.specs.Sections.{section_number, section_start, section, cell_numbers, numbers_of_cells}
-use Rattle.viz_mesh_read.specs.Steps.{points_at, section_number_at, section_start_at, section_at}
-use Rattle.viz_mesh_read.specs.Grid.{one_field, fields, cells_keyword, points_of_type, cell_type, cell_types, types, Grid, grid, grid_numbers, behind_first}
-use Rattle.viz_mesh_read.specs.GridSteps.{one_field_at, fields_in_at, fields_at, cells_keyword_at, cell_type_at, cell_types_at, types_at, grid_at}
+use Rattle.viz_counted_cells.specs.Sections.{section_number, section_start}
+use Rattle.viz_counted_cells.specs.Numbered.{cell_numbers, numbers_of_cells, behind_first}
+use Rattle.viz_counted_cells.proofs.NumberedLemmas.{behind_cell}
+use Rattle.viz_counted_cells.specs.Steps.{section_number_at, section_start_at}
+use Rattle.viz_mesh_read.specs.CellSections.{cell_section}
+use Rattle.viz_mesh_read.specs.Steps.{points_at, cell_section_at}
+use Rattle.viz_mesh_read.specs.Grid.{one_field, fields, points_of_type, cell_type, cell_types, types, Grid, grid, grid_numbers}
+use Rattle.viz_mesh_read.specs.GridSteps.{one_field_at, fields_in_at, fields_at, cell_type_at, cell_types_at, types_at, grid_at}
 use Rattle.viz_mesh_read.proofs.GridLoops.{Passed}
 use Rattle.viz_mesh_read.proofs.PointLaws.{decides-points}
-use Rattle.viz_mesh_read.proofs.SectionLaws.{section_list_at, as_numbers, section_at-list, decides-section_number, decides-section_start, decides-section}
+use Rattle.viz_counted_cells.proofs.SectionLaws.{in_front, as_numbers, decides-section_number, decides-section_start}
+use Rattle.viz_mesh_read.proofs.SectionLaws.{cell_list_at, decides-cell_section, cell_section-list}
 
 -- ---- FIELDs
 
@@ -52,13 +57,6 @@ decides-fields binary =
 
 -- ---- keywords and types
 
-decides-cells_keyword : (later : Bool) → Decides (cells_keyword later) (cells_keyword_at later)
-unfolding cells_keyword_at
-decides-cells_keyword later =
-    decides-follow word _ due_word _ decides-word (λ key.
-    decides-demand (same_word key.1 (codes "CELLS")) (keyword_kind key.1) key.0 _ _ (
-    decides-demand (not later) Sections51 key.0 _ _ (decides-gives tt)))
-
 decides-cell_type : (binary : Bool) (size : ℕ) → Decides (cell_type binary size) (cell_type_at binary size)
 unfolding cell_type_at
 decides-cell_type binary size =
@@ -80,12 +78,6 @@ decides-cell_types_list : (binary : Bool) (cells : List (List ℕ)) → Decides 
 decides-cell_types_list binary [] = decides-gives tt
 decides-cell_types_list binary (cell ∷ cells) =
     decides-follow (cell_type binary (length cell)) _ (cell_type_at binary (length cell)) _ (decides-cell_type binary (length cell)) (λ x. decides-cell_types_list binary cells)
-
-pub behind_cell : (cell numbers : List ℕ) → behind_first (cell_numbers cell ++ numbers) ≡ numbers
-behind_cell cell numbers = drop_front cell numbers where
-  drop_front : (xs ys : List ℕ) → drop (length xs) (xs ++ ys) ≡ ys
-  drop_front [] ys = refl
-  drop_front (x ∷ xs) ys = drop_front xs ys
 
 types_step : (binary : Bool) (cells : List (List ℕ)) (numbers : List ℕ) (read : Passed) → ((r : Reading) → cell_types_at binary (length cells) (numbers_of_cells cells) r ≡ cell_types_list_at binary cells r) → numbers ≡ numbers_of_cells cells
     → (read >>= λ x. cell_types_at binary (length cells) numbers x.1) ≡ (read >>= λ x. cell_types_list_at binary cells x.1)
@@ -114,8 +106,8 @@ decides-types binary cells =
 -- the grid, with the indices of its cells
 abbrev pub grid_list_at : Bool → Bool → Reading → Result (Grid × Reading) FileFault
 grid_list_at binary later r =
-    fields_at binary r >>= λ before. points_at binary before.1 >>= λ p. fields_at binary p.1 >>= λ between. cells_keyword_at later between.1
-    >>= λ key. section_list_at binary p.0.count key.1 >>= λ cells. fields_at binary cells.1 >>= λ behind. types_at binary (length cells.0, numbers_of_cells cells.0) behind.1
+    fields_at binary r >>= λ before. points_at binary before.1 >>= λ p. fields_at binary p.1 >>= λ between. keyword_at (codes "CELLS") between.1
+    >>= λ key. cell_list_at later binary p.0.count key.1 >>= λ cells. fields_at binary cells.1 >>= λ behind. types_at binary (length cells.0, numbers_of_cells cells.0) behind.1
     >>= λ all. Ok (record { points = p.0; cells = cells.0 }, all.1)
 
 pub decides-grid : (binary later : Bool) → Decides (grid binary later) (grid_list_at binary later)
@@ -123,15 +115,10 @@ decides-grid binary later =
     decides-follow (fields binary) _ (fields_at binary) _ (decides-fields binary) (λ before.
     decides-follow (points binary) _ (points_at binary) _ (decides-points binary) (λ p.
     decides-follow (fields binary) _ (fields_at binary) _ (decides-fields binary) (λ between.
-    decides-follow (cells_keyword later) _ (cells_keyword_at later) _ (decides-cells_keyword later) (λ key.
-    decides-follow (section binary p.count) _ (section_list_at binary p.count) _ (decides-section binary p.count) (λ cells.
+    decides-follow (keyword (codes "CELLS")) _ (keyword_at (codes "CELLS")) _ (decides-keyword (codes "CELLS")) (λ key.
+    decides-follow (cell_section later binary p.count) _ (cell_list_at later binary p.count) _ (decides-cell_section later binary p.count) (λ cells.
     decides-follow (fields binary) _ (fields_at binary) _ (decides-fields binary) (λ behind.
     decides-follow (types binary cells) _ (types_at binary (length cells, numbers_of_cells cells)) _ (decides-types binary cells) (λ all. decides-gives _)))))))
-
--- a step in front of two readers, of which one gives what the other gives and a last step makes of it
-pub in_front : {A B C : Type 0} (read : Result A FileFault) (f : A → Result B FileFault) (last : B → Result C FileFault) (g : A → Result C FileFault) → ((x : A) → g x ≡ (f x >>= last)) → (read >>= g) ≡ ((read >>= f) >>= last)
-in_front (Ok x) f last g e = e x
-in_front (Err fault) f last g e = refl
 
 -- the grid by the numbers of its cells
 abbrev as_grid : Grid × Reading → Result ((FilePoints × (ℕ × List ℕ)) × Reading) FileFault
@@ -153,9 +140,9 @@ cells_read : (binary : Bool) (p : FilePoints) (read : Result (List (List ℕ) ×
 cells_read binary p (Ok cells) = numbers_behind binary p cells
 cells_read binary p (Err f) = refl
 
-cells_behind : (binary : Bool) (p : FilePoints) (r : Reading) → (section_at binary p.count r >>= behind_numbers binary p) ≡ ((section_list_at binary p.count r >>= behind_cells binary p) >>= as_grid)
-cells_behind binary p r =
-    ap (λ (o : Result ((ℕ × List ℕ) × Reading) FileFault). o >>= behind_numbers binary p) (section_at-list binary p.count r) ∙ cells_read binary p (section_list_at binary p.count r)
+cells_behind : (later binary : Bool) (p : FilePoints) (r : Reading) → (cell_section_at later binary p.count r >>= behind_numbers binary p) ≡ ((cell_list_at later binary p.count r >>= behind_cells binary p) >>= as_grid)
+cells_behind later binary p r =
+    ap (λ (o : Result ((ℕ × List ℕ) × Reading) FileFault). o >>= behind_numbers binary p) (cell_section-list later binary p.count r) ∙ cells_read binary p (cell_list_at later binary p.count r)
 
 grid_at-list : (binary later : Bool) (r : Reading) → grid_at binary later r ≡ (grid_list_at binary later r >>= as_grid)
 unfolding grid_at
@@ -163,7 +150,7 @@ grid_at-list binary later r =
     in_front (fields_at binary r) _ as_grid _ (λ before.
     in_front (points_at binary before.1) _ as_grid _ (λ p.
     in_front (fields_at binary p.1) _ as_grid _ (λ between.
-    in_front (cells_keyword_at later between.1) _ as_grid _ (λ key. cells_behind binary p.0 key.1))))
+    in_front (keyword_at (codes "CELLS") between.1) _ as_grid _ (λ key. cells_behind later binary p.0 key.1))))
 
 pub decides-grid_numbers : (binary later : Bool) → Decides (grid_numbers binary later) (grid_at binary later)
 decides-grid_numbers binary later =

@@ -5,7 +5,7 @@ use Rattle.viz_lex.specs.declared.fault.FileFault.{FileFault}
 use Rattle.viz_lex.specs.Reading.{Reading}
 use Rattle.viz_lex.specs.Steps.{is_next}
 use Rattle.viz_lex.specs.Readers.{skip_at}
-use Rattle.viz_mesh_read.specs.Grid.{first_count, behind_first}
+use Rattle.viz_counted_cells.specs.Numbered.{first_count, behind_first}
 use Rattle.viz_mesh_read.specs.GridSteps.{one_field_at, fields_in_at, cell_type_at, cell_types_at}
 
 abbrev pub Passed : Type 0

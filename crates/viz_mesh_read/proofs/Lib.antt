@@ -1,9 +1,6 @@
 pub mod GridLaws
 pub mod GridLoops
 pub mod IndexLaws
-pub mod Loops
-pub mod BlockLoops
-pub mod MeetLemmas
 pub mod PieceLemmas
 pub mod PointLaws
 pub mod PolyLaws

@@ -3,11 +3,11 @@ use Rattle.std.proofs.Common.{◌≡◌, ℕ, suc, ◌-◌, ◌+◌, ◌≤◌, 
 use Rattle.std.specs.Prelude.{take}
 use Rattle.std.specs.List.{flat_map}
 use Rattle.std.proofs.lemmas.List.{append-nil}
-use Rattle.viz_mesh_read.specs.Sections.{cell_numbers, numbers_of_cells}
-use Rattle.viz_mesh_read.specs.Grid.{behind_first}
+use Rattle.viz_counted_cells.specs.Sections.{cell_numbers, numbers_of_cells}
+use Rattle.viz_counted_cells.specs.Numbered.{first_indices, behind_first}
 use Rattle.viz_mesh_read.specs.Poly.{ByKind, numbers_by_kind}
-use Rattle.viz_mesh_read.specs.Pieces.{pieces_up_to, first_indices, in_cells, vertices_of, lines_of, triangles_of, pieces_of, pieces_in}
-use Rattle.viz_mesh_read.proofs.GridLaws.{behind_cell}
+use Rattle.viz_mesh_read.specs.Pieces.{pieces_up_to, in_cells, vertices_of, lines_of, triangles_of, pieces_of, pieces_in}
+use Rattle.viz_counted_cells.proofs.NumberedLemmas.{behind_cell}
 
 -- ---- the pieces of a cell
 

@@ -1,13 +1,12 @@
 -- The reader of polydata decides its rule.
-use Rattle.std.proofs.Common.{◌≡◌, ℕ, zero, suc, Bool, true, false, not, List, [], Result, Ok, Err, refl, ap, ◌∙◌}
+use Rattle.std.proofs.Common.{◌≡◌, ℕ, zero, suc, Bool, true, false, List, [], Result, Ok, Err, refl, ap, ◌∙◌}
 use Rattle.std.specs.Prelude.{if◌then◌else◌}
 use Rattle.viz_lex.specs.declared.fault.FileFault.{FileFault}
-use Rattle.viz_lex.specs.declared.fault.FileKind.TheVariants.{Sections51}
 use Rattle.viz_lex.specs.Reading.{Reading, ◌>>=◌}
-use Rattle.viz_lex.specs.Steps.{guard, due_word}
+use Rattle.viz_lex.specs.Steps.{due_word}
 use Rattle.viz_lex.specs.Rules.{gives, Decides}
 use Rattle.viz_lex.specs.Items.{word}
-use Rattle.viz_lex.proofs.RuleLemmas.{decides-gives, decides-follow, decides-demand, decides-beside}
+use Rattle.viz_lex.proofs.RuleLemmas.{decides-gives, decides-follow, decides-beside}
 use Rattle.viz_lex.proofs.ItemLemmas.{decides-word}
 use Rattle.viz_lex.proofs.PassRules.{decides-same}
 use Rattle.viz_mesh_read.specs.declared.coordinates.FilePoints.{FilePoints}
@@ -15,15 +14,16 @@ use Rattle.viz_mesh_read.specs.declared.poly.SectionKind.{SectionKind}
 use Rattle.viz_mesh_read.specs.declared.poly.SectionKind.TheVariants.{Vertices, Lines, Polygons, Strips}
 use Rattle.viz_mesh_read.specs.declared.poly.Seen.{Seen}
 use Rattle.viz_mesh_read.specs.Points.{points}
-use Rattle.viz_mesh_read.specs.Sections.{section}
+use Rattle.viz_mesh_read.specs.CellSections.{cell_section, numbers_of_section}
 use Rattle.viz_mesh_read.specs.Grid.{fields}
-use Rattle.viz_mesh_read.specs.Poly.{ByKind, for_each, with_kind, kind_named, none_seen, seen_with, is_due, sections, Poly, polydata, numbers_of_section, numbers_by_kind, polydata_numbers}
-use Rattle.viz_mesh_read.specs.Steps.{points_at, section_at}
+use Rattle.viz_mesh_read.specs.Poly.{ByKind, for_each, with_kind, kind_named, none_seen, seen_with, is_due, sections, Poly, polydata, numbers_by_kind, polydata_numbers}
+use Rattle.viz_mesh_read.specs.Steps.{points_at, cell_section_at}
 use Rattle.viz_mesh_read.specs.GridSteps.{fields_at}
 use Rattle.viz_mesh_read.specs.PolySteps.{kind_at, sections_at, polydata_at}
 use Rattle.viz_mesh_read.proofs.PointLaws.{decides-points}
-use Rattle.viz_mesh_read.proofs.SectionLaws.{section_list_at, as_numbers, section_at-list, decides-section}
-use Rattle.viz_mesh_read.proofs.GridLaws.{decides-fields, in_front}
+use Rattle.viz_counted_cells.proofs.SectionLaws.{as_numbers, in_front}
+use Rattle.viz_mesh_read.proofs.SectionLaws.{cell_list_at, decides-cell_section, cell_section-list}
+use Rattle.viz_mesh_read.proofs.GridLaws.{decides-fields}
 use Rattle.viz_mesh_read.proofs.PolyLoops.{Sectioned}
 
 -- ---- the readers that give lists of indices
@@ -35,7 +35,7 @@ Listed = Result (ByKind (List (List ℕ)) × Reading) FileFault
 abbrev sections_list_at : Bool → Bool → ℕ → ℕ → Seen → ByKind (List (List ℕ)) → Reading → Listed
 sections_list_at binary later points zero seen all r = Ok (all, r)
 sections_list_at binary later points (suc n) seen all r =
-    fields_at binary r >>= λ passed. if is_due seen passed.1 then (due_word passed.1 >>= λ key. guard (not later) Sections51 key.0.0 >>= λ before. section_list_at binary points key.1 >>= λ cells.
+    fields_at binary r >>= λ passed. if is_due seen passed.1 then (due_word passed.1 >>= λ key. cell_list_at later binary points key.1 >>= λ cells.
     sections_list_at binary later points n (seen_with seen (kind_named key.0.1)) (with_kind all (kind_named key.0.1) cells.0) cells.1) else Ok (all, passed.1)
 
 decides-sections : (binary later : Bool) (points n : ℕ) (seen : Seen) (all : ByKind (List (List ℕ))) → Decides (sections binary later points n seen all) (sections_list_at binary later points n seen all)
@@ -44,9 +44,8 @@ decides-sections binary later points (suc n) seen all =
     decides-follow (fields binary) _ (fields_at binary) _ (decides-fields binary) (λ passed.
     decides-beside (is_due seen) _ (gives all) _ (λ r. Ok (all, r)) (
     decides-follow word _ due_word _ decides-word (λ key.
-    decides-demand (not later) Sections51 key.0 _ _ (
-    decides-follow (section binary points) _ (section_list_at binary points) _ (decides-section binary points) (λ cells.
-    decides-sections binary later points n (seen_with seen (kind_named key.1)) (with_kind all (kind_named key.1) cells)))))
+    decides-follow (cell_section later binary points) _ (cell_list_at later binary points) _ (decides-cell_section later binary points) (λ cells.
+    decides-sections binary later points n (seen_with seen (kind_named key.1)) (with_kind all (kind_named key.1) cells))))
     (decides-gives all))
 
 -- ---- from lists of indices to numbers
@@ -80,23 +79,16 @@ cells_kind binary later points n seen all kind (Err f) ih = refl
 
 section_kind : (binary later : Bool) (points n : ℕ) (seen : Seen) (all : ByKind (List (List ℕ))) (kind : SectionKind) (r : Reading)
     → ((seen : Seen) (all : ByKind (List (List ℕ))) (r : Reading) → sections_at binary later points n seen (numbers_by_kind all) r ≡ (sections_list_at binary later points n seen all r >>= as_kinds))
-    → ((section_at binary points r >>= of_kind kind) >>= behind_kind binary later points n seen (numbers_by_kind all)) ≡ ((section_list_at binary points r >>= behind_list binary later points n seen all kind) >>= as_kinds)
+    → ((cell_section_at later binary points r >>= of_kind kind) >>= behind_kind binary later points n seen (numbers_by_kind all)) ≡ ((cell_list_at later binary points r >>= behind_list binary later points n seen all kind) >>= as_kinds)
 section_kind binary later points n seen all kind r ih =
-    ap (λ (o : Result ((ℕ × List ℕ) × Reading) FileFault). (o >>= of_kind kind) >>= behind_kind binary later points n seen (numbers_by_kind all)) (section_at-list binary points r)
-    ∙ cells_kind binary later points n seen all kind (section_list_at binary points r) ih
-
-tested_kind : (binary later : Bool) (points n : ℕ) (seen : Seen) (all : ByKind (List (List ℕ))) (kind : SectionKind) (test : Bool) (place : ℕ) (r : Reading)
-    → ((seen : Seen) (all : ByKind (List (List ℕ))) (r : Reading) → sections_at binary later points n seen (numbers_by_kind all) r ≡ (sections_list_at binary later points n seen all r >>= as_kinds))
-    → ((guard test Sections51 place >>= λ before. section_at binary points r >>= of_kind kind) >>= behind_kind binary later points n seen (numbers_by_kind all))
-    ≡ ((guard test Sections51 place >>= λ before. section_list_at binary points r >>= behind_list binary later points n seen all kind) >>= as_kinds)
-tested_kind binary later points n seen all kind true place r ih = section_kind binary later points n seen all kind r ih
-tested_kind binary later points n seen all kind false place r ih = refl
+    ap (λ (o : Result ((ℕ × List ℕ) × Reading) FileFault). (o >>= of_kind kind) >>= behind_kind binary later points n seen (numbers_by_kind all)) (cell_section-list later binary points r)
+    ∙ cells_kind binary later points n seen all kind (cell_list_at later binary points r) ih
 
 keyed_kind : (binary later : Bool) (points n : ℕ) (seen : Seen) (all : ByKind (List (List ℕ))) (read : Result ((ℕ × List ℕ) × Reading) FileFault)
     → ((seen : Seen) (all : ByKind (List (List ℕ))) (r : Reading) → sections_at binary later points n seen (numbers_by_kind all) r ≡ (sections_list_at binary later points n seen all r >>= as_kinds))
-    → ((read >>= λ key. guard (not later) Sections51 key.0.0 >>= λ before. section_at binary points key.1 >>= of_kind (kind_named key.0.1)) >>= behind_kind binary later points n seen (numbers_by_kind all))
-    ≡ ((read >>= λ key. guard (not later) Sections51 key.0.0 >>= λ before. section_list_at binary points key.1 >>= behind_list binary later points n seen all (kind_named key.0.1)) >>= as_kinds)
-keyed_kind binary later points n seen all (Ok key) ih = tested_kind binary later points n seen all (kind_named key.0.1) (not later) key.0.0 key.1 ih
+    → ((read >>= λ key. cell_section_at later binary points key.1 >>= of_kind (kind_named key.0.1)) >>= behind_kind binary later points n seen (numbers_by_kind all))
+    ≡ ((read >>= λ key. cell_list_at later binary points key.1 >>= behind_list binary later points n seen all (kind_named key.0.1)) >>= as_kinds)
+keyed_kind binary later points n seen all (Ok key) ih = section_kind binary later points n seen all (kind_named key.0.1) key.1 ih
 keyed_kind binary later points n seen all (Err f) ih = refl
 
 due_kind : (due : Bool) (a : Sectioned) (b : Listed) (all : ByKind (List (List ℕ))) (r : Reading) → a ≡ (b >>= as_kinds) → (if due then a else Ok (numbers_by_kind all, r)) ≡ ((if due then b else Ok (all, r)) >>= as_kinds)
@@ -106,7 +98,7 @@ due_kind false a b all r e = refl
 passed_kind : (binary later : Bool) (points n : ℕ) (seen : Seen) (all : ByKind (List (List ℕ))) (r : Reading)
     → ((seen : Seen) (all : ByKind (List (List ℕ))) (r : Reading) → sections_at binary later points n seen (numbers_by_kind all) r ≡ (sections_list_at binary later points n seen all r >>= as_kinds))
     → (kind_at binary later points r >>= behind_kind binary later points n seen (numbers_by_kind all))
-    ≡ ((due_word r >>= λ key. guard (not later) Sections51 key.0.0 >>= λ before. section_list_at binary points key.1 >>= behind_list binary later points n seen all (kind_named key.0.1)) >>= as_kinds)
+    ≡ ((due_word r >>= λ key. cell_list_at later binary points key.1 >>= behind_list binary later points n seen all (kind_named key.0.1)) >>= as_kinds)
 unfolding kind_at
 passed_kind binary later points n seen all r ih = keyed_kind binary later points n seen all (due_word r) ih
 

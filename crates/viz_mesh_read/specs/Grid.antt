@@ -1,10 +1,10 @@
 -- The geometry of an unstructured grid (VTK User's Guide, "Simple legacy formats";
 -- docs/FORMATS.md, "Grids and polydata").
-use Rattle.std.specs.Prelude.{ℕ, ℤ, pos, negsuc, Bool, not, ◌==◌, List, [], ◌∷◌, length, drop}
+use Rattle.std.specs.Prelude.{ℕ, ℤ, pos, negsuc, Bool, ◌==◌, List, [], ◌∷◌, length}
 use Rattle.std.specs.Prelude.{codes, Option, Some, None, unwrap_or, if◌then◌else◌}
-use Rattle.viz_lex.specs.declared.fault.FileKind.TheVariants.{Count, CellType, Sections51}
+use Rattle.viz_lex.specs.declared.fault.FileKind.TheVariants.{Count, CellType}
 use Rattle.viz_lex.specs.Reading.{fault_at}
-use Rattle.viz_lex.specs.Steps.{has, same_word, keyword_kind, is_next}
+use Rattle.viz_lex.specs.Steps.{has, is_next}
 use Rattle.viz_lex.specs.Rules.{Rule, gives, demand, ◌>>=◌}
 use Rattle.viz_lex.specs.Repeats.{skip}
 use Rattle.viz_lex.specs.Items.{word, keyword}
@@ -13,8 +13,8 @@ use Rattle.viz_attr.specs.Passed.{passed_field}
 use Rattle.viz_mesh_read.specs.declared.coordinates.FilePoints.{FilePoints}
 use Rattle.viz_mesh_read.specs.declared.grids.GridFile.{GridFile}
 use Rattle.viz_mesh_read.specs.Points.{points}
-use Rattle.viz_mesh_read.specs.Sections.{section_number, section_start, section, numbers_of_cells}
-use Rattle.viz_mesh_read.specs.Sections.{section_of}
+use Rattle.viz_counted_cells.specs.Sections.{section_number, section_start, section_of}
+use Rattle.viz_mesh_read.specs.CellSections.{cell_section, numbers_of_section}
 
 -- a FIELD that is passed over
 abbrev pub one_field : Bool → Rule (Unit {0})
@@ -25,13 +25,6 @@ one_field binary = do
 -- FIELDs, as many as there are
 abbrev pub fields : Bool → Rule (Unit {0})
 fields binary = skip (is_next (codes "FIELD")) (one_field binary)
-
--- CELLS, which is refused in a file of version 5.1 or above
-abbrev pub cells_keyword : Bool → Rule (Unit {0})
-cells_keyword later = do
-  key ← word
-  demand (same_word key.1 (codes "CELLS")) (fault_at (keyword_kind key.1) key.0) (
-      demand (not later) (fault_at Sections51 key.0) (gives tt))
 
 -- how many points a cell of a type has: a vertex, a line, a triangle or a tetrahedron
 abbrev pub points_of_type : ℤ → Option ℕ
@@ -73,8 +66,8 @@ grid binary later = do
   before ← fields binary
   p ← points binary
   between ← fields binary
-  key ← cells_keyword later
-  cells ← section binary p.count
+  key ← keyword (codes "CELLS")
+  cells ← cell_section later binary p.count
   behind ← fields binary
   all ← types binary cells
   gives (record { points = p; cells = cells })
@@ -83,18 +76,8 @@ grid binary later = do
 abbrev pub grid_numbers : Bool → Bool → Rule (FilePoints × (ℕ × List ℕ))
 grid_numbers binary later = do
   g ← grid binary later
-  gives (g.points, (length g.cells, numbers_of_cells g.cells))
+  gives (g.points, numbers_of_section g.cells)
 
 -- a grid, as the code holds it
 abbrev pub grid_of : GridFile → FilePoints × (ℕ × List ℕ)
 grid_of g = (g.points, section_of g.cells)
-
--- the count of the first cell, which is 0 where there is none
-abbrev pub first_count : List ℕ → ℕ
-first_count [] = 0
-first_count (c ∷ numbers) = c
-
--- the numbers behind the first cell
-abbrev pub behind_first : List ℕ → List ℕ
-behind_first [] = []
-behind_first (c ∷ numbers) = drop c numbers

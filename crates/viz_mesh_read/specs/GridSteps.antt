@@ -1,17 +1,19 @@
 -- The readers of a grid, which proofs compare with the rules (docs/FORMATS.md, "Grids and
 -- polydata").
-use Rattle.std.specs.Prelude.{ℕ, zero, suc, ◌+◌, Bool, not, ◌==◌, List, length, codes, unwrap_or}
+use Rattle.std.specs.Prelude.{ℕ, zero, suc, ◌+◌, Bool, ◌==◌, List, length, codes, unwrap_or}
 use Rattle.std.specs.Prelude.{Result, Ok}
 use Rattle.viz_lex.specs.declared.fault.FileFault.{FileFault}
-use Rattle.viz_lex.specs.declared.fault.FileKind.TheVariants.{Count, CellType, Sections51}
+use Rattle.viz_lex.specs.declared.fault.FileKind.TheVariants.{Count, CellType}
 use Rattle.viz_lex.specs.Reading.{Reading, ◌>>=◌}
-use Rattle.viz_lex.specs.Steps.{guard, has, same_word, due_word, keyword_kind, keyword_at, is_next}
+use Rattle.viz_lex.specs.Steps.{guard, has, due_word, keyword_at, is_next}
 use Rattle.viz_lex.specs.Readers.{skip_at}
 use Rattle.viz_attr.specs.PassedSteps.{passed_field_at}
 use Rattle.viz_attr.specs.Steps.{same_count_at}
 use Rattle.viz_mesh_read.specs.declared.coordinates.FilePoints.{FilePoints}
-use Rattle.viz_mesh_read.specs.Grid.{points_of_type, first_count, behind_first}
-use Rattle.viz_mesh_read.specs.Steps.{points_at, section_number_at, section_start_at, section_at}
+use Rattle.viz_counted_cells.specs.Numbered.{first_count, behind_first}
+use Rattle.viz_counted_cells.specs.Steps.{section_number_at, section_start_at}
+use Rattle.viz_mesh_read.specs.Grid.{points_of_type}
+use Rattle.viz_mesh_read.specs.Steps.{points_at, cell_section_at}
 
 -- a FIELD
 unfoldable pub one_field_at : Bool → Reading → Result (Unit {0} × Reading) FileFault
@@ -24,14 +26,6 @@ fields_in_at binary steps r = skip_at (is_next (codes "FIELD")) (one_field_at bi
 -- FIELDs
 unfoldable pub fields_at : Bool → Reading → Result (Unit {0} × Reading) FileFault
 fields_at binary r = fields_in_at binary (length r.bytes + 1) r
-
--- CELLS
-unfoldable pub cells_keyword_at : Bool → Reading → Result (Unit {0} × Reading) FileFault
-cells_keyword_at later r = do
-  key ← due_word r
-  is ← guard (same_word key.0.1 (codes "CELLS")) (keyword_kind key.0.1) key.0.0
-  before ← guard (not later) Sections51 key.0.0
-  Ok (tt, key.1)
 
 -- the type of a cell
 unfoldable pub cell_type_at : Bool → ℕ → Reading → Result (Unit {0} × Reading) FileFault
@@ -62,8 +56,8 @@ grid_at binary later r = do
   before ← fields_at binary r
   p ← points_at binary before.1
   between ← fields_at binary p.1
-  key ← cells_keyword_at later between.1
-  cells ← section_at binary p.0.count key.1
+  key ← keyword_at (codes "CELLS") between.1
+  cells ← cell_section_at later binary p.0.count key.1
   behind ← fields_at binary cells.1
   all ← types_at binary cells.0 behind.1
   Ok ((p.0, cells.0), all.1)

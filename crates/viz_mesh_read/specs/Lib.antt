@@ -1,11 +1,8 @@
-pub mod Geometry
 pub mod Points
-pub mod Numbered
-pub mod Sections
+pub mod CellSections
 pub mod Grid
 pub mod Poly
 pub mod Pieces
 pub mod Steps
-pub mod Blocks
 pub mod GridSteps
 pub mod PolySteps

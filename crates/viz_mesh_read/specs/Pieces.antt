@@ -1,9 +1,9 @@
 -- The pieces of the cells of polydata: vertices, lines and triangles (VTK User's Guide, "Simple
 -- legacy formats"; docs/FORMATS.md, "Grids and polydata").
 use Rattle.std.specs.Prelude.{ℕ, zero, suc, ◌+◌, ◌-◌, ◌%◌, Bool, true, false, not, ◌&&◌, ◌==◌}
-use Rattle.std.specs.Prelude.{List, [], ◌∷◌, ◌++◌, length, take, slice_index, if◌then◌else◌}
+use Rattle.std.specs.Prelude.{List, [], ◌∷◌, ◌++◌, length, slice_index, if◌then◌else◌}
 use Rattle.std.specs.List.{flat_map}
-use Rattle.viz_mesh_read.specs.Grid.{behind_first}
+use Rattle.viz_counted_cells.specs.Numbered.{first_indices, behind_first}
 use Rattle.viz_mesh_read.specs.Poly.{ByKind}
 
 -- the pieces of so many numbers, one after the other
@@ -63,11 +63,6 @@ abbrev pub pieces_of : ByKind (List (List ℕ)) → List (List ℕ)
 pieces_of all =
     flat_map vertices_of all.vertices ++ (flat_map lines_of all.lines
     ++ (flat_map (triangles_of false) all.polygons ++ flat_map (triangles_of true) all.strips))
-
--- the indices of the first cell
-abbrev pub first_indices : List ℕ → List ℕ
-first_indices [] = []
-first_indices (c ∷ numbers) = take c numbers
 
 -- the pieces of so many cells, whose numbers are these
 abbrev pub in_cells : (List ℕ → List (List ℕ)) → ℕ → List ℕ → List (List ℕ)

@@ -1,11 +1,10 @@
 -- The geometry of polydata (VTK User's Guide, "Simple legacy formats"; docs/FORMATS.md, "Grids and
 -- polydata").
-use Rattle.std.specs.Prelude.{ℕ, zero, suc, Bool, true, false, not, ◌&&◌, ◌||◌, List, [], length}
+use Rattle.std.specs.Prelude.{ℕ, zero, suc, Bool, true, false, not, ◌&&◌, ◌||◌, List, []}
 use Rattle.std.specs.Prelude.{codes, if◌then◌else◌}
-use Rattle.viz_lex.specs.declared.fault.FileKind.TheVariants.{Sections51}
-use Rattle.viz_lex.specs.Reading.{Reading, fault_at}
+use Rattle.viz_lex.specs.Reading.{Reading}
 use Rattle.viz_lex.specs.Steps.{same_word, is_next}
-use Rattle.viz_lex.specs.Rules.{Rule, gives, demand, beside, ◌>>=◌}
+use Rattle.viz_lex.specs.Rules.{Rule, gives, beside, ◌>>=◌}
 use Rattle.viz_lex.specs.Items.{word}
 use Rattle.viz_mesh_read.specs.declared.coordinates.FilePoints.{FilePoints}
 use Rattle.viz_mesh_read.specs.declared.poly.SectionKind.{SectionKind}
@@ -15,7 +14,8 @@ use Rattle.viz_mesh_read.specs.declared.poly.Seen.{Seen}
 use Rattle.viz_mesh_read.specs.declared.poly.PolyCells.{PolyCells}
 use Rattle.viz_mesh_read.specs.declared.poly.PolyFile.{PolyFile}
 use Rattle.viz_mesh_read.specs.Points.{points}
-use Rattle.viz_mesh_read.specs.Sections.{section, numbers_of_cells, section_of, HaveIndices}
+use Rattle.viz_counted_cells.specs.Sections.{section_of, HaveIndices}
+use Rattle.viz_mesh_read.specs.CellSections.{cell_section, numbers_of_section}
 use Rattle.viz_mesh_read.specs.Grid.{fields}
 
 -- something of each kind of section
@@ -79,10 +79,9 @@ sections binary later points (suc n) seen all = do
   passed ← fields binary
   beside (is_due seen) (do
     key ← word
-    demand (not later) (fault_at Sections51 key.0) (do
-      cells ← section binary points
-      sections binary later points n (seen_with seen (kind_named key.1))
-          (with_kind all (kind_named key.1) cells)))
+    cells ← cell_section later binary points
+    sections binary later points n (seen_with seen (kind_named key.1))
+        (with_kind all (kind_named key.1) cells))
       (gives all)
 
 -- the points and the cells of polydata
@@ -97,10 +96,6 @@ polydata binary later = do
   p ← points binary
   cells ← sections binary later p.count 4 none_seen (for_each [])
   gives (record { points = p; cells = cells })
-
--- the cells of a section by their numbers as they stand in the file
-abbrev pub numbers_of_section : List (List ℕ) → ℕ × List ℕ
-numbers_of_section cells = (length cells, numbers_of_cells cells)
 
 -- the numbers of all sections
 abbrev pub numbers_by_kind : ByKind (List (List ℕ)) → ByKind (ℕ × List ℕ)

@@ -1,16 +1,15 @@
 -- The readers of polydata, which proofs compare with the rules (docs/FORMATS.md, "Grids and
 -- polydata").
-use Rattle.std.specs.Prelude.{ℕ, zero, suc, Bool, not, List, [], Result, Ok, if◌then◌else◌}
+use Rattle.std.specs.Prelude.{ℕ, zero, suc, Bool, List, [], Result, Ok, if◌then◌else◌}
 use Rattle.viz_lex.specs.declared.fault.FileFault.{FileFault}
-use Rattle.viz_lex.specs.declared.fault.FileKind.TheVariants.{Sections51}
 use Rattle.viz_lex.specs.Reading.{Reading, ◌>>=◌}
-use Rattle.viz_lex.specs.Steps.{guard, due_word}
+use Rattle.viz_lex.specs.Steps.{due_word}
 use Rattle.viz_mesh_read.specs.declared.coordinates.FilePoints.{FilePoints}
 use Rattle.viz_mesh_read.specs.declared.poly.SectionKind.{SectionKind}
 use Rattle.viz_mesh_read.specs.declared.poly.Seen.{Seen}
 use Rattle.viz_mesh_read.specs.Poly.{ByKind, for_each, with_kind, kind_named, none_seen, seen_with}
 use Rattle.viz_mesh_read.specs.Poly.{is_due}
-use Rattle.viz_mesh_read.specs.Steps.{points_at, section_at}
+use Rattle.viz_mesh_read.specs.Steps.{points_at, cell_section_at}
 use Rattle.viz_mesh_read.specs.GridSteps.{fields_at}
 
 -- a section, with its keyword
@@ -18,8 +17,7 @@ unfoldable pub kind_at : Bool → Bool → ℕ → Reading
     → Result ((SectionKind × (ℕ × List ℕ)) × Reading) FileFault
 kind_at binary later points r = do
   key ← due_word r
-  before ← guard (not later) Sections51 key.0.0
-  cells ← section_at binary points key.1
+  cells ← cell_section_at later binary points key.1
   Ok ((kind_named key.0.1, cells.0), cells.1)
 
 -- at most so many sections more

@@ -1,6 +1,6 @@
 //! The numbers of an array, of which all are kept.
 
-ghost use Rattle.std.specs.Prelude.{◌≡◌, ◌*◌, ◌<◌, ◌≤◌, ◌^◌, map, length, IfOk};
+ghost use Rattle.std.specs.Prelude.{◌≡◌, ◌*◌, ◌<◌, ◌≤◌, ◌^◌, map, length};
 ghost use Rattle.viz_column.specs.Kinds.{size_of};
 ghost use Rattle.viz_lex.specs.Reading.{Reads};
 ghost use Rattle.viz_lex.specs.Words.{line_end_at};
@@ -11,6 +11,7 @@ ghost use Rattle.viz_mesh_read.specs.Steps.{value_at, text_column_at, block_colu
 use std::alloc::Global;
 use viz_attr::AttrStop;
 use viz_column::{Column, Kind8, Number};
+use viz_counted_cells::{block, line_end};
 use viz_lex::{FileFault, FileKind, Lexer};
 
 /// One number.
@@ -67,23 +68,6 @@ fn text_column(
         Kind8::U64 => Column::of(text_numbers::<u64>(alloc, lexer, count)?),
     };
     Ok(column)
-}
-
-/// The end of the line.
-pub(crate) fn line_end(lexer: &mut Lexer<'_>) -> Result<(), FileFault>
-    ensures { Reads (λ done. done) result lexer.new (line_end_at lexer.old) }
-{
-    lexer.line_end()
-}
-
-/// The next so many bytes.
-#[tactic(auto, unfolding(viz_lex::specs::Readers::bytes_at))]
-pub(crate) fn block<'a>(lexer: &mut Lexer<'a>, count: u64) -> Result<&'a [u8], FileFault>
-    ensures read { Reads (λ bytes. bytes.now) result lexer.new (bytes_at count lexer.old) }
-    ensures long { IfOk result (λ bytes. length bytes.now ≡ count) }
-{
-    let span = lexer.block(count)?;
-    Ok(lexer.text(&span))
 }
 
 /// So many numbers in BINARY.

@@ -3,15 +3,15 @@
 ghost use Rattle.std.specs.Prelude.{◌≡◌, ◌<◌, ◌^◌, IfOk};
 ghost use Rattle.viz_attr.specs.Values.{kind_of};
 ghost use Rattle.viz_attr.specs.Reads.{ReadsUnlessMemory};
-ghost use Rattle.viz_mesh_read.specs.Geometry.{MeetsBy};
+ghost use Rattle.viz_counted_cells.specs.Geometry.{MeetsBy};
 ghost use Rattle.viz_mesh_read.specs.Points.{points};
 ghost use Rattle.viz_mesh_read.specs.Steps.{points_at};
 
 use crate::arrays::column;
-use crate::counts::count;
 use std::alloc::Global;
 use viz_attr::{AttrStop, Stored, type_word};
 use viz_column::{Column, Kind8};
+use viz_counted_cells::count;
 use viz_lex::{FileFault, FileKind, Lexer};
 
 /// The points of a file as they stand in it: three coordinates of each, one after the other.

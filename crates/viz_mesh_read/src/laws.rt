@@ -6,17 +6,18 @@ ghost use Rattle.viz_lex.specs.Reading.{Reading};
 ghost use Rattle.viz_lex.specs.Rules.{Decides, IsDefinite};
 ghost use Rattle.viz_mesh_read.specs.declared.coordinates.FilePoints.{FilePoints};
 ghost use Rattle.viz_mesh_read.specs.Points.{points};
-ghost use Rattle.viz_mesh_read.specs.Sections.{section, section_numbers, HaveIndices};
+ghost use Rattle.viz_counted_cells.specs.Sections.{HaveIndices};
+ghost use Rattle.viz_mesh_read.specs.CellSections.{cell_section, cell_section_numbers};
 ghost use Rattle.viz_mesh_read.specs.Grid.{Grid, grid, grid_numbers};
 ghost use Rattle.viz_mesh_read.specs.GridSteps.{grid_at};
 ghost use Rattle.viz_mesh_read.specs.Poly.{Poly, polydata, polydata_numbers, HaveIndicesByKind};
 ghost use Rattle.viz_mesh_read.specs.PolySteps.{polydata_at};
-ghost use Rattle.viz_mesh_read.specs.Steps.{points_at, section_at};
+ghost use Rattle.viz_mesh_read.specs.Steps.{points_at, cell_section_at};
 
 /// For each text there is exactly one answer: points, cells, a grid or polydata, or a fault.
 pub fn geometry_is_definite()
     ensures points { (binary : Bool) → IsDefinite (points binary) }
-    ensures section { (binary : Bool) (n : ℕ) → IsDefinite (section binary n) }
+    ensures section { (later binary : Bool) (n : ℕ) → IsDefinite (cell_section later binary n) }
     ensures grid { (binary later : Bool) → IsDefinite (grid binary later) }
     ensures polydata { (binary later : Bool) → IsDefinite (polydata binary later) }
 {}
@@ -24,8 +25,8 @@ pub fn geometry_is_definite()
 /// Each reader of this crate decides its rule: it gives just what stands there, and else the fault.
 pub fn readers_decide_their_rules()
     ensures points { (binary : Bool) → Decides (points binary) (points_at binary) }
-    ensures section { (binary : Bool) (n : ℕ)
-        → Decides (section_numbers binary n) (section_at binary n) }
+    ensures section { (later binary : Bool) (n : ℕ)
+        → Decides (cell_section_numbers later binary n) (cell_section_at later binary n) }
     ensures grid { (binary later : Bool)
         → Decides (grid_numbers binary later) (grid_at binary later) }
     ensures polydata { (binary later : Bool)
@@ -34,8 +35,8 @@ pub fn readers_decide_their_rules()
 
 /// Each index of a cell that is read is that of a point: of a section, of a grid and of polydata.
 pub fn indices_are_those_of_points()
-    ensures section { (binary : Bool) (n : ℕ) (old new : Reading) (cells : List (List ℕ))
-        → (section binary n).is old new cells → HaveIndices n cells }
+    ensures section { (later binary : Bool) (n : ℕ) (old new : Reading) (cells : List (List ℕ))
+        → (cell_section later binary n).is old new cells → HaveIndices n cells }
     ensures grid { (binary later : Bool) (old new : Reading) (g : Grid)
         → (grid binary later).is old new g → HaveIndices g.points.count g.cells }
     ensures polydata { (binary later : Bool) (old new : Reading) (p : Poly)

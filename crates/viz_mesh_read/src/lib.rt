@@ -1,26 +1,20 @@
 //! The geometry of a grid or polydata file: its points, and its cells by the indices of points.
 //!
 //! Contract: each reader gives just what the rules say, or the first fault. Definitions:
-//! `specs/Points.antt` and `specs/Sections.antt`; the rules are those of docs/FORMATS.md, "Grids
-//! and polydata".
+//! `specs/Points.antt`, `specs/Grid.antt` and `specs/Poly.antt`, and `specs/CellSections.antt` for
+//! sections in both forms; the rules are those of docs/FORMATS.md, "Grids and polydata".
 #![tactic(auto)]
 
 mod arrays;
-mod blocks;
-mod cell_numbers;
+mod cell_sections;
 mod coordinates;
-mod counts;
 mod fields;
-mod fixed_cells;
 mod grids;
 mod laws;
-mod numbers;
 mod pieces;
 mod poly;
-mod sections;
 mod types;
 
-pub use cell_numbers::{CellArrays, CellNumbers};
 pub use coordinates::{FilePoints, points};
 pub use grids::{GridFile, grid};
 pub use laws::{
@@ -29,4 +23,3 @@ pub use laws::{
 };
 pub use pieces::{PolyPieces, split};
 pub use poly::{PolyCells, PolyFile, polydata};
-pub use sections::{CellSection, section};

@@ -4,14 +4,11 @@ ghost use Rattle.std.specs.Prelude.{◌≡◌, ◌<◌, ◌+◌, ◌++◌, ◌�
 ghost use Rattle.viz_mesh_read.specs.Poly.{ByKind, sections_of, numbers_by_kind};
 ghost use Rattle.viz_mesh_read.specs.Pieces.{kept, vertex_of, vertices_of, segment_of, is_segment};
 ghost use Rattle.viz_mesh_read.specs.Pieces.{lines_of, triangle_of, is_triangle, triangles_of};
-ghost use Rattle.viz_mesh_read.specs.Pieces.{first_indices, in_cells, pieces_in, pieces_of};
+ghost use Rattle.viz_mesh_read.specs.Pieces.{in_cells, pieces_in, pieces_of};
 
-use crate::cell_numbers::CellArrays;
-use crate::fixed_cells::flattened;
 use crate::poly::PolyCells;
-use crate::sections::CellSection;
-use crate::types::behind_first;
 use std::alloc::{AllocError, Global};
+use viz_counted_cells::{CellArrays, CellSection, behind_first, first_indices, flattened};
 
 /// The pieces of polydata, each by the indices of its points, none of which it repeats: those of a
 /// size in the order of their cells.
@@ -21,16 +18,6 @@ pub struct PolyPieces {
     pub lines: Vec<[u32; 2]>,
     /// Those of the polygons, and then those of the strips.
     pub triangles: Vec<[u32; 3]>,
-}
-
-/// The indices of the first cell, and none where there is no cell.
-fn first_indices(numbers: &[u32]) -> &[u32]
-    ensures { result.now ≡ first_indices numbers.now }
-{
-    match numbers {
-        [c, rest @ ..] => &rest[..(*c as usize).min(rest.len())],
-        [] => numbers,
-    }
 }
 
 fn push_vertices(pieces: &mut Vec<[u32; 1]>, cell: &[u32]) -> Result<(), AllocError>

@@ -2,19 +2,19 @@
 
 ghost use Rattle.std.specs.Prelude.{◌≡◌, ◌<◌, ◌^◌, []};
 ghost use Rattle.viz_attr.specs.Reads.{ReadsUnlessMemory};
-ghost use Rattle.viz_mesh_read.specs.Geometry.{MeetsBy};
-ghost use Rattle.viz_mesh_read.specs.Sections.{section_of};
+ghost use Rattle.viz_counted_cells.specs.Geometry.{MeetsBy};
+ghost use Rattle.viz_counted_cells.specs.Sections.{section_of};
 ghost use Rattle.viz_mesh_read.specs.Poly.{for_each, with_kind, kind_named, none_seen, seen_with};
 ghost use Rattle.viz_mesh_read.specs.Poly.{is_due, sections_of, polydata_of, polydata_numbers};
 ghost use Rattle.viz_mesh_read.specs.PolySteps.{kind_at, sections_at, polydata_at};
 
-use crate::cell_numbers::{CellArrays, CellNumbers};
+use crate::cell_sections::cell_section;
 use crate::coordinates::{FilePoints, all_points};
 use crate::fields::fields;
-use crate::sections::{CellSection, all_cells};
 use std::alloc::Global;
 use viz_attr::AttrStop;
-use viz_lex::{FileFault, FileKind, Lexer, is_word};
+use viz_counted_cells::{CellArrays, CellNumbers, CellSection};
+use viz_lex::{Lexer, is_word};
 
 /// A kind of section.
 #[derive(Clone, Copy, PartialEq, Eq, Debug)]
@@ -151,8 +151,7 @@ fn put(all: &mut PolyCells, section: KindSection)
     }
 }
 
-/// A section with its keyword, which was seen to be one: Sections51 in a file of version 5.1 or
-/// above.
+/// A section with its keyword, which was seen to be one.
 #[tactic(auto, unfolding(crate::specs::PolySteps::kind_at))]
 fn kind_section(
     alloc: Global,
@@ -165,14 +164,8 @@ fn kind_section(
     ensures { ReadsUnlessMemory (λ s. (s.kind, section_of s.cells)) result lexer.new
         (kind_at binary later points lexer.old) }
 {
-    let (place, word) = lexer.due_word()?;
-    if later {
-        return Err(AttrStop::File(FileFault {
-            kind: FileKind::Sections51,
-            place,
-        }));
-    }
-    let cells = all_cells(alloc, lexer, binary, points)?;
+    let (_, word) = lexer.due_word()?;
+    let cells = cell_section(alloc, lexer, later, binary, points)?;
     Ok(KindSection {
         kind: kind_named(word),
         cells,
@@ -223,7 +216,7 @@ fn whole_polydata(
 
 /// The geometry of polydata: called behind the words DATASET POLYDATA. It ends where the next word
 /// is the keyword of no section, or of one that was read. `later` says that the file has version
-/// 5.1 or above, where sections stand otherwise and aren't read.
+/// 5.1 or above, where cells are cut at offsets.
 pub fn polydata(
     alloc: Global,
     lexer: &mut Lexer<'_>,

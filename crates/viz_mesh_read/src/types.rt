@@ -2,18 +2,17 @@
 
 ghost use Rattle.std.specs.Prelude.{◌≡◌, None, Some, drop};
 ghost use Rattle.std.specs.List.{flat_map};
-ghost use Rattle.viz_mesh_read.specs.Numbered.{cell_numbers};
+ghost use Rattle.viz_counted_cells.specs.Numbered.{cell_numbers, first_count};
 ghost use Rattle.viz_lex.specs.Reading.{Reads};
 ghost use Rattle.viz_attr.specs.Counts.{is_number};
 ghost use Rattle.viz_attr.specs.Steps.{same_count_at};
-ghost use Rattle.viz_mesh_read.specs.Sections.{section_of};
-ghost use Rattle.viz_mesh_read.specs.Grid.{points_of_type, first_count, behind_first};
+ghost use Rattle.viz_counted_cells.specs.Sections.{section_of};
+ghost use Rattle.viz_mesh_read.specs.Grid.{points_of_type};
 ghost use Rattle.viz_mesh_read.specs.GridSteps.{cell_type_at, cell_types_at, types_at};
 
-use crate::cell_numbers::CellArrays;
-use crate::fixed_cells::FixedCell;
-use crate::numbers::{section_number, section_start};
-use crate::sections::CellSection;
+use viz_counted_cells::{
+    CellArrays, CellSection, FixedCell, behind_first, first_count, section_number, section_start,
+};
 use viz_lex::{FileFault, FileKind, Lexer};
 
 fn points_of_type(t: &i128) -> Option<u32>
@@ -54,26 +53,6 @@ fn cell_type(lexer: &mut Lexer<'_>, binary: bool, size: u32) -> Result<(), FileF
         });
     }
     Ok(())
-}
-
-/// The count of the first cell, and 0 where there is none.
-pub(crate) fn first_count(numbers: &[u32]) -> u32
-    ensures { result ≡ first_count numbers.now }
-{
-    match numbers {
-        [c, ..] => *c,
-        [] => 0,
-    }
-}
-
-/// The numbers behind the first cell.
-pub(crate) fn behind_first(numbers: &[u32]) -> &[u32]
-    ensures { result.now ≡ behind_first numbers.now }
-{
-    match numbers {
-        [c, rest @ ..] => &rest[(*c as usize).min(rest.len())..],
-        [] => numbers,
-    }
 }
 
 /// The types of so many cells, whose numbers are these.

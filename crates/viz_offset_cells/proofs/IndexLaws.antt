@@ -6,13 +6,10 @@ use Rattle.std.proofs.lemmas.List.Elements.{All-nil, All-cons, All-take, All-dro
 use Rattle.viz_column.specs.declared.kind.Kind8.{Kind8}
 use Rattle.viz_lex.specs.Reading.{Reading}
 use Rattle.viz_lex.specs.Repeats.{AreTimes}
-use Rattle.viz_mesh_read.specs.Sections.{is_index, HasIndices, HaveIndices}
+use Rattle.viz_counted_cells.specs.Sections.{HasIndices, HaveIndices}
+use Rattle.viz_counted_cells.proofs.IndexLaws.{is_index-below}
 use Rattle.viz_offset_cells.specs.Runs.{runs_from, runs_between}
 use Rattle.viz_offset_cells.specs.Offsets.{index, connectivity, cut_cells, offset_section}
-
-is_index-below : (points : ℕ) (n : ℤ) → is_index points n ≡ true → unsigned_abs n < points
-is_index-below points (pos i) h = ltb-true i points h
-is_index-below points (negsuc i) h = absurd (true≢false (sym h))
 
 index-below : (binary : Bool) (kind : Kind8) (points : ℕ) (old new : Reading) (i : ℕ) → (index binary kind points).is old new i → i < points
 index-below binary kind points old new i h = subst (λ (k : ℕ). k < points) (sym h.3.1.1) (is_index-below points h.0.1 h.3.0)

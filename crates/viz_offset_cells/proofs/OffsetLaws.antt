@@ -12,8 +12,7 @@ use Rattle.viz_lex.specs.Steps.{has, due_word, due_number, keyword_at}
 use Rattle.viz_lex.specs.Rules.{gives, Decides}
 use Rattle.viz_lex.specs.Items.{word, number, keyword, block}
 use Rattle.viz_lex.specs.Readers.{times_at, bytes_at}
-use Rattle.viz_lex.proofs.ReadingLemmas.{done, done_is}
-use Rattle.viz_lex.proofs.RuleLemmas.{along-to, decides-gives, decides-follow, decides-demand, decides-choose, decides-beside, decides-times}
+use Rattle.viz_lex.proofs.RuleLemmas.{decides-gives, decides-follow, decides-demand, decides-choose, decides-beside, decides-times}
 use Rattle.viz_lex.proofs.KnownLemmas.{decides-times_knowing}
 use Rattle.viz_lex.proofs.ItemLemmas.{decides-word, decides-number, decides-keyword}
 use Rattle.viz_lex.proofs.PassRules.{decides-block}
@@ -21,9 +20,9 @@ use Rattle.viz_attr.specs.Types.{is_left_out_type}
 use Rattle.viz_attr.specs.Counts.{is_number, is_at_least, is_below, count_from}
 use Rattle.viz_attr.specs.Steps.{count_from_at}
 use Rattle.viz_attr.proofs.PartLaws.{decides-count_from}
-use Rattle.viz_mesh_read.specs.Sections.{here, section_start, is_index, section_size}
-use Rattle.viz_mesh_read.specs.Steps.{section_start_at, section_size_at}
-use Rattle.viz_mesh_read.proofs.SectionLaws.{decides-section_start}
+use Rattle.viz_counted_cells.specs.Sections.{here, section_start, is_index, section_size}
+use Rattle.viz_counted_cells.specs.Steps.{section_start_at, section_size_at}
+use Rattle.viz_counted_cells.proofs.SectionLaws.{here_at, decides-here, decides-section_start, decides-section_size}
 use Rattle.viz_offset_cells.specs.Runs.{runs_between}
 use Rattle.viz_offset_cells.specs.Offsets.{kind_named, index_type, block_number, word_number, typed_number, is_offset, offset, offsets, index, connectivity, cut_cells, has_cuts, offset_section}
 use Rattle.viz_offset_cells.specs.Steps.{index_type_at, block_number_at, word_number_at, typed_number_at, offset_at, offsets_at, index_at}
@@ -36,18 +35,6 @@ decides-index_type =
     decides-demand (has (kind_named w.1)) Keyword w.0 _ _ (decides-gives (unwrap_or (kind_named w.1) U8))))
 
 -- ---- numbers
-
-abbrev here_at : Reading → Result (ℕ × Reading) FileFault
-here_at r = Ok (r.place, r)
-
-decides-here : Decides here here_at
-decides-here = record {
-  found = λ r x e. let is : (r.place, r) ≡ x = done_is (r.place, r) x e in (sym (ap (λ (p : ℕ × Reading). p.1) is), sym (ap (λ (p : ℕ × Reading). p.0) is));
-  only = λ r next x h. rw (h.0, h.1) refl;
-  stops = λ r f e. absurd (let no : done (r.place, r) ≡ Err f = e in cc);
-  only_stops = λ r f h. absurd h;
-  along = λ r next x h. along-to r next h.0;
-}
 
 decides-block_number : (kind : Kind8) → Decides (block_number kind) (block_number_at kind)
 unfolding block_number_at
@@ -112,14 +99,6 @@ decides-cut_cells binary points most indices =
 
 abbrev pub any_list_at : Bool → ℕ → ℕ → ℕ → Reading → Result (List (List ℕ) × Reading) FileFault
 any_list_at binary points most indices r = if has_cuts most r then cut_list_at binary points most indices r else Ok ([], r)
-
-pub decides-section_size : (n : ℕ) → Decides (section_size n) (section_size_at n)
-unfolding section_size_at
-decides-section_size n =
-    decides-follow number _ due_number _ decides-number (λ size.
-    decides-demand (is_at_least 0 size.1) Count size.0 _ _ (
-    decides-demand (is_below (2 ^ 31) size.1) TooMany size.0 _ _ (
-    decides-demand (not (n == 0) || is_number 0 size.1) Count size.0 _ _ (decides-gives (unsigned_abs size.1)))))
 
 abbrev pub section_list_at : Bool → ℕ → Reading → Result (List (List ℕ) × Reading) FileFault
 section_list_at binary points r =

@@ -15,18 +15,17 @@ use Rattle.viz_lex.proofs.RuleLemmas.{decides-gives, decides-follow}
 use Rattle.viz_lex.proofs.PassRules.{decides-same}
 use Rattle.viz_attr.specs.Counts.{is_number}
 use Rattle.viz_attr.specs.Steps.{count_from_at}
-use Rattle.viz_mesh_read.specs.Sections.{numbers_of_cells}
-use Rattle.viz_mesh_read.specs.Steps.{section_start_at, section_size_at}
-use Rattle.viz_mesh_read.proofs.Loops.{with_front}
-use Rattle.viz_mesh_read.proofs.SectionLaws.{as_numbers}
-use Rattle.viz_mesh_read.proofs.GridLaws.{in_front}
+use Rattle.viz_counted_cells.specs.Sections.{numbers_of_cells}
+use Rattle.viz_counted_cells.specs.Steps.{section_start_at, section_size_at}
+use Rattle.viz_counted_cells.proofs.Loops.{with_front}
+use Rattle.viz_counted_cells.proofs.SectionLaws.{as_numbers, in_front, decides-section_size}
 use Rattle.viz_offset_cells.specs.Runs.{runs_from, runs_between}
 use Rattle.viz_offset_cells.specs.Offsets.{has_cuts, offset_section, offset_numbers}
 use Rattle.viz_offset_cells.specs.Steps.{index_type_at, index_at, offsets_at, runs_at, all_runs_at, connectivity_at, cut_cells_at, any_cells_at, offset_section_at, AreCuts, AreAllCuts}
 use Rattle.viz_offset_cells.proofs.Times.{put_behind, and_more, times_at-length, times_at-add, known_at-times}
 use Rattle.viz_offset_cells.proofs.Loops.{cuts-rise}
 use Rattle.viz_offset_cells.proofs.OffsetLoops.{known-cuts}
-use Rattle.viz_offset_cells.proofs.OffsetLaws.{connectivity_list_at, cut_list_at, any_list_at, section_list_at, decides-section_size, decides-offset_section}
+use Rattle.viz_offset_cells.proofs.OffsetLaws.{connectivity_list_at, cut_list_at, any_list_at, section_list_at, decides-offset_section}
 
 -- the runs of what is left behind the first offset
 abbrev runs_left : ℕ → List ℕ → List ℕ → List (List ℕ)

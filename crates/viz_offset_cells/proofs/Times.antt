@@ -5,7 +5,7 @@ use Rattle.viz_lex.specs.declared.fault.FileFault.{FileFault}
 use Rattle.viz_lex.specs.Reading.{Reading, ◌>>=◌}
 use Rattle.viz_lex.specs.Readers.{times_at, known_at}
 use Rattle.viz_lex.proofs.ReadingLemmas.{done_is, bind_ok}
-use Rattle.viz_mesh_read.proofs.Loops.{with_front, regroup}
+use Rattle.viz_counted_cells.proofs.Loops.{with_front, regroup}
 
 -- ---- as many as were asked for
 

@@ -18,8 +18,8 @@ use Rattle.viz_attr.specs.declared.types.Stored.{Stored}
 use Rattle.viz_attr.specs.declared.types.Stored.TheVariants.{Whole, Float, Double}
 use Rattle.viz_attr.specs.Types.{stored_of, is_left_out_type}
 use Rattle.viz_attr.specs.Counts.{count_from}
-use Rattle.viz_mesh_read.specs.Sections.{here, section_start, is_index, section_size}
-use Rattle.viz_mesh_read.specs.Sections.{numbers_of_cells}
+use Rattle.viz_counted_cells.specs.Sections.{here, section_start, is_index, section_size}
+use Rattle.viz_counted_cells.specs.Sections.{numbers_of_cells}
 use Rattle.viz_offset_cells.specs.Runs.{runs_between}
 
 -- the kind of whole numbers, where a type is one

@@ -14,8 +14,8 @@ use Rattle.viz_lex.specs.Steps.{guard, has, due_word, due_number, keyword_at}
 use Rattle.viz_lex.specs.Readers.{known_at, bytes_at}
 use Rattle.viz_attr.specs.Types.{is_left_out_type}
 use Rattle.viz_attr.specs.Steps.{count_from_at}
-use Rattle.viz_mesh_read.specs.Sections.{is_index}
-use Rattle.viz_mesh_read.specs.Steps.{section_start_at, section_size_at}
+use Rattle.viz_counted_cells.specs.Sections.{is_index}
+use Rattle.viz_counted_cells.specs.Steps.{section_start_at, section_size_at}
 use Rattle.viz_offset_cells.specs.Offsets.{kind_named, is_offset, has_cuts}
 
 -- a type

@@ -2,14 +2,14 @@
 
 ghost use Rattle.std.specs.Prelude.{◌≡◌};
 ghost use Rattle.viz_lex.specs.Reading.{Reads};
-ghost use Rattle.viz_attr.specs.Types.{is_left_out_type};
 ghost use Rattle.viz_offset_cells.specs.Offsets.{kind_named};
 ghost use Rattle.viz_offset_cells.specs.Steps.{index_type_at};
 
+use viz_attr::{Stored, is_left_out, stored_of};
 use viz_column::Kind8;
 use viz_lex::{FileFault, FileKind, Lexer, is_word};
 
-/// The type words of version 5.1, and of the others those of whole numbers.
+/// The kind of whole numbers that a type word names, in any case of letters.
 fn kind_named(word: &[u8]) -> Option<Kind8>
     ensures { result ≡ kind_named word.now }
 {
@@ -19,44 +19,10 @@ fn kind_named(word: &[u8]) -> Option<Kind8>
     if is_word(word, b"vtktypeuint32") {
         return Some(Kind8::U32);
     }
-    if is_word(word, b"char") {
-        return Some(Kind8::I8);
+    match stored_of(word) {
+        Some(Stored::Whole(kind)) => Some(kind),
+        _ => None,
     }
-    if is_word(word, b"unsigned_char") {
-        return Some(Kind8::U8);
-    }
-    if is_word(word, b"short") {
-        return Some(Kind8::I16);
-    }
-    if is_word(word, b"unsigned_short") {
-        return Some(Kind8::U16);
-    }
-    if is_word(word, b"int") {
-        return Some(Kind8::I32);
-    }
-    if is_word(word, b"unsigned_int") {
-        return Some(Kind8::U32);
-    }
-    if is_word(word, b"long") || is_word(word, b"vtktypeint64") {
-        return Some(Kind8::I64);
-    }
-    if is_word(word, b"unsigned_long") || is_word(word, b"vtktypeuint64") {
-        return Some(Kind8::U64);
-    }
-    if is_word(word, b"float") || is_word(word, b"double") {
-        return None;
-    }
-    None
-}
-
-fn is_left_out(word: &[u8]) -> bool
-    ensures { result ≡ is_left_out_type word.now }
-{
-    is_word(word, b"bit")
-        || is_word(word, b"vtkIdType")
-        || is_word(word, b"string")
-        || is_word(word, b"utf8_string")
-        || is_word(word, b"variant")
 }
 
 /// The next word, which is due to be a type of whole numbers: Unsupported exactly at a type of the

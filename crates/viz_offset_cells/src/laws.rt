@@ -4,7 +4,7 @@
 ghost use Rattle.std.specs.Prelude.{ℕ, Bool, List};
 ghost use Rattle.viz_lex.specs.Reading.{Reading};
 ghost use Rattle.viz_lex.specs.Rules.{Decides, IsDefinite};
-ghost use Rattle.viz_mesh_read.specs.Sections.{HaveIndices};
+ghost use Rattle.viz_counted_cells.specs.Sections.{HaveIndices};
 ghost use Rattle.viz_offset_cells.specs.Offsets.{offset_section, offset_numbers};
 ghost use Rattle.viz_offset_cells.specs.Steps.{offset_section_at};
 

@@ -5,7 +5,6 @@
 //! version 5.1".
 #![tactic(auto)]
 
-mod counts;
 mod kinds;
 mod laws;
 mod numbers;

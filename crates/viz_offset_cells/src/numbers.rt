@@ -4,36 +4,13 @@ ghost use Rattle.std.specs.Prelude.{◌≡◌, ◌<◌, ◌≤◌, ◌^◌, ℤ,
 ghost use Rattle.viz_column.specs.Kinds.{size_of, fits};
 ghost use Rattle.viz_column.specs.Bytes.{number_in};
 ghost use Rattle.viz_lex.specs.Reading.{Reads};
-ghost use Rattle.viz_lex.specs.Readers.{bytes_at};
-ghost use Rattle.viz_mesh_read.specs.Sections.{is_index};
-ghost use Rattle.viz_mesh_read.specs.Steps.{section_start_at};
 ghost use Rattle.viz_offset_cells.specs.Steps.{block_number_at, word_number_at, typed_number_at};
 ghost use Rattle.viz_offset_cells.specs.Steps.{index_at};
 
 use byteorder::{BigEndian, ByteOrder};
 use viz_column::Kind8;
+use viz_counted_cells::{block, is_index};
 use viz_lex::{FileFault, FileKind, Lexer};
-
-/// The next so many bytes.
-#[tactic(auto, unfolding(viz_lex::specs::Readers::bytes_at))]
-fn block<'a>(lexer: &mut Lexer<'a>, count: u64) -> Result<&'a [u8], FileFault>
-    ensures read { Reads (λ bytes. bytes.now) result lexer.new (bytes_at count lexer.old) }
-    ensures long { IfOk result (λ bytes. length bytes.now ≡ count) }
-{
-    let span = lexer.block(count)?;
-    Ok(lexer.text(&span))
-}
-
-/// The end of the keyword's line, which is due in BINARY.
-#[tactic(auto, unfolding(viz_mesh_read::specs::Steps::section_start_at))]
-pub(crate) fn section_start(lexer: &mut Lexer<'_>, binary: bool) -> Result<(), FileFault>
-    ensures { Reads (λ done. done) result lexer.new (section_start_at binary lexer.old) }
-{
-    if binary {
-        return lexer.line_end();
-    }
-    Ok(())
-}
 
 /// The number in these bytes.
 #[inline(always)]
@@ -106,13 +83,6 @@ pub(crate) fn typed_number(
         return block_number(lexer, kind);
     }
     word_number(lexer, kind)
-}
-
-#[inline(always)]
-fn is_index(points: u64, n: &i128) -> bool
-    ensures { result ≡ is_index points n.now }
-{
-    *n >= 0 && *n < i128::from(points)
 }
 
 /// The index of one of so many points: else Index.

@@ -8,10 +8,11 @@ ghost use Rattle.viz_offset_cells.specs.Offsets.{is_offset};
 ghost use Rattle.viz_offset_cells.specs.Steps.{offset_at, offsets_at, AreAllCuts};
 
 use crate::kinds::index_type;
-use crate::numbers::{section_start, typed_number};
+use crate::numbers::typed_number;
 use std::alloc::Global;
 use viz_attr::AttrStop;
 use viz_column::Kind8;
+use viz_counted_cells::section_start;
 use viz_lex::{FileFault, FileKind, Lexer};
 
 /// Whether a number is an offset behind those before, of so many that end at so many indices.

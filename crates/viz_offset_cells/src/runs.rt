@@ -6,10 +6,11 @@ ghost use Rattle.viz_offset_cells.specs.Steps.{run_at, runs_at, all_runs_at, con
 ghost use Rattle.viz_offset_cells.specs.Steps.{AreCuts, AreAllCuts};
 
 use crate::kinds::index_type;
-use crate::numbers::{index, section_start};
+use crate::numbers::index;
 use std::alloc::Global;
 use viz_attr::AttrStop;
 use viz_column::Kind8;
+use viz_counted_cells::section_start;
 use viz_lex::Lexer;
 
 /// So many indices, behind the numbers before.

@@ -2,18 +2,17 @@
 
 ghost use Rattle.std.specs.Prelude.{◌≡◌, ◌<◌, ◌^◌};
 ghost use Rattle.viz_attr.specs.Reads.{ReadsUnlessMemory};
-ghost use Rattle.viz_mesh_read.specs.Geometry.{MeetsBy};
-ghost use Rattle.viz_mesh_read.specs.Sections.{section_of};
+ghost use Rattle.viz_counted_cells.specs.Geometry.{MeetsBy};
+ghost use Rattle.viz_counted_cells.specs.Sections.{section_of};
 ghost use Rattle.viz_offset_cells.specs.Offsets.{has_cuts, offset_numbers};
 ghost use Rattle.viz_offset_cells.specs.Steps.{cut_cells_at, any_cells_at, offset_section_at};
 
-use crate::counts::{count, index_count};
 use crate::offsets::offsets;
 use crate::runs::connectivity;
 use std::alloc::Global;
 use viz_attr::AttrStop;
+use viz_counted_cells::{CellArrays, CellNumbers, CellSection, count, section_size};
 use viz_lex::Lexer;
-use viz_mesh_read::{CellArrays, CellNumbers, CellSection};
 
 /// The cells of so many offsets and so many indices.
 #[tactic(auto, unfolding(crate::specs::Steps::cut_cells_at))]
@@ -83,7 +82,7 @@ fn all_cells(
         (offset_section_at binary points lexer.old) }
 {
     let most = count(lexer)?;
-    let indices = index_count(lexer, most)?;
+    let indices = section_size(lexer, most)?;
     any_cells(alloc, lexer, binary, points, most, indices)
 }
 
@@ -97,6 +96,8 @@ pub fn offset_section(
 ) -> Result<CellSection, AttrStop>
     requires { points < 2 ^ 31 }
     ensures meets { MeetsBy section_of (offset_numbers binary points) result lexer.old lexer.new }
+    ensures exact { ReadsUnlessMemory section_of result lexer.new
+        (offset_section_at binary points lexer.old) }
 {
     all_cells(alloc, lexer, binary, points)
 }

@@ -5,9 +5,8 @@ use std::process::Abort;
 use std::test::Fail;
 use viz_column::Kind8;
 use viz_lex::Lexer;
-use viz_mesh_read::{
-    CellArrays, CellSection, GridFile, PolyFile, PolyPieces, grid, polydata, split,
-};
+use viz_counted_cells::{CellArrays, CellSection};
+use viz_mesh_read::{GridFile, PolyFile, PolyPieces, grid, polydata, split};
 
 /// A grid of a tetrahedron, a triangle and a line, in words.
 const GRID_WORDS: &[u8] = b"FIELD f 1

@@ -11,7 +11,7 @@ use Rattle.viz_lex.specs.Steps.{same_word, is_next}
 use Rattle.viz_lex.specs.Rules.{gives}
 use Rattle.viz_lex.specs.Items.{word, keyword}
 use Rattle.viz_attr.specs.Counts.{same_count}
-use Rattle.viz_mesh_read.specs.Sections.{section_start, section, HaveIndices}
+use Rattle.viz_counted_cells.specs.Sections.{section_start, section, HaveIndices}
 use Rattle.viz_mesh_read.specs.Points.{points}
 use Rattle.viz_mesh_read.specs.Grid.{one_field, fields, cells_keyword, cell_types, types, Grid, grid}
 use Rattle.viz_mesh_write.specs.MeshText.{size_of}

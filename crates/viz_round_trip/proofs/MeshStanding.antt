@@ -19,7 +19,7 @@ use Rattle.viz_lex.specs.Words.{IsBlank}
 use Rattle.viz_lex.specs.Rules.{gives, choose, follow}
 use Rattle.viz_attr.specs.Picks.{has_fit, picked_of}
 use Rattle.viz_attr.specs.Grammar.{joined, parts, is_zero, no_array, attributes}
-use Rattle.viz_mesh_read.specs.Sections.{HasIndices, HaveIndices}
+use Rattle.viz_counted_cells.specs.Sections.{HasIndices, HaveIndices}
 use Rattle.viz_mesh_read.specs.Grid.{grid}
 use Rattle.viz_mesh_read.specs.Poly.{polydata}
 use Rattle.viz_mesh_read.specs.Pieces.{pieces_of}

@@ -13,7 +13,7 @@ use Rattle.viz_lex.specs.Words.{IsBlank, IsNextWord}
 use Rattle.viz_lex.specs.Steps.{same_word, is_next}
 use Rattle.viz_lex.specs.Rules.{Rule, gives, demand, beside, follow}
 use Rattle.viz_lex.specs.Items.{word}
-use Rattle.viz_mesh_read.specs.Sections.{section, HasIndices, HaveIndices}
+use Rattle.viz_counted_cells.specs.Sections.{section, HasIndices, HaveIndices}
 use Rattle.viz_mesh_read.specs.Points.{points}
 use Rattle.viz_mesh_read.specs.Grid.{one_field, fields}
 use Rattle.viz_mesh_read.specs.Poly.{ByKind, for_each, with_kind, kind_named, none_seen, seen_with, is_due, sections, Poly, polydata}

@@ -18,7 +18,7 @@ use Rattle.viz_lex.specs.Rules.{gives, demand}
 use Rattle.viz_lex.specs.Repeats.{times}
 use Rattle.viz_lex.specs.Items.{number, block}
 use Rattle.viz_attr.specs.Counts.{is_number, count_from, same_count}
-use Rattle.viz_mesh_read.specs.Sections.{here, section_number, section_start, is_index, index, is_cell_count, cell, cells, section_size, section, HasIndices, HaveIndices}
+use Rattle.viz_counted_cells.specs.Sections.{here, section_number, section_start, is_index, index, is_cell_count, cell, cells, section_size, section, HasIndices, HaveIndices}
 use Rattle.viz_mesh_read.specs.Grid.{points_of_type, cell_type, cell_types}
 use Rattle.viz_mesh_write.specs.MeshText.{cell_numbers, size_of, type_of}
 use Rattle.viz_mesh_write.specs.Rows.{block_text}

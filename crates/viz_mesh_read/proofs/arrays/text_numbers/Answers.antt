@@ -3,7 +3,7 @@ use Rattle.std.proofs.lemmas.Grind.{common_steps}
 use Rattle.std.proofs.lemmas.Result.{err_from_is_err_and}
 use Rattle.viz_lex.specs.Readers.{times_at}
 use Rattle.viz_mesh_read.specs.Steps.{value_at}
-use Rattle.viz_mesh_read.proofs.Loops.{times-on, times-fault, times-done}
+use Rattle.viz_counted_cells.proofs.Loops.{times-on, times-fault, times-done}
 use Rattle.viz_mesh_read.proofs.arrays.text_numbers.Goals as goal
 
 pub loop-preserved : goal.loop-preserved

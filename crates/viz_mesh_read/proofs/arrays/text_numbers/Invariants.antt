@@ -1,7 +1,7 @@
 use Rattle.std.proofs.Common.{◌≡◌, ◌-◌, map}
 use Rattle.viz_lex.specs.Readers.{times_at}
 use Rattle.viz_mesh_read.specs.Steps.{value_at}
-use Rattle.viz_mesh_read.proofs.Loops.{with_front}
+use Rattle.viz_counted_cells.proofs.Loops.{with_front}
 use Rattle.viz_mesh_read.proofs.arrays.text_numbers.Given as goal
 
 -- the numbers so far, and those to come, are all

@@ -1,6 +1,6 @@
 use Rattle.viz_mesh_read.specs.Points.{points}
 use Rattle.viz_mesh_read.specs.Steps.{points_at}
-use Rattle.viz_mesh_read.proofs.MeetLemmas.{meets-decided}
+use Rattle.viz_counted_cells.proofs.MeetLemmas.{meets-decided}
 use Rattle.viz_mesh_read.proofs.PointLaws.{decides-points}
 use Rattle.viz_mesh_read.proofs.coordinates.points.Goals as goal
 

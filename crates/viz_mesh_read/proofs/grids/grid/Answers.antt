@@ -1,6 +1,6 @@
 use Rattle.viz_mesh_read.specs.Grid.{grid_of, grid_numbers}
 use Rattle.viz_mesh_read.specs.GridSteps.{grid_at}
-use Rattle.viz_mesh_read.proofs.MeetLemmas.{meets-decided}
+use Rattle.viz_counted_cells.proofs.MeetLemmas.{meets-decided}
 use Rattle.viz_mesh_read.proofs.GridLaws.{decides-grid_numbers}
 use Rattle.viz_mesh_read.proofs.grids.grid.Goals as goal
 

@@ -1,9 +1,9 @@
 use Rattle.viz_lex.proofs.DecidedLemmas.{IsDefinite-decided}
 use Rattle.viz_mesh_read.specs.Points.{points}
-use Rattle.viz_mesh_read.specs.Sections.{section}
+use Rattle.viz_mesh_read.specs.CellSections.{cell_section}
 use Rattle.viz_mesh_read.specs.Steps.{points_at}
 use Rattle.viz_mesh_read.proofs.PointLaws.{decides-points}
-use Rattle.viz_mesh_read.proofs.SectionLaws.{section_list_at, decides-section}
+use Rattle.viz_mesh_read.proofs.SectionLaws.{cell_list_at, decides-cell_section}
 use Rattle.viz_mesh_read.specs.Grid.{grid}
 use Rattle.viz_mesh_read.proofs.GridLaws.{grid_list_at, decides-grid}
 use Rattle.viz_mesh_read.specs.Poly.{polydata}
@@ -14,7 +14,7 @@ pub returns-clause-points : goal.returns-clause-points
 returns-clause-points c = λ binary. IsDefinite-decided (points binary) (points_at binary) (decides-points binary)
 
 pub returns-clause-section : goal.returns-clause-section
-returns-clause-section c = λ binary n. IsDefinite-decided (section binary n) (section_list_at binary n) (decides-section binary n)
+returns-clause-section c = λ later binary n. IsDefinite-decided (cell_section later binary n) (cell_list_at later binary n) (decides-cell_section later binary n)
 
 pub returns-clause-grid : goal.returns-clause-grid
 returns-clause-grid c = λ binary later. IsDefinite-decided (grid binary later) (grid_list_at binary later) (decides-grid binary later)

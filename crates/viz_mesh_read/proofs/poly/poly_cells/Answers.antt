@@ -1,6 +1,6 @@
 use Rattle.std.proofs.Common.{◌∙◌, sym}
 use Rattle.std.proofs.lemmas.Result.{err_from_is_err_and}
-use Rattle.viz_mesh_read.specs.Sections.{section_of}
+use Rattle.viz_counted_cells.specs.Sections.{section_of}
 use Rattle.viz_mesh_read.specs.Poly.{sections_of}
 use Rattle.viz_mesh_read.proofs.PolyLoops.{sections-on, sections-end, sections-fault, sections-stop, sections-done}
 use Rattle.viz_mesh_read.proofs.poly.poly_cells.Goals as goal

@@ -1,6 +1,6 @@
 use Rattle.viz_mesh_read.specs.Poly.{polydata_of, polydata_numbers}
 use Rattle.viz_mesh_read.specs.PolySteps.{polydata_at}
-use Rattle.viz_mesh_read.proofs.MeetLemmas.{meets-decided}
+use Rattle.viz_counted_cells.proofs.MeetLemmas.{meets-decided}
 use Rattle.viz_mesh_read.proofs.PolyLaws.{decides-polydata_numbers}
 use Rattle.viz_mesh_read.proofs.poly.polydata.Goals as goal
 

@@ -2,8 +2,8 @@ use Rattle.std.proofs.Common.{◌+◌}
 use Rattle.std.specs.Prelude.{drop}
 use Rattle.std.specs.List.{flat_map}
 use Rattle.std.proofs.lemmas.Result.{err_from_is_err_and}
-use Rattle.viz_mesh_read.specs.Numbered.{cell_numbers}
-use Rattle.viz_mesh_read.proofs.BlockLoops.{cells-behind}
+use Rattle.viz_counted_cells.specs.Numbered.{cell_numbers}
+use Rattle.viz_counted_cells.proofs.BlockLoops.{cells-behind}
 use Rattle.viz_mesh_read.proofs.GridLoops.{types-on, types-fault, types-done}
 use Rattle.viz_mesh_read.proofs.types.types_of_size.Goals as goal
 

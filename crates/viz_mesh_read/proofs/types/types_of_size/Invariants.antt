@@ -1,7 +1,7 @@
 use Rattle.std.proofs.Common.{◌≡◌, ◌-◌}
 use Rattle.std.specs.Prelude.{drop}
 use Rattle.std.specs.List.{flat_map}
-use Rattle.viz_mesh_read.specs.Numbered.{cell_numbers}
+use Rattle.viz_counted_cells.specs.Numbered.{cell_numbers}
 use Rattle.viz_mesh_read.specs.GridSteps.{cell_types_at}
 use Rattle.viz_mesh_read.proofs.types.types_of_size.Given as goal
 
