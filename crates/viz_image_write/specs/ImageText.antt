@@ -11,10 +11,11 @@ use Rattle.viz_column.specs.Numbers.{Numbers}
 use Rattle.viz_column.specs.Bytes.{block_of}
 use Rattle.viz_lex.specs.Written.{decimal_text}
 use Rattle.viz_dataset.specs.Images.{ImageData, Vector, corner}
+use Rattle.viz_image_write.specs.Version.{version_line}
 
 -- the version and the title
-unfoldable pub title_lines : List ℕ
-title_lines = codes "# vtk DataFile Version 3.0\nvizrun image\n"
+unfoldable pub title_lines : Bool → List ℕ
+title_lines later = version_line later ++ codes "vizrun image\n"
 
 -- whether the values are bytes or words
 unfoldable pub form_line : Bool → List ℕ
@@ -78,9 +79,9 @@ unfoldable pub table_line : List ℕ
 table_line = codes "LOOKUP_TABLE default\n"
 
 -- the lines in front of the values
-unfoldable pub header_lines : Bool → ImageData → List ℕ
-header_lines binary i =
-    title_lines ++ form_line binary ++ dataset_line ++ geometry_lines i
+unfoldable pub header_lines : Bool → Bool → ImageData → List ℕ
+header_lines later binary i =
+    title_lines later ++ form_line binary ++ dataset_line ++ geometry_lines i
     ++ point_data_line (count_of i.extent) ++ array_line i.values.kind ++ table_line
 
 -- a number behind a space
@@ -103,7 +104,8 @@ abbrev pub values_text : Bool → ℕ → ℕ → Numbers → List ℕ
 values_text true rows width values = block_of values ++ 10 ∷ []
 values_text false rows width values = rows_text rows width values.items
 
--- the whole text of an image: each row along x is one line
-unfoldable pub image_text : Bool → ImageData → List ℕ
-image_text binary i = header_lines binary i ++ values_text binary
+-- the whole text of an image: each row along x is one line; by the version its first line differs
+-- alone
+unfoldable pub image_text : Bool → Bool → ImageData → List ℕ
+image_text later binary i = header_lines later binary i ++ values_text binary
     (size_y i.extent * size_z i.extent) (size_x i.extent) i.values

@@ -3,6 +3,7 @@
 ghost use Rattle.std.specs.Prelude.{◌≡◌, ◌*◌, ◌++◌, ◌↔◌, OnOk, IfOk, IsErrOf};
 ghost use Rattle.viz_dataset.specs.Images.{IsOrigin, corner};
 ghost use Rattle.viz_image_write.specs.ImageText.{image_text};
+ghost use Rattle.viz_image_write.specs.Version.{is_later};
 
 use crate::image_heads::put_header;
 use crate::rows::put_column;
@@ -31,12 +32,13 @@ fn room_per_value(binary: bool, kind: Kind8) -> usize {
 fn put_image(
     alloc: Global,
     text: &mut Vec<u8>,
+    later: bool,
     binary: bool,
     image: &Image,
 ) -> Result<(), AllocError>
-    ensures { OnOk result (text.new.items ≡ text.old.items ++ image_text binary image.now) }
+    ensures { OnOk result (text.new.items ≡ text.old.items ++ image_text later binary image.now) }
 {
-    put_header(text, binary, image)?;
+    put_header(text, later, binary, image)?;
     let column = image.column();
     let room = room_per_value(binary, column.kind()) as u64;
     text.reserve(room.saturating_mul(column.len()) as usize)?;
@@ -49,14 +51,15 @@ fn put_image(
 
 /// The text of an image: in ASCII each row along x is one line, in BINARY the bytes of the numbers
 /// and a newline. `ORIGIN` is the position of the lowest corner of the extent, so a text has
-/// no indices of its own.
+/// no indices of its own. By the version the first line differs alone.
 ///
 /// # Errors
 ///
 /// `TooWide` exactly where that position exceeds 10^18 units in magnitude, along some axis;
 /// `TooMany` never, since an extent has at most 2^31 - 1 points.
 pub fn write_image(alloc: Global, image: &Image, style: &Style) -> Result<Bytes, WriteStop>
-    ensures value { IfOk result (λ text. text ≡ image_text style.now.binary image.now) }
+    ensures value { IfOk result (λ text.
+        text ≡ image_text (is_later style.now.version) style.now.binary image.now) }
     ensures fits { OnOk result (IsOrigin (corner image.now)) }
     ensures too_wide { IsErrOf result WriteStop.TooWide ↔ ¬ IsOrigin (corner image.now) }
     ensures too_many { ¬ IsErrOf result WriteStop.TooMany }
@@ -65,6 +68,6 @@ pub fn write_image(alloc: Global, image: &Image, style: &Style) -> Result<Bytes,
         return Err(WriteStop::TooWide);
     }
     let mut text = Vec::new(alloc);
-    put_image(alloc, &mut text, style.binary, image)?;
+    put_image(alloc, &mut text, style.is_later(), style.binary, image)?;
     Ok(Bytes::new(text))
 }

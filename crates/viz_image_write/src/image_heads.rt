@@ -9,6 +9,7 @@ ghost use Rattle.viz_image_write.specs.ImageText.{spaced_size, dimensions_line, 
 ghost use Rattle.viz_image_write.specs.ImageText.{vector_line, origin_line, spacing_line};
 ghost use Rattle.viz_image_write.specs.ImageText.{geometry_lines, point_data_line, type_word};
 ghost use Rattle.viz_image_write.specs.ImageText.{array_line, table_line, header_lines};
+ghost use Rattle.viz_image_write.specs.Version.{version_line};
 
 use std::alloc::AllocError;
 use viz_column::Kind8;
@@ -16,12 +17,30 @@ use viz_dataset::Image;
 use viz_extent::Extent;
 use viz_lex::{put_decimal, put_whole};
 
+/// Puts the first line of a file, by whether it is of version 5.1.
+///
+/// # Errors
+///
+/// Want of memory.
+#[tactic(auto, unfolding(crate::specs::Version::version_line))]
+pub fn put_version(text: &mut Vec<u8>, later: bool) -> Result<(), AllocError>
+    ensures put { OnOk result (text.new.items ≡ text.old.items ++ version_line later) }
+{
+    if later {
+        text.extend_from_slice(b"# vtk DataFile Version 5.1\n")?;
+    } else {
+        text.extend_from_slice(b"# vtk DataFile Version 3.0\n")?;
+    }
+    Ok(())
+}
+
 /// The version and the title.
 #[tactic(auto, unfolding(crate::specs::ImageText::title_lines))]
-fn put_title(text: &mut Vec<u8>) -> Result<(), AllocError>
-    ensures { OnOk result (text.new.items ≡ text.old.items ++ title_lines) }
+fn put_title(text: &mut Vec<u8>, later: bool) -> Result<(), AllocError>
+    ensures { OnOk result (text.new.items ≡ text.old.items ++ title_lines later) }
 {
-    text.extend_from_slice(b"# vtk DataFile Version 3.0\nvizrun image\n")?;
+    put_version(text, later)?;
+    text.extend_from_slice(b"vizrun image\n")?;
     Ok(())
 }
 
@@ -202,10 +221,15 @@ fn put_table(text: &mut Vec<u8>) -> Result<(), AllocError>
 
 /// The lines in front of the values.
 #[tactic(auto, unfolding(crate::specs::ImageText::header_lines))]
-pub(crate) fn put_header(text: &mut Vec<u8>, binary: bool, image: &Image) -> Result<(), AllocError>
-    ensures { OnOk result (text.new.items ≡ text.old.items ++ header_lines binary image.now) }
+pub(crate) fn put_header(
+    text: &mut Vec<u8>,
+    later: bool,
+    binary: bool,
+    image: &Image,
+) -> Result<(), AllocError>
+    ensures { OnOk result (text.new.items ≡ text.old.items ++ header_lines later binary image.now) }
 {
-    put_title(text)?;
+    put_title(text, later)?;
     put_form(text, binary)?;
     put_dataset(text)?;
     put_geometry(text, image)?;

@@ -1,8 +1,8 @@
 //! Writing legacy files: the text of an image, and what its writer shares with that of meshes.
 //!
 //! Contract: `write_image` gives the text of the definition, or the refusal that it names; what a
-//! mesh is written as is `viz_mesh_write`. Definitions: `specs/ImageText.antt`; the rule is that of
-//! docs/FORMATS.md, "Written files".
+//! mesh is written as is `viz_mesh_write`. Definitions: `specs/ImageText.antt`,
+//! `specs/Version.antt`; the rule is that of docs/FORMATS.md, "Written files".
 #![tactic(auto)]
 
 mod counts;
@@ -16,6 +16,7 @@ mod style;
 
 pub use counts::counts_fit;
 pub use image::write_image;
+pub use image_heads::put_version;
 pub use left::{Block, left_byte, left_count, left_int, left_long, left_number};
 pub use stop::WriteStop;
 pub use style::Style;

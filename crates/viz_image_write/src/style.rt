@@ -1,8 +1,10 @@
 //! How a dataset is written.
 
-ghost use Rattle.std.specs.Prelude.{◌≤◌};
+ghost use Rattle.std.specs.Prelude.{◌≡◌, ◌≤◌, ◌⊎◌};
+ghost use Rattle.viz_image_write.specs.Version.{is_later};
 
-/// How a dataset is written: in bytes or in words, and with how many decimal places.
+/// How a dataset is written: in bytes or in words, with how many decimal places, and in a file of
+/// which version: 3 for version 3.0, or 5 for version 5.1.
 ///
 /// Only the coordinates of a mesh are written with a number of places; those of an image are
 /// written in full.
@@ -10,5 +12,16 @@ ghost use Rattle.std.specs.Prelude.{◌≤◌};
 pub struct Style {
     pub binary: bool,
     pub digits: u8,
+    pub version: u8,
     ghost few: { digits ≤ 9 },
+    ghost known: { (version ≡ 3) ⊎ (version ≡ 5) },
+}
+
+impl Style {
+    /// Whether the file is one of version 5.1.
+    pub fn is_later(&self) -> bool
+        ensures value { result ≡ is_later self.now.version }
+    {
+        self.version == 5
+    }
 }

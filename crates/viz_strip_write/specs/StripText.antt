@@ -19,18 +19,18 @@ pub record IsFlat (sheets : List SheetData) : Type 0 where
 
 -- the lines in front of the points
 unfoldable pub head_text : List ℕ
-head_text = title_lines 3 ++ form_line false ++ dataset_line false
+head_text = title_lines false 3 ++ form_line false ++ dataset_line false
 
 -- the cells: vertices, lines and strips, each where there is one
 abbrev pub sections_text : List (List ℕ) → List (List ℕ) → List ℕ
 sections_text cells strips =
-    some_section false (codes "VERTICES") (of_size 1 cells)
-    ++ some_section false (codes "LINES") (of_size 2 cells)
-    ++ some_section false (codes "TRIANGLE_STRIPS") strips
+    some_section false false (codes "VERTICES") (of_size 1 cells)
+    ++ some_section false false (codes "LINES") (of_size 2 cells)
+    ++ some_section false false (codes "TRIANGLE_STRIPS") strips
 
 -- the same, and without any cell a section of no polygons
 abbrev pub cells_text : List (List ℕ) → List (List ℕ) → List ℕ
-cells_text [] strips = section_text false (codes "POLYGONS") []
+cells_text [] strips = section_text false false (codes "POLYGONS") []
 cells_text (cell ∷ cells) strips = sections_text (cell ∷ cells) strips
 
 -- the whole text of points and cells: head, points, cells by the indices of their points, scalars
