@@ -3,8 +3,8 @@
 use std::alloc::Global;
 use std::process::Abort;
 use std::test::Fail;
-use viz_lex::Lexer;
 use viz_counted_cells::{CellArrays, CellSection};
+use viz_lex::Lexer;
 use viz_offset_cells::offset_section;
 
 /// Three cells of 3, 2 and 4 points, in words.

@@ -4,8 +4,8 @@ use std::alloc::Global;
 use std::process::Abort;
 use std::test::Fail;
 use viz_column::Kind8;
-use viz_lex::Lexer;
 use viz_counted_cells::{CellArrays, CellSection};
+use viz_lex::Lexer;
 use viz_mesh_read::{GridFile, PolyFile, PolyPieces, grid, polydata, split};
 
 /// A grid of a tetrahedron, a triangle and a line, in words.
@@ -55,6 +55,41 @@ CELL_TYPES 2
 \x00\x00\x00
  behind";
 
+/// A grid of a tetrahedron, a triangle and a line as version 5.1 has it.
+const LATER_GRID: &[u8] = b"POINTS 4 int
+0 0 0 1 0 0 0 1 0 0 0 -7
+METADATA
+x
+
+CELLS 4 9
+OFFSETS vtktypeint64
+0 4 7 9
+CONNECTIVITY vtktypeint64
+0 1 2 3
+0 1 2
+3 1
+CELL_TYPES 3
+10 5 3 behind";
+
+/// Polydata of version 5.1 of all four kinds, of which one has no cell.
+const LATER_SECTIONS: &[u8] = b"POINTS 3 int
+0 0 0 1 0 0 0 1 0
+POLYGONS 2 3
+OFFSETS vtktypeint64
+0 3
+CONNECTIVITY vtktypeint64
+0 1 2
+VERTICES 3 3
+OFFSETS int
+0 1 3
+CONNECTIVITY unsigned_char
+0 2 1
+LINES 0 0
+triangle_strips 2 4
+offsets vtktypeint64 0 4
+connectivity vtktypeint64 0 1 2 0
+";
+
 /// Polydata of all four kinds, in another order.
 const ALL_SECTIONS: &[u8] = b"POINTS 3 int
 0 0 0 1 0 0 0 1 0
@@ -98,9 +133,9 @@ fn last_is(column: &viz_column::Column, i: u64, n: i128) -> bool {
 }
 
 /// A grid of a tetrahedron, a triangle and a line, and how many bytes of it were read.
-fn tells(alloc: Global, binary: bool, text: &[u8]) -> Option<u64> {
+fn tells(alloc: Global, binary: bool, later: bool, text: &[u8]) -> Option<u64> {
     let mut lexer = Lexer::new(text);
-    match &grid(alloc, &mut lexer, binary, false) {
+    match &grid(alloc, &mut lexer, binary, later) {
         Ok(found) => {
             if is_read(found)
                 && has_numbers(&found.cells, 3, &[4, 0, 1, 2, 3, 3, 0, 1, 2, 2, 3, 1])
@@ -135,16 +170,29 @@ fn cells_of_one_size_in_a_block(rt: HostRuntime) -> Result<(), Fail> {
 
 #[test]
 fn a_grid_in_both_forms(rt: HostRuntime) -> Result<(), Fail> {
-    for (binary, text, read) in [(false, GRID_WORDS, 146), (true, GRID_BLOCKS, 172)] {
-        assert_eq!(rt; tells(rt.alloc(), binary, text), Some(read), "{text:?}");
+    for (binary, later, text, read) in [
+        (false, false, GRID_WORDS, 146),
+        (true, false, GRID_BLOCKS, 172),
+        (false, true, LATER_GRID, 152),
+    ] {
+        assert_eq!(rt;
+            tells(rt.alloc(), binary, later, text),
+            Some(read),
+            "{text:?}"
+        );
     }
     Ok(())
 }
 
 /// The four sections of polydata, and how many bytes were read.
-fn tells_poly(alloc: Global, text: &[u8], sections: [(u64, &[u32]); 4]) -> Option<u64> {
+fn tells_poly(
+    alloc: Global,
+    later: bool,
+    text: &[u8],
+    sections: [(u64, &[u32]); 4],
+) -> Option<u64> {
     let mut lexer = Lexer::new(text);
-    match &polydata(alloc, &mut lexer, false, false) {
+    match &polydata(alloc, &mut lexer, false, later) {
         Ok(found) => {
             if has_sections(found, sections) {
                 return Some(lexer.place());
@@ -191,11 +239,20 @@ fn polydata_ends_where_no_section_is_due(rt: HostRuntime) -> Result<(), Fail> {
         ),
     ] {
         assert_eq!(rt;
-            tells_poly(rt.alloc(), text, sections),
+            tells_poly(rt.alloc(), false, text, sections),
             Some(read),
             "{text:?}"
         );
     }
+    assert_eq!(rt;
+        tells_poly(
+            rt.alloc(),
+            true,
+            LATER_SECTIONS,
+            [vertices, none, triangle, strip]
+        ),
+        Some(253)
+    );
     Ok(())
 }
 

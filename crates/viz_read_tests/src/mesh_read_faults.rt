@@ -402,13 +402,25 @@ fn sections_of_later_versions(rt: HostRuntime) -> Result<(), Fail> {
     for (text, kind, place) in [
         (
             b"POINTS 3 int\n0 0 0 1 0 0 0 1 0\nCELLS 2 6\n".as_slice(),
-            FileKind::Sections51,
-            31,
+            FileKind::Truncated,
+            41,
         ),
         (
-            b"POINTS 3 int\n0 0 0 1 0 0 0 1 0\nMETADATA\n\ncells 2 6\n",
-            FileKind::Sections51,
-            41,
+            b"POINTS 3 int\n0 0 0 1 0 0 0 1 0\nMETADATA\n\ncells 2 6\nOFFSETS float",
+            FileKind::Keyword,
+            59,
+        ),
+        // the last offset, and the number of points of a type
+        (
+            b"POINTS 3 int\n0 0 0 1 0 0 0 1 0\nCELLS 2 3\nOFFSETS vtktypeint64\n0 5\n",
+            FileKind::Count,
+            64,
+        ),
+        (
+            b"POINTS 3 int\n0 0 0 1 0 0 0 1 0\nCELLS 2 3\nOFFSETS vtktypeint64\n0 3\n\
+CONNECTIVITY vtktypeint64\n0 1 2\nCELL_TYPES 1\n10",
+            FileKind::Count,
+            111,
         ),
     ] {
         let fault = Some(FileFault { kind, place });
@@ -420,24 +432,27 @@ fn sections_of_later_versions(rt: HostRuntime) -> Result<(), Fail> {
     }
     for (text, kind, place) in [
         (
-            b"POINTS 3 int\n0 0 0 1 0 0 0 1 0\nVERTICES 2 6\n".as_slice(),
-            FileKind::Sections51,
-            31,
+            b"POINTS 3 int\n0 0 0 1 0 0 0 1 0\nVERTICES 2 1\nOFFSETS vtktypeint64\n0 1\n\
+CONNECTIVITY vtktypeint64\n3\n"
+                .as_slice(),
+            FileKind::Index,
+            95,
         ),
         (
-            b"POINTS 3 int\n0 0 0 1 0 0 0 1 0\nLINES 2 6\n",
-            FileKind::Sections51,
-            31,
+            b"POINTS 3 int\n0 0 0 1 0 0 0 1 0\nLINES 0 6\n",
+            FileKind::Count,
+            39,
         ),
         (
             b"POINTS 3 int\n0 0 0 1 0 0 0 1 0\npolygons 2 6\n",
-            FileKind::Sections51,
-            31,
+            FileKind::Truncated,
+            44,
         ),
         (
-            b"POINTS 3 int\n0 0 0 1 0 0 0 1 0\nTRIANGLE_STRIPS 2 6\n",
-            FileKind::Sections51,
-            31,
+            b"POINTS 3 int\n0 0 0 1 0 0 0 1 0\nTRIANGLE_STRIPS 2 4\nOFFSETS vtktypeint64\n0 4\n\
+connectivity double",
+            FileKind::Keyword,
+            89,
         ),
     ] {
         let fault = Some(FileFault { kind, place });

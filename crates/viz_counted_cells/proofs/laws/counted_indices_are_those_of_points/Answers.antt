@@ -1,5 +1,5 @@
 use Rattle.viz_counted_cells.proofs.IndexLaws.{section-below}
 use Rattle.viz_counted_cells.proofs.laws.counted_indices_are_those_of_points.Goals as goal
 
-pub returns-clause-section : goal.returns-clause-section
-returns-clause-section c = section-below
+pub returns : goal.returns
+returns c = record { section = section-below }
