@@ -43,7 +43,7 @@ sections_made (settings.Cut x y z r) file e rest d is p = let bad : ⊥ = cc in 
 sections_made settings.Append file e rest d is p = let bad : ⊥ = cc in absurd bad
 sections_made settings.Boundary file e rest d is p = let bad : ⊥ = cc in absurd bad
 sections_made settings.Merge file e rest d is p = let bad : ⊥ = cc in absurd bad
-sections_made (settings.Writer binary digits) file e rest d is p = let bad : ⊥ = cc in absurd bad
+sections_made (settings.Writer binary digits version) file e rest d is p = let bad : ⊥ = cc in absurd bad
 
 module _ (cones : ConesGiveOne) where
   -- the sheets of a contour that stands on an image are the contours of the image

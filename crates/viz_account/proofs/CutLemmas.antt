@@ -38,7 +38,7 @@ section_made (settings.Select lo hi all) file e rest d is p = let bad : ⊥ = cc
 section_made settings.Append file e rest d is p = let bad : ⊥ = cc in absurd bad
 section_made settings.Boundary file e rest d is p = let bad : ⊥ = cc in absurd bad
 section_made settings.Merge file e rest d is p = let bad : ⊥ = cc in absurd bad
-section_made (settings.Writer binary digits) file e rest d is p = let bad : ⊥ = cc in absurd bad
+section_made (settings.Writer binary digits version) file e rest d is p = let bad : ⊥ = cc in absurd bad
 
 module _ (cones : ConesGiveOne) where
   cut_made : (t : Tree) (image : ImageData) (d : Dataset) → is_cut t.0.settings ≡ true → (ports : Cone) → t.1 ≡ ports → IsFedFirst ports (Image image)

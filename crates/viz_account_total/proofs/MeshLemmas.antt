@@ -67,7 +67,8 @@ rule_mesh (settings.Cut x y z r) file inputs d is p = let bad : ⊥ = cc in absu
 rule_mesh settings.Append file inputs d is p = let bad : ⊥ = cc in absurd bad
 rule_mesh settings.Boundary file inputs d is p = let bad : ⊥ = cc in absurd bad
 rule_mesh settings.Merge file inputs d is p = let bad : ⊥ = cc in absurd bad
-rule_mesh (settings.Writer binary digits) file inputs d is p = let bad : ⊥ = cc in absurd bad
+rule_mesh (settings.Writer binary digits version) file inputs d is p =
+    let bad : ⊥ = cc in absurd bad
 
 own_mesh : (n : Node) (inputs : Inputs Dataset) (own : Result Dataset Cause) (d : Dataset)
     → is_contour n.settings ≡ true → DataRule n inputs own → Ok d ≡ at_node n own → IsMesh d

@@ -21,7 +21,7 @@ const KINDS: [(Kind, u8); 14] = [
     (Kind::Writer, 1),
 ];
 
-const PARAMS: [Param; 13] = [
+const PARAMS: [Param; 14] = [
     Param::Array,
     Param::Unit,
     Param::Bounds,
@@ -35,6 +35,7 @@ const PARAMS: [Param; 13] = [
     Param::Style,
     Param::Digits,
     Param::Release,
+    Param::Version,
 ];
 
 const LAST: i64 = 2_147_483_647;
@@ -64,7 +65,7 @@ fn default_of(kind: Kind, param: Param) -> Result<Option<Value>, Fail> {
         (Kind::Contour, Param::Levels) => numbers(1, [0; 8]),
         (Kind::Cut, Param::Plane) => numbers(4, [0, 0, 1, 0, 0, 0, 0, 0]),
         (Kind::Writer, Param::Style) => text("ascii")?,
-        (Kind::Writer, Param::Digits) => numbers(1, [3, 0, 0, 0, 0, 0, 0, 0]),
+        (Kind::Writer, Param::Digits | Param::Version) => numbers(1, [3, 0, 0, 0, 0, 0, 0, 0]),
         _ => return Ok(None),
     }))
 }
@@ -116,6 +117,11 @@ fn each_parameter_has_its_values(rt: HostRuntime) -> Result<(), Fail> {
         (Param::Digits, 1, [10, 0, 0, 0, 0, 0, 0, 0], false),
         (Param::Release, 1, [1, 0, 0, 0, 0, 0, 0, 0], true),
         (Param::Release, 1, [2, 0, 0, 0, 0, 0, 0, 0], false),
+        (Param::Version, 1, [3, 0, 0, 0, 0, 0, 0, 0], true),
+        (Param::Version, 1, [5, 0, 0, 0, 0, 0, 0, 0], true),
+        (Param::Version, 1, [2, 0, 0, 0, 0, 0, 0, 0], false),
+        (Param::Version, 1, [4, 0, 0, 0, 0, 0, 0, 0], false),
+        (Param::Version, 1, [6, 0, 0, 0, 0, 0, 0, 0], false),
         // Too few, too many, or something behind them.
         (Param::Range, 1, [5, 0, 0, 0, 0, 0, 0, 0], false),
         (Param::Range, 3, [5, 6, 0, 0, 0, 0, 0, 0], false),
@@ -196,6 +202,11 @@ fn what_is_set_is_read_back(rt: HostRuntime) -> Result<(), Fail> {
         ),
         (Kind::Writer, Param::Style, text("binary")?),
         (Kind::Writer, Param::Digits, numbers(1, [0; 8])),
+        (
+            Kind::Writer,
+            Param::Version,
+            numbers(1, [5, 0, 0, 0, 0, 0, 0, 0]),
+        ),
     ];
     for (kind, param, value) in rows {
         assert!(rt;

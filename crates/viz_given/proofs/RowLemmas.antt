@@ -227,8 +227,8 @@ module _ (images : TetrahedraAreLeveled) (reads : ReadsAreLeveled)
       mesh_row boundaries boundary inputs w h (row_made settings.Boundary inputs w m)
   row_leveled settings.Merge file inputs w h m =
       mesh_row merge_of merge inputs w h (row_made settings.Merge inputs w m)
-  row_leveled (settings.Writer binary digits) file inputs w h m =
-      let r = row_made (settings.Writer binary digits) inputs w m in
+  row_leveled (settings.Writer binary digits version) file inputs w h m =
+      let r = row_made (settings.Writer binary digits version) inputs w m in
       writer_row inputs w r.0 h r.1 r.2
 
   node_leveled : (n : Node) (inputs : Inputs Divided) (d : Divided) → OfAll IsLeveledGiven inputs

@@ -52,6 +52,7 @@ param-again param.Plane = refl
 param-again param.Style = refl
 param-again param.Digits = refl
 param-again param.Release = refl
+param-again param.Version = refl
 
 pub kind-solid : (k : Kind) → Solid (kind_word k)
 kind-solid kind.File = solid-array _ refl
@@ -83,6 +84,7 @@ param-solid param.Plane = solid-array _ refl
 param-solid param.Style = solid-array _ refl
 param-solid param.Digits = solid-array _ refl
 param-solid param.Release = solid-array _ refl
+param-solid param.Version = solid-array _ refl
 
 -- ---- values
 
@@ -123,6 +125,7 @@ text-again param.Levels text h f = absurd (true≢false (sym h))
 text-again param.Plane text h f = absurd (true≢false (sym h))
 text-again param.Digits text h f = absurd (true≢false (sym h))
 text-again param.Release text h f = absurd (true≢false (sym h))
+text-again param.Version text h f = absurd (true≢false (sym h))
 
 -- the number has 64 bits
 abbrev is_number : ℤ → Bool

@@ -44,4 +44,5 @@ has_param Contour param.Levels = true
 has_param Cut param.Plane = true
 has_param Writer param.Style = true
 has_param Writer param.Digits = true
+has_param Writer param.Version = true
 has_param _ _ = false

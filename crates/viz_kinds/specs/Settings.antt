@@ -31,7 +31,7 @@ defaults kind.Cut = settings.Cut (pos 0) (pos 0) (pos 1) (pos 0)
 defaults kind.Append = settings.Append
 defaults kind.Boundary = settings.Boundary
 defaults kind.Merge = settings.Merge
-defaults kind.Writer = settings.Writer false 3
+defaults kind.Writer = settings.Writer false 3 3
 
 -- the kind of a node
 abbrev pub kind_of : Settings → Kind
@@ -48,7 +48,7 @@ kind_of (settings.Cut a b c r) = kind.Cut
 kind_of settings.Append = kind.Append
 kind_of settings.Boundary = kind.Boundary
 kind_of settings.Merge = kind.Merge
-kind_of (settings.Writer binary digits) = kind.Writer
+kind_of (settings.Writer binary digits version) = kind.Writer
 
 -- the greatest index along an axis
 abbrev pub index_limit : ℕ
@@ -57,6 +57,10 @@ index_limit = 2147483647
 -- the number, where it is one from 0 to the limit
 abbrev pub natural : ℕ → ℤ → ℕ
 natural limit n = if int_le (pos 0) n && int_le n (pos limit) then unsigned_abs n else 0
+
+-- the version of a number: 5 where it is 5, else 3
+abbrev pub version_of : ℤ → ℕ
+version_of n = if int_eq n (pos 5) then 5 else 3
 
 -- the array that a text picks
 abbrev pub pick_of : List ℕ → Pick
@@ -108,8 +112,10 @@ with_numbers (settings.Select lo hi all) param.Range count n = settings.Select (
 with_numbers (settings.Contour levels_count levels) param.Levels count n = settings.Contour count n
 with_numbers (settings.Cut a b c r) param.Plane count n = settings.Cut (number n 0) (number n 1)
     (number n 2) (number n 3)
-with_numbers (settings.Writer binary digits) param.Digits count n = settings.Writer binary
-    (natural 9 (number n 0))
+with_numbers (settings.Writer binary digits version) param.Digits count n = settings.Writer binary
+    (natural 9 (number n 0)) version
+with_numbers (settings.Writer binary digits version) param.Version count n = settings.Writer binary
+    digits (version_of (number n 0))
 with_numbers settings _ _ _ = settings
 
 -- the parameters with another text of one
@@ -118,8 +124,8 @@ with_text (settings.File array unit) param.Array text = settings.File (pick_of t
 with_text (settings.Arith op) param.Op text = settings.Arith (op_of text)
 with_text (settings.Select lo hi all) param.Mode text = settings.Select lo hi
     (is_text text (codes "all"))
-with_text (settings.Writer binary digits) param.Style text = settings.Writer
-    (is_text text (codes "binary")) digits
+with_text (settings.Writer binary digits version) param.Style text = settings.Writer
+    (is_text text (codes "binary")) digits version
 with_text settings _ _ = settings
 
 -- the parameters with another value of one
@@ -152,9 +158,10 @@ setting (settings.Select lo hi all) param.Mode = Some
     (Text (if all then codes "all" else codes "any"))
 setting (settings.Contour count levels) param.Levels = Some (Numbers count levels)
 setting (settings.Cut a b c r) param.Plane = Some (Numbers 4 (a ∷ b ∷ c ∷ r ∷ replicate 4 (pos 0)))
-setting (settings.Writer binary digits) param.Style = Some
+setting (settings.Writer binary digits version) param.Style = Some
     (Text (if binary then codes "binary" else codes "ascii"))
-setting (settings.Writer binary digits) param.Digits = one (pos digits)
+setting (settings.Writer binary digits version) param.Digits = one (pos digits)
+setting (settings.Writer binary digits version) param.Version = one (pos version)
 setting _ _ = None
 
 -- the value of a node's parameter; none where the kind hasn't it

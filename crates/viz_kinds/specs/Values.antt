@@ -37,6 +37,7 @@ numbers_of param.Plane = takes 4 4 (negsuc 2147483646) (pos 2147483647)
 numbers_of param.Style = None
 numbers_of param.Digits = takes 1 1 (pos 0) (pos 9)
 numbers_of param.Release = takes 1 1 (pos 0) (pos 1)
+numbers_of param.Version = takes 1 1 (pos 3) (pos 5)
 
 -- whether each number lies from low to high
 abbrev pub fits_range : ℤ → ℤ → List ℤ → Bool
@@ -63,10 +64,15 @@ abbrev pub is_normal : List ℤ → Bool
 is_normal items = not (int_eq (number items 0) (pos 0)) || not (int_eq (number items 1) (pos 0))
     || not (int_eq (number items 2) (pos 0))
 
+-- whether the number is that of a version that is written: 3 or 5
+abbrev pub is_version : ℤ → Bool
+is_version n = int_eq n (pos 3) || int_eq n (pos 5)
+
 -- whether the numbers of the parameter fit together
 abbrev pub fits_rest : Param → List ℤ → Bool
 fits_rest param.Bounds items = is_ascending items
 fits_rest param.Plane items = is_normal items
+fits_rest param.Version items = is_version (number items 0)
 fits_rest _ items = true
 
 -- whether the two texts are the same

@@ -6,7 +6,8 @@ ghost use Rattle.viz_kinds.specs.Settings.{natural, pick_of as picked, pick_text
 ghost use Rattle.viz_kinds.specs.Settings.{op_of as reckoned, op_text as reckoning};
 ghost use Rattle.viz_kinds.specs.Settings.{with as changed, with_numbers as numbered};
 ghost use Rattle.viz_kinds.specs.Settings.{with_text as texted, release_with as released, setting};
-ghost use Rattle.viz_kinds.specs.Settings.{value_of, boxed, rated, one as single};
+ghost use Rattle.viz_kinds.specs.Settings.{value_of, boxed, rated, version_of as versioned};
+ghost use Rattle.viz_kinds.specs.Settings.{one as single};
 ghost use Rattle.std.specs.Prelude.{codes, if◌then◌else◌, Some};
 ghost use Rattle.viz_kinds.specs.declared.param.Value.TheVariants.{Numbers, Text};
 
@@ -30,6 +31,12 @@ fn digit(n: &i64) -> u8
     ensures { result ≡ natural 9 n.now }
 {
     small(n, 9) as u8
+}
+
+fn version_of(n: &i64) -> u8
+    ensures { result ≡ versioned n.now }
+{
+    if *n == 5 { 5 } else { 3 }
 }
 
 fn index(n: &i64) -> u32
@@ -116,60 +123,53 @@ impl Settings {
         }
     }
 
+    #[rattlefmt::skip]
     fn with_numbers(&self, param: Param, count: u8, n: &[i64; 8]) -> Settings
         ensures { result ≡ numbered self.now param count n.now }
     {
         match (self, param) {
             (Settings::File { array, .. }, Param::Unit) => Settings::File {
-                array: *array,
-                unit: digit(&n[0]),
+                array: *array, unit: digit(&n[0]),
             },
             (Settings::Crop { .. }, Param::Bounds) => bounds(n),
             (Settings::Sample { .. }, Param::Rate) => rates(n),
             (Settings::Threshold { .. }, Param::Range) => Settings::Threshold {
-                lo: n[0],
-                hi: n[1],
+                lo: n[0], hi: n[1],
             },
             (Settings::Smooth { .. }, Param::Radius) => Settings::Smooth {
                 radius: small(&n[0], 8),
             },
             (Settings::Select { all, .. }, Param::Range) => Settings::Select {
-                lo: n[0],
-                hi: n[1],
-                all: *all,
+                lo: n[0], hi: n[1], all: *all,
             },
             (Settings::Contour { .. }, Param::Levels) => Settings::Contour { count, levels: *n },
             (Settings::Cut { .. }, Param::Plane) => Settings::Cut {
-                a: n[0],
-                b: n[1],
-                c: n[2],
-                r: n[3],
+                a: n[0], b: n[1], c: n[2], r: n[3],
             },
-            (Settings::Writer { binary, .. }, Param::Digits) => Settings::Writer {
-                binary: *binary,
-                digits: digit(&n[0]),
+            (Settings::Writer { binary, version, .. }, Param::Digits) => Settings::Writer {
+                binary: *binary, digits: digit(&n[0]), version: *version,
+            },
+            (Settings::Writer { binary, digits, .. }, Param::Version) => Settings::Writer {
+                binary: *binary, digits: *digits, version: version_of(&n[0]),
             },
             _ => *self,
         }
     }
 
+    #[rattlefmt::skip]
     fn with_text(&self, param: Param, word: &Word) -> Settings
         ensures { result ≡ texted self.now param word.now }
     {
         match (self, param) {
             (Settings::File { unit, .. }, Param::Array) => Settings::File {
-                array: pick_of(word),
-                unit: *unit,
+                array: pick_of(word), unit: *unit,
             },
             (Settings::Arith { .. }, Param::Op) => Settings::Arith { op: op_of(word) },
             (Settings::Select { lo, hi, .. }, Param::Mode) => Settings::Select {
-                lo: *lo,
-                hi: *hi,
-                all: word.bytes() == b"all".as_slice(),
+                lo: *lo, hi: *hi, all: word.bytes() == b"all".as_slice(),
             },
-            (Settings::Writer { digits, .. }, Param::Style) => Settings::Writer {
-                binary: word.bytes() == b"binary".as_slice(),
-                digits: *digits,
+            (Settings::Writer { digits, version, .. }, Param::Style) => Settings::Writer {
+                binary: word.bytes() == b"binary".as_slice(), digits: *digits, version: *version,
             },
             _ => *self,
         }
@@ -278,6 +278,7 @@ impl Settings {
             ]),
             (Settings::Writer { binary, .. }, Param::Style) => text(style_text(*binary)),
             (Settings::Writer { digits, .. }, Param::Digits) => one(i64::from(*digits)),
+            (Settings::Writer { version, .. }, Param::Version) => one(i64::from(*version)),
             _ => None,
         }
     }

@@ -74,7 +74,7 @@ impl Kind {
             Param::Mode => matches!(self, Kind::Select),
             Param::Levels => matches!(self, Kind::Contour),
             Param::Plane => matches!(self, Kind::Cut),
-            Param::Style | Param::Digits => matches!(self, Kind::Writer),
+            Param::Style | Param::Digits | Param::Version => matches!(self, Kind::Writer),
         }
     }
 }

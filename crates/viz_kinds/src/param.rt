@@ -31,6 +31,9 @@ pub enum Param {
     Digits,
     /// Whether the node's parts are given up after an update.
     Release,
+    /// The version of the format that a file is written in: 3 is 3.0, and 5 is 5.1, which says the
+    /// cells of a mesh by offsets.
+    Version,
 }
 
 /// A value of a parameter.

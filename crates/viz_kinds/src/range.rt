@@ -17,7 +17,8 @@ pub struct Range {
     pub high: i64,
 }
 
-/// The numbers that the parameter takes; None where it takes a text.
+/// The numbers that the parameter takes; None where it takes a text. Those of Bounds, Plane and
+/// Version have to fit together besides, as `allows` says.
 #[rattlefmt::skip]
 pub fn range_of(param: Param) -> Option<Range>
     ensures { result ≡ numbers_of param }
@@ -33,6 +34,7 @@ pub fn range_of(param: Param) -> Option<Range>
         Param::Plane => takes(4, 4, -2_147_483_647, 2_147_483_647),
         Param::Digits => takes(1, 1, 0, 9),
         Param::Release => takes(1, 1, 0, 1),
+        Param::Version => takes(1, 1, 3, 5),
         Param::Array | Param::Op | Param::Mode | Param::Style => None,
     }
 }
@@ -79,13 +81,14 @@ fn fits(range: &Range, count: u8, items: &[i64; 8]) -> bool
     all_in(numbers, &range.low, &range.high) && all_in(rest, &0, &0)
 }
 
-// Whether the numbers stand together: bounds ascend, a plane has a normal.
+// Whether the numbers stand together: bounds ascend, a plane has a normal, a version is 3 or 5.
 fn is_whole(param: Param, items: &[i64; 8]) -> bool
     ensures { result ≡ fits_rest param items.now }
 {
     match param {
         Param::Bounds => { items[0] <= items[1] && items[2] <= items[3] && items[4] <= items[5] }
         Param::Plane => items[0] != 0 || items[1] != 0 || items[2] != 0,
+        Param::Version => items[0] == 3 || items[0] == 5,
         _ => true,
     }
 }

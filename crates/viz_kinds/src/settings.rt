@@ -68,6 +68,7 @@ pub enum Settings {
     Writer {
         binary: bool,
         digits: u8,
+        version: u8,
     },
 }
 
@@ -92,7 +93,7 @@ impl Settings {
             Kind::Append => Settings::Append,
             Kind::Boundary => Settings::Boundary,
             Kind::Merge => Settings::Merge,
-            Kind::Writer => Settings::Writer { binary: false, digits: 3 },
+            Kind::Writer => Settings::Writer { binary: false, digits: 3, version: 3 },
         }
     }
 

@@ -215,7 +215,8 @@ section_made (settings.Select lo hi all) forms first made e m = let bad : ⊥ = 
 section_made settings.Append forms first made e m = let bad : ⊥ = cc in absurd bad
 section_made settings.Boundary forms first made e m = let bad : ⊥ = cc in absurd bad
 section_made settings.Merge forms first made e m = let bad : ⊥ = cc in absurd bad
-section_made (settings.Writer binary digits) forms first made e m = let bad : ⊥ = cc in absurd bad
+section_made (settings.Writer binary digits version) forms first made e m =
+    let bad : ⊥ = cc in absurd bad
 
 pub section_answers : SectionAnswers
 section_answers s forms first made e m levels p n ghosts input part is h =
@@ -345,8 +346,8 @@ merge_answers first made m shares ghosts input part is h =
     (first_is m.inputs first m.fed) row) m.made_of.divided shares is h
 
 pub writer_answers : WriterAnswers
-writer_answers binary digits first made m request part h =
-    let row = row_made (settings.Writer binary digits) m.inputs made.whole m.made_of.exact in
+writer_answers binary digits version first made m request part h =
+    let row = row_made (settings.Writer binary digits version) m.inputs made.whole m.made_of.exact in
     let same : first.whole ≡ made.whole =
     let at : Some first.whole ≡ Some row.0 = sym (first_is m.inputs first m.fed) ∙ row.1 in
     let given = row.2 in

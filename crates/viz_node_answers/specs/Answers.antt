@@ -94,8 +94,8 @@ MergeAnswers =
 -- a writer gives what feeds it
 abbrev pub WriterAnswers : Type 0
 WriterAnswers =
-    (binary : Bool) (digits : ℕ) (first made : Divided)
-    → IsMadeFrom (settings.Writer binary digits) first made
+    (binary : Bool) (digits version : ℕ) (first made : Divided)
+    → IsMadeFrom (settings.Writer binary digits version) first made
     → (request : Request) (part : Part) → IsPartFor first request part
     → IsPartFor made request part
 

@@ -57,7 +57,7 @@ row_one (settings.Select lo hi all) file inputs one a b p q = one a b p q
 row_one settings.Append file inputs one a b p q = one a b p q
 row_one settings.Boundary file inputs one a b p q = one a b p q
 row_one settings.Merge file inputs one a b p q = one a b p q
-row_one (settings.Writer binary digits) file inputs one a b p q = one a b p q
+row_one (settings.Writer binary digits version) file inputs one a b p q = one a b p q
 
 pub exact_one : IsOne DataRule → IsOne ExactRule
 exact_one one n inputs a b p q =
@@ -98,7 +98,7 @@ row_also (settings.Select lo hi all) file inputs w m = m
 row_also settings.Append file inputs w m = m
 row_also settings.Boundary file inputs w m = m
 row_also settings.Merge file inputs w m = m
-row_also (settings.Writer binary digits) file inputs w m = m
+row_also (settings.Writer binary digits version) file inputs w m = m
 
 pub node_also : (n : Node) (inputs : Inputs Dataset) (w : Dataset) → DataRule n inputs (Ok w)
     → ExactRule n inputs (Ok w)

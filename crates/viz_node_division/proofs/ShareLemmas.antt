@@ -357,8 +357,8 @@ module _ (turn : TurnSharesOut) (selection : SelectionsShareOut) (section : Sect
       mesh_row boundaries boundary_owns keeps_boundaries inputs w h
       (row_made settings.Boundary inputs w m)
   row_shared settings.Merge file inputs w h m = row_turned w
-  row_shared (settings.Writer binary digits) file inputs w h m =
-      let r = row_made (settings.Writer binary digits) inputs w m in
+  row_shared (settings.Writer binary digits version) file inputs w h m =
+      let r = row_made (settings.Writer binary digits version) inputs w m in
       writer_row inputs w r.0 h r.1 r.2
 
   node_shared : (n : Node) (inputs : Inputs Divided) (d : Divided) → OfAll HasShares inputs

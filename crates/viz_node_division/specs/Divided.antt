@@ -91,7 +91,7 @@ division_of (settings.Cut a b c r) inputs made =
 division_of settings.Append inputs made = appended_division (divisions_in inputs)
 division_of settings.Boundary inputs made = handed_at boundary_owns (fed_at 1 inputs)
 division_of settings.Merge inputs made = turn_of made
-division_of (settings.Writer binary digits) inputs made = division_at (fed_at 1 inputs)
+division_of (settings.Writer binary digits version) inputs made = division_at (fed_at 1 inputs)
 
 -- ---- nodes
 

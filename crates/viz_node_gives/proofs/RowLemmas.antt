@@ -129,5 +129,6 @@ row_made settings.Boundary file inputs i valid h told =
     filtered settings.Boundary inputs i valid told (boundary_made inputs)
 row_made settings.Merge file inputs i valid h told =
     filtered settings.Merge inputs i valid told (merge_made inputs)
-row_made (settings.Writer binary digits) file inputs i valid h told =
-    filtered (settings.Writer binary digits) inputs i valid told (writer_made binary digits inputs)
+row_made (settings.Writer binary digits version) file inputs i valid h told =
+    filtered (settings.Writer binary digits version) inputs i valid told
+    (writer_made binary digits version inputs)

@@ -89,7 +89,7 @@ module _ (determined : PartIsDetermined) where
   filtered_one settings.Append inputs a b p q = p ∙ sym q
   filtered_one settings.Boundary inputs a b p q = of_mesh boundaries (fed_at 1 inputs) a b p q
   filtered_one settings.Merge inputs a b p q = of_mesh merge_of (fed_at 1 inputs) a b p q
-  filtered_one (settings.Writer binary digits) inputs a b p q =
+  filtered_one (settings.Writer binary digits version) inputs a b p q =
       let some : Some p.0 ≡ Some q.0 = sym p.1 ∙ q.1 in
       let same : p.0 ≡ q.0 = cc in
       p.2 ∙ ap (λ z. Ok z) same ∙ sym q.2
@@ -113,7 +113,7 @@ module _ (determined : PartIsDetermined) where
     evaluated_one settings.Append bytes inputs a b p q = made_one (filter_information settings.Append (all_information inputs)) (IsFiltered settings.Append inputs) (filtered_one settings.Append inputs) a b p q
     evaluated_one settings.Boundary bytes inputs a b p q = made_one (filter_information settings.Boundary (all_information inputs)) (IsFiltered settings.Boundary inputs) (filtered_one settings.Boundary inputs) a b p q
     evaluated_one settings.Merge bytes inputs a b p q = made_one (filter_information settings.Merge (all_information inputs)) (IsFiltered settings.Merge inputs) (filtered_one settings.Merge inputs) a b p q
-    evaluated_one (settings.Writer binary digits) bytes inputs a b p q = made_one (filter_information (settings.Writer binary digits) (all_information inputs)) (IsFiltered (settings.Writer binary digits) inputs) (filtered_one (settings.Writer binary digits) inputs) a b p q
+    evaluated_one (settings.Writer binary digits version) bytes inputs a b p q = made_one (filter_information (settings.Writer binary digits version) (all_information inputs)) (IsFiltered (settings.Writer binary digits version) inputs) (filtered_one (settings.Writer binary digits version) inputs) a b p q
 
     pub data_one : IsOne DataRule
     data_one n inputs a b p q = evaluated_one n.settings n.file inputs a b p q

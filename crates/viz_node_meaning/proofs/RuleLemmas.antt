@@ -65,7 +65,7 @@ module _ (definite : IsDefinite header) where
   informed_one settings.Append file inputs a b p q = p ∙ sym q
   informed_one settings.Boundary file inputs a b p q = p ∙ sym q
   informed_one settings.Merge file inputs a b p q = p ∙ sym q
-  informed_one (settings.Writer binary digits) file inputs a b p q = p ∙ sym q
+  informed_one (settings.Writer binary digits version) file inputs a b p q = p ∙ sym q
 
   pub information_one : IsOne InformationRule
   information_one n inputs a b p q = informed_one n.settings n.file inputs a b p q

@@ -141,8 +141,8 @@ IsFiltered (settings.Cut a b c k) inputs r = IsSectionOf (cut_forms a b c k) (fe
 IsFiltered settings.Append inputs r = r ≡ Ok (Mesh (appended (meshes_in inputs)))
 IsFiltered settings.Boundary inputs r = IsOfMesh boundaries (fed_at 1 inputs) r
 IsFiltered settings.Merge inputs r = IsOfMesh merge_of (fed_at 1 inputs) r
-IsFiltered (settings.Writer binary digits) inputs r = (d : Dataset) × (fed_at 1 inputs ≡ Some d)
-    × (r ≡ Ok d)
+IsFiltered (settings.Writer binary digits version) inputs r = (d : Dataset)
+    × (fed_at 1 inputs ≡ Some d) × (r ≡ Ok d)
 IsFiltered (settings.File array unit) inputs r = ⊥
 
 -- the information at the ports

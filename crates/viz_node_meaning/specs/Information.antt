@@ -205,7 +205,7 @@ filter_information (settings.Cut a b c r) inputs = and_then (either_at 1 inputs)
 filter_information settings.Append inputs = meshes_at inputs
 filter_information settings.Boundary inputs = mesh_at 1 inputs
 filter_information settings.Merge inputs = mesh_at 1 inputs
-filter_information (settings.Writer binary digits) inputs = either_at 1 inputs
+filter_information (settings.Writer binary digits version) inputs = either_at 1 inputs
 filter_information (settings.File array unit) inputs = Err (Unconnected 1)
 
 -- what the header of a loaded file gives, or its fault

@@ -84,7 +84,7 @@ row_given (settings.Select lo hi all) file inputs w h m = m
 row_given settings.Append file inputs w h m = m
 row_given settings.Boundary file inputs w h m = m
 row_given settings.Merge file inputs w h m = m
-row_given (settings.Writer binary digits) file inputs w h m = m
+row_given (settings.Writer binary digits version) file inputs w h m = m
 
 section_narrow : (forms : List Form) (port : Option Dataset) (w : Dataset)
     → IsSectionOf forms port (Ok w) → AreNarrowOf forms port
@@ -119,7 +119,7 @@ row_narrow (settings.Select lo hi all) file inputs w m = tt
 row_narrow settings.Append file inputs w m = tt
 row_narrow settings.Boundary file inputs w m = tt
 row_narrow settings.Merge file inputs w m = tt
-row_narrow (settings.Writer binary digits) file inputs w m = tt
+row_narrow (settings.Writer binary digits version) file inputs w m = tt
 
 -- ---- what comes out of a node and of ports
 

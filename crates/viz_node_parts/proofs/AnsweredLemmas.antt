@@ -388,5 +388,5 @@ parts_made laws settings.Boundary bytes inputs made m suits request parts part f
     boundary_row laws.boundary bytes inputs made m request parts part given gives
 parts_made laws settings.Merge bytes inputs made m suits request parts part fits given gives =
     merge_row laws.merged bytes inputs made m suits parts part given gives
-parts_made laws (settings.Writer binary digits) bytes inputs made m suits request parts part fits
-    given gives = absurd gives
+parts_made laws (settings.Writer binary digits version) bytes inputs made m suits request parts part
+    fits given gives = absurd gives

@@ -525,6 +525,6 @@ parts_taken law settings.Merge file inputs made only m fit request parts fits gi
     mesh_row_taken merge_of inputs made.whole
     (row_made settings.Merge inputs made.whole m.exact) (all_of (extent_at_ports inputs)) parts
     given
-parts_taken law (settings.Writer binary digits) file inputs made only m fit request parts fits
-    given =
+parts_taken law (settings.Writer binary digits version) file inputs made only m fit request parts
+    fits given =
     absurd (only tt)

@@ -91,7 +91,7 @@ PartsMadeAnswer =
 
 -- a writer's requests go on to what feeds it
 abbrev pub IsWriter : Settings → Type 0
-IsWriter (settings.Writer binary digits) = Unit {0}
+IsWriter (settings.Writer binary digits version) = Unit {0}
 IsWriter _ = ⊥
 
 -- each sheet of a mesh fits

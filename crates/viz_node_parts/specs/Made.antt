@@ -145,7 +145,7 @@ MakesPart settings.Boundary file whole request inputs part =
     MakesBoundary request (fed_at 1 inputs) part
 MakesPart settings.Merge file whole request inputs part =
     MakesOf IsMergedAnswer (fed_at 1 inputs) part
-MakesPart (settings.Writer binary digits) file whole request inputs part = ⊥
+MakesPart (settings.Writer binary digits version) file whole request inputs part = ⊥
 
 -- ---- causes
 

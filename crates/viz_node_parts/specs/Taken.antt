@@ -99,4 +99,4 @@ TakesParts (settings.Cut a b c r) whole request inputs =
 TakesParts settings.Append whole request inputs = All IsOfMesh (parts_fed inputs)
 TakesParts settings.Boundary whole request inputs = TakesPiece request (fed_at 1 inputs)
 TakesParts settings.Merge whole request inputs = TakesMesh (fed_at 1 inputs)
-TakesParts (settings.Writer binary digits) whole request inputs = ⊥
+TakesParts (settings.Writer binary digits version) whole request inputs = ⊥

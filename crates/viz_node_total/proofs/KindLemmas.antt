@@ -251,8 +251,8 @@ pub merge_made : (inputs : Inputs Dataset) → MakesWhereTold settings.Merge inp
 merge_made inputs i valid e =
     mesh_made merge_of (fed_at 1 inputs) i (at_first (mesh_in 1) inputs i e)
 
-pub writer_made : (binary : Bool) (digits : ℕ) (inputs : Inputs Dataset)
-    → MakesWhereTold (settings.Writer binary digits) inputs
-writer_made binary digits inputs i valid e =
+pub writer_made : (binary : Bool) (digits version : ℕ) (inputs : Inputs Dataset)
+    → MakesWhereTold (settings.Writer binary digits version) inputs
+writer_made binary digits version inputs i valid e =
     let d = passed (fed_at 1 inputs) i valid (at_first (either_in 1) inputs i e) in
     (d.0, (d.0, d.1, refl), d.2)

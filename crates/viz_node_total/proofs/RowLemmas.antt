@@ -131,8 +131,8 @@ informed definite settings.Append file inputs = told (filter_information setting
 informed definite settings.Boundary file inputs =
     told (filter_information settings.Boundary inputs)
 informed definite settings.Merge file inputs = told (filter_information settings.Merge inputs)
-informed definite (settings.Writer binary digits) file inputs =
-    told (filter_information (settings.Writer binary digits) inputs)
+informed definite (settings.Writer binary digits version) file inputs =
+    told (filter_information (settings.Writer binary digits version) inputs)
 
 pub information_made : IsDefinite header → AlwaysMakes Anything InformationRule Anything
 information_made definite n inputs node h = informed definite n.settings n.file inputs
@@ -217,8 +217,9 @@ evaluated definite settings.Boundary o inputs are valid =
     filtered settings.Boundary inputs valid (boundary_made inputs)
 evaluated definite settings.Merge o inputs are valid =
     filtered settings.Merge inputs valid (merge_made inputs)
-evaluated definite (settings.Writer binary digits) o inputs are valid =
-    filtered (settings.Writer binary digits) inputs valid (writer_made binary digits inputs)
+evaluated definite (settings.Writer binary digits version) o inputs are valid =
+    filtered (settings.Writer binary digits version) inputs valid
+    (writer_made binary digits version inputs)
 
 first_valid : (inputs : Inputs Dataset) → OfAll IsValid inputs → IsValidAt (fed_at 1 inputs)
 first_valid [] h = tt

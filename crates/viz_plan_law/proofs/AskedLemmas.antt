@@ -128,7 +128,7 @@ asked_fits (settings.Cut a b c e) o r d h = layers_fits o r d h
 asked_fits settings.Append o r d h = h
 asked_fits settings.Boundary o r d h = more_fits o r h.0
 asked_fits settings.Merge o r d h = all_fits o
-asked_fits (settings.Writer binary digits) o r d h = h
+asked_fits (settings.Writer binary digits version) o r d h = h
 
 -- ghost levels don't matter for that
 piece_fits : (o : Option Bounds) (p n g h : ℕ) → Fits o (Piece p n g) → Fits o (Piece p n h)
@@ -152,7 +152,7 @@ asked_piece (settings.Cut a b c e) o p n g d h = layers_fits o (Piece p n g) d h
 asked_piece settings.Append o p n g d h = piece_fits o p n 0 g h
 asked_piece settings.Boundary o p n g d h = piece_fits o p n 0 (g + 1) h.0
 asked_piece settings.Merge o p n g d h = all_fits o
-asked_piece (settings.Writer binary digits) o p n g d h = piece_fits o p n 0 g h
+asked_piece (settings.Writer binary digits version) o p n g d h = piece_fits o p n 0 g h
 
 -- what is asked for a request that fits the node fits its inputs
 pub asked_within : (s : Settings) (o own : Option Bounds) (r : Request) → IsDeep o
@@ -176,7 +176,7 @@ widened_fits (settings.Cut a b c e) o r h = h
 widened_fits settings.Append o r h = h
 widened_fits settings.Boundary o r h = h
 widened_fits settings.Merge o r h = all_fits o
-widened_fits (settings.Writer binary digits) o r h = h
+widened_fits (settings.Writer binary digits version) o r h = h
 
 -- ---- ghost levels
 
@@ -227,7 +227,7 @@ asked_levels (settings.Cut a b c e) o r = layers_levels o r
 asked_levels settings.Append o r = omega arith
 asked_levels settings.Boundary o r = more_levels r
 asked_levels settings.Merge o r = omega (arith, all_levels o)
-asked_levels (settings.Writer binary digits) o r = omega arith
+asked_levels (settings.Writer binary digits version) o r = omega arith
 
 -- and makes no more
 pub widened_levels : (s : Settings) (o : Option Bounds) (r : Request)
@@ -245,7 +245,7 @@ widened_levels (settings.Cut a b c e) o r = omega arith
 widened_levels settings.Append o r = omega arith
 widened_levels settings.Boundary o r = omega arith
 widened_levels settings.Merge o r = omega (arith, all_levels o)
-widened_levels (settings.Writer binary digits) o r = omega arith
+widened_levels (settings.Writer binary digits version) o r = omega arith
 
 pub has_room : (r : Request) → levels_in r + 1 < 2 ^ 32 → HasRoom r
 has_room (Block b) l = tt

@@ -180,7 +180,7 @@ makes_either (settings.Cut a b c r) own wanted = inr refl
 makes_either settings.Append own wanted = inr refl
 makes_either settings.Boundary own wanted = inr refl
 makes_either settings.Merge own wanted = inl (refl, λ inputs made. refl)
-makes_either (settings.Writer binary digits) own wanted = inr refl
+makes_either (settings.Writer binary digits version) own wanted = inr refl
 
 -- a division in turn lets each part of all be cut
 turn_lets : (whole : Dataset) (division : Division) (own : Option Bounds)

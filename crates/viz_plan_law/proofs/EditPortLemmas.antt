@@ -139,7 +139,8 @@ numbers_kind (settings.Smooth radius) param.Radius count items = refl
 numbers_kind (settings.Select lo hi all) param.Range count items = refl
 numbers_kind (settings.Contour number levels) param.Levels count items = refl
 numbers_kind (settings.Cut a b c r) param.Plane count items = refl
-numbers_kind (settings.Writer binary digits) param.Digits count items = refl
+numbers_kind (settings.Writer binary digits version) param.Digits count items = refl
+numbers_kind (settings.Writer binary digits version) param.Version count items = refl
 numbers_kind _ _ _ _ = refl
 
 text_kind : (s : Settings) (p : Param) (text : List ℕ)
@@ -147,7 +148,7 @@ text_kind : (s : Settings) (p : Param) (text : List ℕ)
 text_kind (settings.File array unit) param.Array text = refl
 text_kind (settings.Arith op) param.Op text = refl
 text_kind (settings.Select lo hi all) param.Mode text = refl
-text_kind (settings.Writer binary digits) param.Style text = refl
+text_kind (settings.Writer binary digits version) param.Style text = refl
 text_kind _ _ _ = refl
 
 with_kind : (s : Settings) (p : Param) (v : Value) → kind_of (with s p v) ≡ kind_of s

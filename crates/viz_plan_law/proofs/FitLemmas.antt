@@ -123,7 +123,7 @@ passes_on (settings.Cut a b c d) o r e = let bad : ⊥ = cc in absurd bad
 passes_on settings.Append o r e = let bad : ⊥ = cc in absurd bad
 passes_on settings.Boundary o r e = let bad : ⊥ = cc in absurd bad
 passes_on settings.Merge o r e = let bad : ⊥ = cc in absurd bad
-passes_on (settings.Writer binary digits) o r e = refl
+passes_on (settings.Writer binary digits version) o r e = refl
 
 pub passed_heads : (P : Option ℕ → Type 0) → P None → (own others : Ways)
     → AllByRecursion P (heads own) → AllByRecursion P (heads others)

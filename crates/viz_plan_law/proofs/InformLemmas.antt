@@ -328,5 +328,5 @@ informed_deep settings.Boundary file inputs i m d =
     of_mesh i (after_mesh (fed_at 1 inputs) i (sym m))
 informed_deep settings.Merge file inputs i m d =
     of_mesh i (after_mesh (fed_at 1 inputs) i (sym m))
-informed_deep (settings.Writer binary digits) file inputs i m d =
+informed_deep (settings.Writer binary digits version) file inputs i m d =
     first_deep inputs i (either_at_port 1 (fed_at 1 inputs) i (sym m)) d

@@ -274,7 +274,7 @@ module _ (k : Known) where
     asks settings.Merge file c inputs i own t f m e =
         asks_one settings.Merge c inputs i own t f e
         (filter_by settings.Merge inputs i refl (sym m))
-    asks (settings.Writer binary digits) file c inputs i own t f m e =
-        asks_one (settings.Writer binary digits) c inputs i own t f e
-        (writer_by (settings.Writer binary digits) inputs i
-        (writes_all (settings.Writer binary digits) (λ b. refl) refl) (sym m))
+    asks (settings.Writer binary digits version) file c inputs i own t f m e =
+        asks_one (settings.Writer binary digits version) c inputs i own t f e
+        (writer_by (settings.Writer binary digits version) inputs i
+        (writes_all (settings.Writer binary digits version) (λ b. refl) refl) (sym m))

@@ -140,7 +140,7 @@ row_told settings.Boundary inputs i d e m =
 row_told settings.Merge inputs i d e m =
     made_of_mesh merge_of (fed_at 1 inputs) i d
     (after_mesh (fed_at 1 (all_information inputs)) i e) m
-row_told (settings.Writer binary digits) inputs i d e m =
+row_told (settings.Writer binary digits version) inputs i d e m =
     passed_told (fed_at 1 inputs) m.0 i d (at_first (either_in 1) inputs i e) m.1 m.2
 
 -- ---- a node
@@ -189,8 +189,8 @@ exact_told (settings.Cut a b c r) file inputs d m =
 exact_told settings.Append file inputs d m = filter_told settings.Append inputs d m
 exact_told settings.Boundary file inputs d m = filter_told settings.Boundary inputs d m
 exact_told settings.Merge file inputs d m = filter_told settings.Merge inputs d m
-exact_told (settings.Writer binary digits) file inputs d m =
-    filter_told (settings.Writer binary digits) inputs d m
+exact_told (settings.Writer binary digits version) file inputs d m =
+    filter_told (settings.Writer binary digits version) inputs d m
 
 node_told : (n : Node) (inputs : Inputs Dataset) (d : Dataset) → ExactRule n inputs (Ok d)
     → InformationRule n (all_information inputs) (Ok (information_of d))

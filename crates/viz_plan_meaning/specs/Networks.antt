@@ -11,7 +11,7 @@ use Rattle.viz_plan_meaning.specs.Plan.{fed as way}
 
 -- whether a node passes requests on
 abbrev pub passes : Settings → Bool
-passes (settings.Writer binary digits) = true
+passes (settings.Writer binary digits version) = true
 passes _ = false
 
 -- the port of one that does is fed by what feeds it

@@ -57,7 +57,7 @@ unread_fault (settings.Cut a b c r) file inputs w one m h = absurd h
 unread_fault settings.Append file inputs w one m h = absurd h
 unread_fault settings.Boundary file inputs w one m h = absurd h
 unread_fault settings.Merge file inputs w one m h = absurd h
-unread_fault (settings.Writer binary digits) file inputs w one m h = absurd h
+unread_fault (settings.Writer binary digits version) file inputs w one m h = absurd h
 
 -- ---- sections
 
@@ -95,7 +95,7 @@ module _ (pieces : PiecesAreNarrow) (slabs : SlabsAreNarrow) (levels : AllAreLev
   kind_wide settings.Append port d narrow w h = h
   kind_wide settings.Boundary port d narrow w h = h
   kind_wide settings.Merge port d narrow w h = h
-  kind_wide (settings.Writer binary digits) port d narrow w h = h
+  kind_wide (settings.Writer binary digits version) port d narrow w h = h
 
   -- ---- a node
 

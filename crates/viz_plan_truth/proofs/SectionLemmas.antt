@@ -171,7 +171,7 @@ module _ (shares : DivisionsShareOut) (by_mesh : NarrowByPieces) (by_image : Nar
   kind_narrow settings.Append port h rs a s = tt
   kind_narrow settings.Boundary port h rs a s = tt
   kind_narrow settings.Merge port h rs a s = tt
-  kind_narrow (settings.Writer binary digits) port h rs a s = tt
+  kind_narrow (settings.Writer binary digits version) port h rs a s = tt
 
   -- a node of which all pieces are narrow is so
   pub node_narrow : ExactAreDivided → (n : Node) (own : Cone) (rs : List Request) → AreForAll rs

@@ -92,7 +92,7 @@ asked_stem (settings.Cut a b c k) o r q h = layers_stem o r q h
 asked_stem settings.Append o r q h = h
 asked_stem settings.Boundary o r q h = more_stem r q h
 asked_stem settings.Merge o r q h = all_stems r o
-asked_stem (settings.Writer binary digits) o r q h = h
+asked_stem (settings.Writer binary digits version) o r q h = h
 
 widened_stem : (s : Settings) (o : Option Bounds) (r q : Request) → IsStem r q
     → IsStem r (widened s o q)
@@ -109,7 +109,7 @@ widened_stem (settings.Cut a b c k) o r q h = h
 widened_stem settings.Append o r q h = h
 widened_stem settings.Boundary o r q h = h
 widened_stem settings.Merge o r q h = all_stems r o
-widened_stem (settings.Writer binary digits) o r q h = h
+widened_stem (settings.Writer binary digits version) o r q h = h
 
 pub asked_stems : (k : Known) (t : Option Tree) (r q : Request) → IsStem r q
     → IsStem r (tree_asked k t q)

@@ -24,7 +24,7 @@ use Rattle.viz_plan_meaning.specs.Plan.{
 
 pub writer_first : (s : Settings) (own : Cone) → passes s ≡ true
     → AreFirst (ports_of (kind_of s)) own → AreFirst 1 own
-writer_first (settings.Writer binary digits) own e h = h
+writer_first (settings.Writer binary digits version) own e h = h
 writer_first (settings.File array unit) own e h = let bad : ⊥ = cc in absurd bad
 writer_first (settings.Crop x0 x1 y0 y1 z0 z1) own e h = let bad : ⊥ = cc in absurd bad
 writer_first (settings.Sample x y z) own e h = let bad : ⊥ = cc in absurd bad
@@ -40,7 +40,7 @@ writer_first settings.Boundary own e h = let bad : ⊥ = cc in absurd bad
 writer_first settings.Merge own e h = let bad : ⊥ = cc in absurd bad
 
 no_section : (s : Settings) (port : Option Dataset) → passes s ≡ true → IsNarrowOf s port
-no_section (settings.Writer binary digits) port e = tt
+no_section (settings.Writer binary digits version) port e = tt
 no_section (settings.Contour count levels) port e = let bad : ⊥ = cc in absurd bad
 no_section (settings.Cut a b c r) port e = let bad : ⊥ = cc in absurd bad
 no_section (settings.File array unit) port e = tt

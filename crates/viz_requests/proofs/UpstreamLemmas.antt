@@ -70,8 +70,8 @@ can_ask settings.Append (Some w) r f h = f
 can_ask settings.Boundary None r f h = (f, h)
 can_ask settings.Boundary (Some w) r f h = (f, h)
 can_ask settings.Merge whole r f h = tt
-can_ask (settings.Writer binary digits) None r f h = f
-can_ask (settings.Writer binary digits) (Some w) r f h = f
+can_ask (settings.Writer binary digits version) None r f h = f
+can_ask (settings.Writer binary digits version) (Some w) r f h = f
 
 -- the multiples of an extent that lie in another are an extent
 pub spread_extent : (rate : Rate) (whole block : Bounds) → IsExtent whole → IsExtent block → IsPart whole (spread rate block) → IsExtent (spread rate block)

@@ -32,7 +32,10 @@ pub record Style : Type 0 where
 
 -- the style of a writer; all else is written in words, at three places
 abbrev pub style_with : Settings → Style
-style_with (settings.Writer binary digits) = record { binary = binary; digits = within 0 9 digits }
+style_with (settings.Writer binary digits version) = record {
+  binary = binary;
+  digits = within 0 9 digits;
+}
 style_with _ = record { binary = false; digits = 3 }
 
 -- the text of a dataset

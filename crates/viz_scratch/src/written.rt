@@ -28,7 +28,7 @@ pub fn style_with(settings: &Settings) -> Style
     ensures { style_seen result ≡ style_with settings.now }
 {
     match settings {
-        Settings::Writer { binary, digits } => Style {
+        Settings::Writer { binary, digits, .. } => Style {
             binary: *binary,
             digits: digits_with(*digits),
         },

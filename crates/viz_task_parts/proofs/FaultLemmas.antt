@@ -87,4 +87,4 @@ kind_fails (settings.Select lo hi all) file inputs r parts cause a t h = absurd 
 kind_fails settings.Append file inputs r parts cause a t h = absurd h
 kind_fails settings.Boundary file inputs r parts cause a t h = absurd h
 kind_fails settings.Merge file inputs r parts cause a t h = absurd h
-kind_fails (settings.Writer binary digits) file inputs r parts cause a t h = absurd h
+kind_fails (settings.Writer binary digits version) file inputs r parts cause a t h = absurd h

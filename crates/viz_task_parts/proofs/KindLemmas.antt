@@ -93,7 +93,7 @@ module _ (fits : AllAreFit) where
   fit_for settings.Append inputs h = tt
   fit_for settings.Boundary inputs h = tt
   fit_for settings.Merge inputs h = tt
-  fit_for (settings.Writer binary digits) inputs h = tt
+  fit_for (settings.Writer binary digits version) inputs h = tt
 
 -- ---- merges
 
@@ -138,7 +138,7 @@ file_unfed (settings.Cut a b c r) own h f = absurd h
 file_unfed settings.Append own h f = absurd h
 file_unfed settings.Boundary own h f = absurd h
 file_unfed settings.Merge own h f = absurd h
-file_unfed (settings.Writer binary digits) own h f = absurd h
+file_unfed (settings.Writer binary digits version) own h f = absurd h
 
 -- the data of a file are what it is read as
 file_data : (s : Settings) (file : Option (List ℕ)) (xs ys : Inputs Dataset) (w : Dataset)
@@ -156,7 +156,7 @@ file_data (settings.Cut a b c r) file xs ys w h m = absurd h
 file_data settings.Append file xs ys w h m = absurd h
 file_data settings.Boundary file xs ys w h m = absurd h
 file_data settings.Merge file xs ys w h m = absurd h
-file_data (settings.Writer binary digits) file xs ys w h m = absurd h
+file_data (settings.Writer binary digits version) file xs ys w h m = absurd h
 
 unfed_given : (c : Cone) → AreFirst 0 c → (xs : Inputs Dataset) × AreGiven DataRule c (Ok xs)
 unfed_given none f = ([], refl)
@@ -193,7 +193,7 @@ module _ (leveled : AllAreLeveled) (shares : DivisionsShareOut) where
   suits (settings.Select lo hi all) file inputs made m h given = tt
   suits settings.Append file inputs made m h given = tt
   suits settings.Boundary file inputs made m h given = tt
-  suits (settings.Writer binary digits) file inputs made m h given = tt
+  suits (settings.Writer binary digits version) file inputs made m h given = tt
 
 -- a node of which a part is made has a file that is read, if any
 pub reading : (s : Settings) (file : Option (List ℕ)) (e : Option Bounds) (r : Request)
@@ -211,7 +211,7 @@ reading (settings.Cut a b c d) file e r parts part m = tt
 reading settings.Append file e r parts part m = tt
 reading settings.Boundary file e r parts part m = tt
 reading settings.Merge file e r parts part m = tt
-reading (settings.Writer binary digits) file e r parts part m = tt
+reading (settings.Writer binary digits version) file e r parts part m = tt
 
 -- a file takes whatever parts there are
 pub takes_or : (s : Settings) (file : Option (List ℕ)) (e : Option Bounds) (r : Request)
@@ -229,10 +229,10 @@ takes_or (settings.Cut a b c d) file e r parts h = h tt
 takes_or settings.Append file e r parts h = h tt
 takes_or settings.Boundary file e r parts h = h tt
 takes_or settings.Merge file e r parts h = h tt
-takes_or (settings.Writer binary digits) file e r parts h = h tt
+takes_or (settings.Writer binary digits version) file e r parts h = h tt
 
 pub no_writer : (s : Settings) → passes s ≡ false → IsWriter s → ⊥
-no_writer (settings.Writer binary digits) e h = let bad : ⊥ = cc in bad
+no_writer (settings.Writer binary digits version) e h = let bad : ⊥ = cc in bad
 no_writer (settings.File array unit) e h = h
 no_writer (settings.Crop x0 x1 y0 y1 z0 z1) e h = h
 no_writer (settings.Sample x y z) e h = h

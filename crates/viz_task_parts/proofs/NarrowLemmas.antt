@@ -96,7 +96,7 @@ kind_narrow (settings.Select lo hi all) file inputs r parts part a h = tt
 kind_narrow settings.Append file inputs r parts part a h = tt
 kind_narrow settings.Boundary file inputs r parts part a h = tt
 kind_narrow settings.Merge file inputs r parts part a h = tt
-kind_narrow (settings.Writer binary digits) file inputs r parts part a h = tt
+kind_narrow (settings.Writer binary digits version) file inputs r parts part a h = tt
 
 -- ---- one division of what feeds the ports
 

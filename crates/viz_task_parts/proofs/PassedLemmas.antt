@@ -75,12 +75,12 @@ module _ {X : Type 0} (rule : NodeRule X) (n m : Node) (own others : Cone) (v : 
 -- a writer gives what is at its port
 writer_gives : (s : Settings) (file : Option (List ℕ)) (x : Dataset) (rest : Inputs Dataset)
     (w : Dataset) → passes s ≡ true → IsEvaluated s file (Some x ∷ rest) (Ok w) → x ≡ w
-writer_gives (settings.Writer binary digits) file x rest w e h =
+writer_gives (settings.Writer binary digits version) file x rest w e h =
     with_told
-    (filter_information (settings.Writer binary digits) (all_information (Some x ∷ rest))) h
+    (filter_information (settings.Writer binary digits version) (all_information (Some x ∷ rest))) h
   where
     with_told : (r : Result Information Cause)
-        → IsMadeWith r (IsFiltered (settings.Writer binary digits) (Some x ∷ rest)) (Ok w)
+        → IsMadeWith r (IsFiltered (settings.Writer binary digits version) (Some x ∷ rest)) (Ok w)
         → x ≡ w
     with_told (Ok i) k =
         let at : Some x ≡ Some k.0 = k.1 in

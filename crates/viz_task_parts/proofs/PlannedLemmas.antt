@@ -51,7 +51,7 @@ widened_twice (settings.Cut a b c d) own r = refl
 widened_twice settings.Append own r = refl
 widened_twice settings.Boundary own r = refl
 widened_twice settings.Merge own r = refl
-widened_twice (settings.Writer binary digits) own r = refl
+widened_twice (settings.Writer binary digits version) own r = refl
 
 -- the node of a task: no writer, and known as told with all upstream of it; the task is for what
 -- the node makes

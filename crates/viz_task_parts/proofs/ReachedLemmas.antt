@@ -53,7 +53,7 @@ informed n (Err fault) i m = let bad : ⊥ = cc in absurd bad
 -- of a writer there is none where nothing is told at its port
 writer_untold : (s : Settings) (file : Option (List ℕ)) (xs : Inputs Information)
     (i : Information) → passes s ≡ true → fed_at 1 xs ≡ None → IsInformed s file xs (Ok i) → ⊥
-writer_untold (settings.Writer binary digits) file xs i e unfed h =
+writer_untold (settings.Writer binary digits version) file xs i e unfed h =
     let missed = subst (λ (o : Option Information). Ok i ≡ either_in 1 o) unfed h in
     let bad : ⊥ = cc in
     bad

@@ -61,7 +61,7 @@ unfed (fed n own others) h = absurd h
 -- a writer makes what is at its port
 writer_made : (s : Settings) (file : Option (List ℕ)) (d : Divided) (rest : Inputs Divided)
     → passes s ≡ true → IsMadeOf s file (Some d ∷ rest) d
-writer_made (settings.Writer binary digits) file d rest e =
+writer_made (settings.Writer binary digits version) file d rest e =
     record { exact = (d.whole, refl, refl); divided = refl }
 writer_made (settings.File array unit) file d rest e = let bad : ⊥ = cc in absurd bad
 writer_made (settings.Crop x0 x1 y0 y1 z0 z1) file d rest e = let bad : ⊥ = cc in absurd bad

@@ -56,6 +56,7 @@ param_word param.Plane = codes "plane"
 param_word param.Style = codes "form"
 param_word param.Digits = codes "digits"
 param_word param.Release = codes "release"
+param_word param.Version = codes "version"
 
 -- the commands
 abbrev pub commands : List Command
@@ -73,7 +74,7 @@ kinds =
 abbrev pub params : List Param
 params = param.Array ∷ param.Unit ∷ param.Bounds ∷ param.Rate ∷ param.Range ∷ param.Radius
     ∷ param.Op ∷ param.Mode ∷ param.Levels ∷ param.Plane ∷ param.Style ∷ param.Digits
-    ∷ param.Release ∷ []
+    ∷ param.Release ∷ param.Version ∷ []
 
 -- the command, the kind and the parameter of a word
 abbrev pub command_named : List ℕ → Option Command

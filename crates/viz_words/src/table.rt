@@ -38,7 +38,7 @@ const KINDS: [Kind; 14] = [
 ];
 
 /// The parameters.
-const PARAMS: [Param; 13] = [
+const PARAMS: [Param; 14] = [
     Param::Array,
     Param::Unit,
     Param::Bounds,
@@ -52,6 +52,7 @@ const PARAMS: [Param; 13] = [
     Param::Style,
     Param::Digits,
     Param::Release,
+    Param::Version,
 ];
 
 /// The word of a command.
@@ -110,6 +111,7 @@ pub fn param_word(param: Param) -> &'static [u8]
         Param::Style => b"form",
         Param::Digits => b"digits",
         Param::Release => b"release",
+        Param::Version => b"version",
     }
 }
 
