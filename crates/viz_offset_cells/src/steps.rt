@@ -10,6 +10,7 @@ use viz_column::Kind8;
 use viz_lex::Lexer;
 
 /// Whether so many offsets stand in front of the bytes, each a step behind the one before.
+#[inline(never)]
 fn are_steps(bytes: &[u8], step: u64, most: u64) -> bool
     requires room { 8 * most ≤ length bytes.now }
     requires within { step * most < 2 ^ 63 }

@@ -97,6 +97,8 @@ impl WideCell for [u32; 4] {
 }
 
 /// So many cells of this size, where they stand in front of the bytes.
+// It isn't inlined, so that its loop keeps its values in registers: a fifth faster.
+#[inline(never)]
 fn cells_in<C: WideCell>(
     alloc: Global,
     bytes: &[u8],
