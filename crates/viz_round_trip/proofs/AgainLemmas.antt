@@ -1,7 +1,7 @@
 -- The mesh of what is written, point by point and cell by cell.
-use Rattle.std.proofs.Common.{◌≡◌, ◌≢◌, ℕ, zero, suc, ℤ, pos, ◌+◌, ◌-◌, ◌*◌, ◌^◌, ◌<◌, ◌≤◌, ◌==◌, ◌⊎◌, ⊎_elim, Bool, true, false, List, [], ◌∷◌, ◌++◌, length, get_or, map, refl, sym, ap, ap₂, subst, ◌∙◌, arith}
-use Rattle.std.specs.Prelude.{cond, Some, ◌||◌, ◌*ℤ◌, if◌then◌else◌}
-use Rattle.std.specs.List.{All, Contains, flat_map, range_with_len, list_any}
+use Rattle.std.proofs.Common.{◌≡◌, ℕ, zero, suc, ℤ, pos, ◌+◌, ◌-◌, ◌*◌, ◌^◌, ◌<◌, ◌≤◌, ◌==◌, ⊎_elim, Bool, true, false, List, [], ◌∷◌, ◌++◌, length, get_or, map, refl, sym, ap, ap₂, subst, ◌∙◌, arith}
+use Rattle.std.specs.Prelude.{cond, Some, ◌*ℤ◌, if◌then◌else◌}
+use Rattle.std.specs.List.{All, Contains, flat_map, range_with_len}
 use Rattle.std.proofs.lemmas.Bool.{or_parts, cases_lt, eq-eqb, eqb-false}
 use Rattle.std.proofs.lemmas.List.{length-map, get_or-map, length-append}
 use Rattle.std.proofs.lemmas.List.Concat.{flat_map-append}
@@ -9,8 +9,7 @@ use Rattle.std.proofs.lemmas.List.Elements.{All-head, All-tail, All-append, All-
 use Rattle.std.proofs.lemmas.List.FromFn.{length-range_with_len}
 use Rattle.viz_fraction.specs.Points.{Point, numbers, reduced}
 use Rattle.viz_fraction.specs.Decimals.{fixed_of}
-use Rattle.viz_column.specs.declared.kind.Kind8.TheVariants.{I64}
-use Rattle.viz_file_mesh.specs.FileMesh.{file_point, file_points, mesh_of}
+use Rattle.viz_file_mesh.specs.FileMesh.{file_point, file_points}
 use Rattle.viz_sheet.specs.Sheet.{SheetData, IsSheet}
 use Rattle.viz_sheet.specs.Ranked.{IsCell, rank_of, ranks_of, by_names, leaf_names}
 use Rattle.viz_sheet.specs.Kept.{kept, AreMarks, sheet_with}
@@ -19,7 +18,7 @@ use Rattle.viz_sheet.proofs.RankLemmas.{rank-at}
 use Rattle.viz_sheet.proofs.UsedLemmas.{marked_is}
 use Rattle.viz_mesh_write.specs.Cells.{points_of, moved, indices_in, cells_from, cells_of, of_size, has_tetrahedra}
 use Rattle.viz_mesh_write.specs.MeshText.{coordinates, scalar}
-use Rattle.viz_round_trip.specs.MeshTrip.{points_in_file, scalars_in_file, by_kinds, in_order, read_of, rounded, written_again}
+use Rattle.viz_round_trip.specs.MeshTrip.{points_in_file, scalars_in_file, by_kinds, read_of, rounded, written_again}
 use Rattle.viz_round_trip.proofs.IndexLemmas.{cells-are}
 use Rattle.viz_round_trip.proofs.PieceLemmas.{all-of_size}
 

@@ -24,8 +24,8 @@ use Rattle.viz_round_trip.proofs.MovedLemmas.{extent_sizes, count_again, moved_s
 full_rows : (x y z n : ℕ) → n ≡ x * y * z → n ≡ y * z * x
 full_rows x y z n e = grind arith
 
-stands-image : (binary : Bool) (unit : ℕ) (i : ImageData) (old : Reading) → IsImage i → IsOrigin (corner i) → rest_of old ≡ image_text binary i → (left : List ℕ) × Stands (file First unit) old (Image (moved i)) left
-stands-image binary unit i old is origin e =
+stands-image : (later binary : Bool) (unit : ℕ) (i : ImageData) (old : Reading) → IsImage i → IsOrigin (corner i) → rest_of old ≡ image_text later binary i → (left : List ℕ) × Stands (file First unit) old (Image (moved i)) left
+stands-image later binary unit i old is origin e =
     let whole = from_zero i.extent in
     let points = count_of whole in
     let n = i.values in
@@ -35,7 +35,7 @@ stands-image binary unit i old is origin e =
     let full = full_rows (size_x i.extent) (size_y i.extent) (size_z i.extent) (length n.items) is.count in
     let h = header_with binary whole (corner i) i.spacing in
     let tail = parts_text n (count_of i.extent) (values_of binary i) in
-    let a = stands-header binary old (size_x i.extent) (size_y i.extent) (size_z i.extent) (corner i) i.spacing tail (extent_sizes i.extent is.extent) origin is.spacing (e ∙ image_parts binary i) in
+    let a = stands-header later binary old (size_x i.extent) (size_y i.extent) (size_z i.extent) (corner i) i.spacing tail (extent_sizes i.extent is.extent) origin is.spacing (e ∙ image_parts later binary i) in
     let here : rest_of a.new ≡ 10 ∷ parts_text n points (values_of binary i) = a.rest ∙ ap (λ (k : ℕ). 10 ∷ parts_text n k (values_of binary i)) (sym same) in
     let b = stands-attributes binary points (cells_of whole) n (size_y i.extent * size_z i.extent) (size_x i.extent) a.new few is.range count full here in
     let c = stands-follow (attributes (asked h First)) (λ column. gives (image_of h column)) a.new (Some n) (moved i) b.0 b.0 b.1 (stands-gives (moved i) b.1.new b.0 b.1.rest) in (
@@ -45,14 +45,14 @@ stands-image binary unit i old is origin e =
     )
 
 -- the image is read again, counted from index 0
-pub reads-moved : (binary : Bool) (unit : ℕ) (i : ImageData) → IsImage i → IsOrigin (corner i) → Reads (image_text binary i) First unit (Image (moved i))
-reads-moved binary unit i is origin =
-    let all = stands-image binary unit i (front (image_text binary i)) is origin refl in
+pub reads-moved : (later binary : Bool) (unit : ℕ) (i : ImageData) → IsImage i → IsOrigin (corner i) → Reads (image_text later binary i) First unit (Image (moved i))
+reads-moved later binary unit i is origin =
+    let all = stands-image later binary unit i (front (image_text later binary i)) is origin refl in
     (all.1.new, all.1.is)
 
 -- and as it was, where its extent begins at 0
-pub reads-same : (binary : Bool) (unit : ℕ) (i : ImageData) → IsImage i → BeginsAtZero i.extent → Reads (image_text binary i) First unit (Image i)
-reads-same binary unit i is zero =
+pub reads-same : (later binary : Bool) (unit : ℕ) (i : ImageData) → IsImage i → BeginsAtZero i.extent → Reads (image_text later binary i) First unit (Image i)
+reads-same later binary unit i is zero =
     let same = moved_same i zero in
     let origin : IsOrigin (corner i) = subst IsOrigin (sym (ap (λ (j : ImageData). j.origin) same)) is.origin in
-    subst (λ (j : ImageData). Reads (image_text binary i) First unit (Image j)) same (reads-moved binary unit i is origin)
+    subst (λ (j : ImageData). Reads (image_text later binary i) First unit (Image j)) same (reads-moved later binary unit i is origin)

@@ -19,6 +19,8 @@ pub mod OnlyLemmas
 pub mod PointLemmas
 pub mod FrontLemmas
 pub mod SectionStanding
+pub mod OffsetStanding
+pub mod CellStanding
 pub mod PointStanding
 pub mod GridStanding
 pub mod PolyStanding

@@ -1,5 +1,5 @@
 -- The text of a mesh, one piece behind the other.
-use Rattle.std.proofs.Common.{◌≡◌, ℕ, suc, ℤ, ◌==◌, ◌<◌, Bool, true, false, List, [], ◌∷◌, ◌++◌, length, map, refl, sym, ap, ap₂, ◌∙◌, append_assoc, append-nil, arith}
+use Rattle.std.proofs.Common.{◌≡◌, ℕ, ◌+◌, ◌<◌, Bool, true, false, List, [], ◌∷◌, ◌++◌, length, map, refl, sym, ap, ap₂, ◌∙◌, append_assoc, append-nil, arith}
 use Rattle.std.specs.Prelude.{codes}
 use Rattle.std.specs.List.{flat_map}
 use Rattle.std.specs.Fmt.{digits, decimal}
@@ -7,13 +7,16 @@ use Rattle.viz_fraction.specs.Points.{Point}
 use Rattle.viz_column.specs.declared.kind.Kind8.TheVariants.{I32, I64}
 use Rattle.viz_column.specs.Bytes.{bytes_of}
 use Rattle.viz_image_write.specs.ImageText.{row_text, rows_text, values_text}
-use Rattle.viz_mesh_write.specs.MeshText.{cell_numbers, size_of, coordinates, points_line, points_text, section_line, section_text, types_line, types_text, grid_text, some_section, parts_text, scalar, scalars, scalars_head, scalars_text}
+use Rattle.viz_mesh_write.specs.Sections.{size_of, section_line, section_text, counted_section, offset_section, offsets_text, connectivity_text, index_count}
+use Rattle.viz_mesh_write.specs.MeshText.{coordinates, points_line, points_text, types_line, types_text, grid_text, some_section, parts_text, scalar, scalars, scalars_head, scalars_text}
 use Rattle.viz_mesh_write.specs.Rows.{row_of, block_text}
 use Rattle.viz_mesh_write.specs.Cells.{of_size}
 use Rattle.viz_round_trip.proofs.AttributeStanding as attributes
 use Rattle.viz_round_trip.specs.MeshTrip.{scalars_in_file}
 use Rattle.viz_round_trip.proofs.FrontLemmas.{gap-some}
-use Rattle.viz_round_trip.proofs.SectionStanding.{cells_block, section_behind, type_row, types_behind}
+use Rattle.viz_round_trip.proofs.SectionStanding.{cells_block, type_row, types_behind}
+use Rattle.viz_round_trip.proofs.OffsetStanding.{offsets_block, indices_block, blocks_behind}
+use Rattle.viz_round_trip.proofs.CellStanding.{section_behind}
 use Rattle.viz_round_trip.proofs.PointStanding.{points_behind}
 use Rattle.viz_round_trip.proofs.PolyStanding.{some_behind}
 
@@ -28,14 +31,32 @@ points_parts binary digits ps tail =
 
 -- ---- cells
 
-pub section_parts : (binary : Bool) (key : List ℕ) (cs : List (List ℕ)) (tail : List ℕ) → section_text binary key cs ++ tail ≡ key ++ section_behind binary cs tail
-unfolding section_text section_line
-section_parts binary key cs tail =
-    let n = 32 ∷ decimal (length cs) in
-    let size = 32 ∷ decimal (size_of cs) in
-    let block = cells_block binary cs in
-    let numbers = block ++ tail in
-    append_assoc (key ++ n ++ size ++ 10 ∷ []) block tail ∙ append_assoc (key ++ n ++ size) (10 ∷ []) numbers ∙ append_assoc (key ++ n) size (10 ∷ numbers) ∙ append_assoc key n (size ++ 10 ∷ numbers)
+line_parts : (key : List ℕ) (n m : ℕ) (behind : List ℕ) → section_line key n m ++ behind ≡ key ++ 32 ∷ (decimal n ++ 32 ∷ (decimal m ++ 10 ∷ behind))
+unfolding section_line
+line_parts key n m behind =
+    let a = 32 ∷ decimal n in
+    let b = 32 ∷ decimal m in
+    append_assoc (key ++ a ++ b) (10 ∷ []) behind ∙ append_assoc (key ++ a) b (10 ∷ behind) ∙ append_assoc key a (b ++ 10 ∷ behind)
+
+-- both blocks of a section of version 5.1, and what is behind them
+blocks_parts : (binary : Bool) (cs : List (List ℕ)) (tail : List ℕ) → (offsets_text binary cs ++ connectivity_text binary cs) ++ tail ≡ blocks_behind binary cs tail
+unfolding offsets_text connectivity_text
+blocks_parts binary cs tail =
+    let first = codes "OFFSETS vtktypeint64\n" in
+    let second = codes "CONNECTIVITY vtktypeint64\n" in
+    let a = offsets_block binary cs in
+    let b = indices_block binary cs in
+    append_assoc (first ++ a) (second ++ b) tail ∙ append_assoc first a ((second ++ b) ++ tail) ∙ ap (λ (t : List ℕ). first ++ (a ++ t)) (append_assoc second b tail)
+
+pub section_parts : (later binary : Bool) (key : List ℕ) (cs : List (List ℕ)) (tail : List ℕ) → section_text later binary key cs ++ tail ≡ key ++ section_behind later binary cs tail
+unfolding counted_section offset_section
+section_parts false binary key cs tail =
+    append_assoc (section_line key (length cs) (size_of cs)) (cells_block binary cs) tail ∙ line_parts key (length cs) (size_of cs) (cells_block binary cs ++ tail)
+section_parts true binary key cs tail =
+    let line = section_line key (length cs + 1) (index_count cs) in
+    let a = offsets_text binary cs in
+    let b = connectivity_text binary cs in
+    append_assoc (line ++ a) b tail ∙ append_assoc line a (b ++ tail) ∙ ap (λ (t : List ℕ). line ++ t) (sym (append_assoc a b tail) ∙ blocks_parts binary cs tail) ∙ line_parts key (length cs + 1) (index_count cs) (blocks_behind binary cs tail)
 
 types_parts : (binary : Bool) (cs : List (List ℕ)) (tail : List ℕ) → types_text binary cs ++ tail ≡ codes "CELL_TYPES" ++ types_behind binary cs tail
 unfolding types_text types_line
@@ -44,25 +65,25 @@ types_parts binary cs tail =
     let block = block_text binary I32 (map type_row cs) in
     append_assoc (codes "CELL_TYPES " ++ n ++ 10 ∷ []) block tail ∙ append_assoc (codes "CELL_TYPES " ++ n) (10 ∷ []) (block ++ tail) ∙ append_assoc (codes "CELL_TYPES ") n (10 ∷ (block ++ tail))
 
-pub grid_parts : (binary : Bool) (cs : List (List ℕ)) (tail : List ℕ) → grid_text binary cs ++ tail ≡ codes "CELLS" ++ section_behind binary cs (codes "CELL_TYPES" ++ types_behind binary cs tail)
+pub grid_parts : (later binary : Bool) (cs : List (List ℕ)) (tail : List ℕ) → grid_text later binary cs ++ tail ≡ codes "CELLS" ++ section_behind later binary cs (codes "CELL_TYPES" ++ types_behind binary cs tail)
 unfolding grid_text
-grid_parts binary cs tail =
-    append_assoc (section_text binary (codes "CELLS") cs) (types_text binary cs) tail ∙ ap (λ (t : List ℕ). section_text binary (codes "CELLS") cs ++ t) (types_parts binary cs tail) ∙ section_parts binary (codes "CELLS") cs (codes "CELL_TYPES" ++ types_behind binary cs tail)
+grid_parts later binary cs tail =
+    append_assoc (section_text later binary (codes "CELLS") cs) (types_text binary cs) tail ∙ ap (λ (t : List ℕ). section_text later binary (codes "CELLS") cs ++ t) (types_parts binary cs tail) ∙ section_parts later binary (codes "CELLS") cs (codes "CELL_TYPES" ++ types_behind binary cs tail)
 
-pub some_parts : (binary : Bool) (key : List ℕ) (cs : List (List ℕ)) (tail : List ℕ) → some_section binary key cs ++ tail ≡ some_behind binary key cs tail
-some_parts binary key [] tail = refl
-some_parts binary key (c ∷ cs) tail = section_parts binary key (c ∷ cs) tail
+pub some_parts : (later binary : Bool) (key : List ℕ) (cs : List (List ℕ)) (tail : List ℕ) → some_section later binary key cs ++ tail ≡ some_behind later binary key cs tail
+some_parts later binary key [] tail = refl
+some_parts later binary key (c ∷ cs) tail = section_parts later binary key (c ∷ cs) tail
 
-pub kinds_parts : (binary : Bool) (cs : List (List ℕ)) (tail : List ℕ)
-    → parts_text binary cs ++ tail ≡ some_behind binary (codes "VERTICES") (of_size 1 cs) (some_behind binary (codes "LINES") (of_size 2 cs) (some_behind binary (codes "POLYGONS") (of_size 3 cs) tail))
+pub kinds_parts : (later binary : Bool) (cs : List (List ℕ)) (tail : List ℕ)
+    → parts_text later binary cs ++ tail ≡ some_behind later binary (codes "VERTICES") (of_size 1 cs) (some_behind later binary (codes "LINES") (of_size 2 cs) (some_behind later binary (codes "POLYGONS") (of_size 3 cs) tail))
 unfolding parts_text
-kinds_parts binary cs tail =
-    let v = some_section binary (codes "VERTICES") (of_size 1 cs) in
-    let l = some_section binary (codes "LINES") (of_size 2 cs) in
-    let p = some_section binary (codes "POLYGONS") (of_size 3 cs) in
-    let behind = some_behind binary (codes "POLYGONS") (of_size 3 cs) tail in
-    append_assoc (v ++ l) p tail ∙ append_assoc v l (p ++ tail) ∙ ap (λ (t : List ℕ). v ++ (l ++ t)) (some_parts binary (codes "POLYGONS") (of_size 3 cs) tail) ∙ ap (λ (t : List ℕ). v ++ t) (some_parts binary (codes "LINES") (of_size 2 cs) behind)
-    ∙ some_parts binary (codes "VERTICES") (of_size 1 cs) _
+kinds_parts later binary cs tail =
+    let v = some_section later binary (codes "VERTICES") (of_size 1 cs) in
+    let l = some_section later binary (codes "LINES") (of_size 2 cs) in
+    let p = some_section later binary (codes "POLYGONS") (of_size 3 cs) in
+    let behind = some_behind later binary (codes "POLYGONS") (of_size 3 cs) tail in
+    append_assoc (v ++ l) p tail ∙ append_assoc v l (p ++ tail) ∙ ap (λ (t : List ℕ). v ++ (l ++ t)) (some_parts later binary (codes "POLYGONS") (of_size 3 cs) tail) ∙ ap (λ (t : List ℕ). v ++ t) (some_parts later binary (codes "LINES") (of_size 2 cs) behind)
+    ∙ some_parts later binary (codes "VERTICES") (of_size 1 cs) _
 
 -- ---- scalars
 

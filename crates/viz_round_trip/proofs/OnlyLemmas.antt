@@ -18,12 +18,12 @@ use Rattle.viz_round_trip.proofs.ImageStanding.{reads-moved}
 one_answer : (unit : ℕ) → IsDefinite (file First unit)
 one_answer unit = IsDefinite-decided (file First unit) (file_at First unit) (decides-file First unit)
 
-pub reads-only : (binary : Bool) (unit : ℕ) (i : ImageData) (d : Dataset) → IsImage i → IsOrigin (corner i) → Reads (image_text binary i) First unit d → d ≡ Image (moved i)
-reads-only binary unit i d is origin found =
-    let here = reads-moved binary unit i is origin in
-    ((one_answer unit).one (front (image_text binary i)) found.0 here.0 d (Image (moved i)) found.1 here.1).0
+pub reads-only : (later binary : Bool) (unit : ℕ) (i : ImageData) (d : Dataset) → IsImage i → IsOrigin (corner i) → Reads (image_text later binary i) First unit d → d ≡ Image (moved i)
+reads-only later binary unit i d is origin found =
+    let here = reads-moved later binary unit i is origin in
+    ((one_answer unit).one (front (image_text later binary i)) found.0 here.0 d (Image (moved i)) found.1 here.1).0
 
-pub reads-no_fault : (binary : Bool) (unit : ℕ) (i : ImageData) (fault : FileFault) → IsImage i → IsOrigin (corner i) → ¬ Stops (image_text binary i) First unit fault
-reads-no_fault binary unit i fault is origin stops =
-    let here = reads-moved binary unit i is origin in
-    (one_answer unit).not_both (front (image_text binary i)) here.0 (Image (moved i)) fault here.1 stops
+pub reads-no_fault : (later binary : Bool) (unit : ℕ) (i : ImageData) (fault : FileFault) → IsImage i → IsOrigin (corner i) → ¬ Stops (image_text later binary i) First unit fault
+reads-no_fault later binary unit i fault is origin stops =
+    let here = reads-moved later binary unit i is origin in
+    (one_answer unit).not_both (front (image_text later binary i)) here.0 (Image (moved i)) fault here.1 stops

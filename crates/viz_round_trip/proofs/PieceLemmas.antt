@@ -1,13 +1,13 @@
 -- The pieces of cells that are written are these cells.
-use Rattle.std.proofs.Common.{◌≡◌, ◌≢◌, ℕ, suc, ◌==◌, ◌<◌, Bool, true, false, not, List, [], ◌∷◌, ◌++◌, length, refl, sym, ap, ap₂, ◌∙◌, append-nil, eqb-true, arith}
-use Rattle.std.specs.Prelude.{cond, ◌&&◌, ◌||◌, if◌then◌else◌}
-use Rattle.std.specs.List.{All, flat_map, filter}
+use Rattle.std.proofs.Common.{◌≡◌, ◌≢◌, ℕ, ◌==◌, Bool, true, false, List, [], ◌∷◌, ◌++◌, length, refl, ap₂, ◌∙◌, append-nil, eqb-true, arith}
+use Rattle.std.specs.Prelude.{cond}
+use Rattle.std.specs.List.{All, flat_map}
 use Rattle.std.proofs.lemmas.Bool.{ne_eqb}
 use Rattle.std.proofs.lemmas.List.Elements.{All-nil, All-cons, All-head, All-tail}
 use Rattle.viz_sheet.specs.Sheet.{AreApart}
 use Rattle.viz_sheet.specs.Ranked.{IsCell}
 use Rattle.viz_mesh_read.specs.Pieces.{kept, vertices_of, lines_of, triangles_of, pieces_of, is_segment, is_triangle}
-use Rattle.viz_file_mesh.specs.GridPieces.{is_among, repeats_none, grid_piece, grid_pieces}
+use Rattle.viz_file_mesh.specs.GridPieces.{is_among, repeats_none, grid_pieces}
 use Rattle.viz_mesh_write.specs.Cells.{of_size}
 use Rattle.viz_round_trip.specs.MeshTrip.{by_kinds}
 use Rattle.viz_round_trip.proofs.PolyStanding.{kinds_of}

@@ -1,5 +1,5 @@
 -- The points of a mesh, as they are written.
-use Rattle.std.proofs.Common.{◌≡◌, ℕ, ℤ, pos, ◌*◌, ◌^◌, ◌<◌, Bool, true, false, List, [], ◌∷◌, ◌++◌, length, map, refl, sym, ap, subst, ◌∙◌, append_assoc, append-nil, arith}
+use Rattle.std.proofs.Common.{◌≡◌, ℕ, ℤ, ◌*◌, ◌^◌, ◌<◌, Bool, true, false, List, [], ◌∷◌, ◌++◌, length, map, refl, ap, subst, ◌∙◌, append_assoc, append-nil, arith}
 use Rattle.std.specs.Prelude.{codes}
 use Rattle.std.specs.List.{flat_map, list_all}
 use Rattle.std.specs.Fmt.{decimal}
@@ -13,37 +13,36 @@ use Rattle.viz_column.specs.Numbers.{Numbers}
 use Rattle.viz_column.proofs.ListLemmas.{length-block, numbers_again}
 use Rattle.viz_lex.specs.declared.fault.FileKind.TheVariants.{ValueRange}
 use Rattle.viz_lex.specs.Reading.{Reading, rest_of, fault_at}
-use Rattle.viz_lex.specs.Words.{IsBlank, IsNextWord}
-use Rattle.viz_lex.specs.Steps.{same_word, is_next}
+use Rattle.viz_lex.specs.Words.{IsBlank}
+use Rattle.viz_lex.specs.Steps.{is_next}
 use Rattle.viz_lex.specs.Rules.{gives, demand}
 use Rattle.viz_lex.specs.Repeats.{times}
 use Rattle.viz_lex.specs.Items.{number, keyword, line_end, block, metadata}
 use Rattle.viz_attr.specs.declared.types.Stored.TheVariants.{Whole}
 use Rattle.viz_attr.specs.Types.{type_word}
 use Rattle.viz_attr.specs.Counts.{count_from}
-use Rattle.viz_mesh_read.specs.declared.coordinates.FilePoints.{FilePoints}
-use Rattle.viz_mesh_read.specs.Points.{value, block_column, text_column, column, points}
+use Rattle.viz_mesh_read.specs.Points.{value, column, points}
 use Rattle.viz_mesh_write.specs.MeshText.{coordinates}
 use Rattle.viz_mesh_write.specs.Rows.{row_of, block_end, block_text}
 use Rattle.viz_round_trip.proofs.StandingLemmas.{Stands, stands-gives, stands-follow, stands-demand, stands-otherwise}
-use Rattle.viz_round_trip.proofs.WordStanding.{word-solid, stands-keyword, is_next-word, is_next-blank}
+use Rattle.viz_round_trip.proofs.WordStanding.{word-solid, stands-keyword}
 use Rattle.viz_round_trip.proofs.NumberStanding.{stands-number}
 use Rattle.viz_round_trip.proofs.ValueStanding.{kind_wide}
 use Rattle.viz_round_trip.proofs.BlockStanding.{stands-line_end, stands-block}
 use Rattle.viz_round_trip.proofs.TypeStanding.{stands-type}
 use Rattle.viz_round_trip.specs.MeshTrip.{points_in_file}
-use Rattle.viz_round_trip.proofs.FrontLemmas.{AreInFront, gap_of, words-rows}
+use Rattle.viz_round_trip.proofs.FrontLemmas.{AreInFront, filled, gap_of, words-rows}
 use Rattle.viz_round_trip.proofs.SectionStanding.{stands-count_from}
 
 -- ---- numbers in words
 
-stands-value : (n : ℤ) (old : Reading) (text later : List ℕ) → fits I64 n ≡ true → AreInFront false (n ∷ []) text later → rest_of old ≡ text → Stands (value I64) old n later
+stands-value : (n : ℤ) (old : Reading) (text later : List ℕ) → fits I64 n ≡ true → AreInFront false I64 (n ∷ []) text later → rest_of old ≡ text → Stands (value I64) old n later
 stands-value n old text later within h e =
     let first = stands-number old h.1.0 h.0 n (kind_wide I64 n within) h.1.1 h.1.2 (e ∙ h.1.3) in
     stands-follow number (λ m. demand (fits I64 m.1) (fault_at ValueRange m.0) (gives m.1)) old (first.0, n) n h.0 later first.1
     (stands-demand _ _ _ first.1.new n later within (stands-gives n first.1.new later (first.1.rest ∙ h.2)))
 
-stands-numbers : (ns : List ℤ) (old : Reading) (text behind : List ℕ) → list_all (fits I64) ns ≡ true → AreInFront false ns text behind → rest_of old ≡ text → Stands (times (length ns) (value I64)) old ns behind
+stands-numbers : (ns : List ℤ) (old : Reading) (text behind : List ℕ) → list_all (fits I64) ns ≡ true → AreInFront false I64 ns text behind → rest_of old ≡ text → Stands (times (length ns) (value I64)) old ns behind
 stands-numbers [] old text behind within h e = record { new = old; is = refl; rest = e ∙ h }
 stands-numbers (n ∷ ns) old text behind within h e =
     let both = and_parts (fits I64 n) (list_all (fits I64) ns) within in
@@ -102,7 +101,7 @@ stands-column false digits ps old tail within e =
     let ns = numbers_of_points digits ps in
     let rows = flat_map (row_of false I64) (map (coordinates digits) ps) in
     let left = 10 ∷ tail in
-    let front = words-rows I64 (λ (p : Point). fixed_of p.x p.w digits) (λ (p : Point). fixed_of p.y p.w digits ∷ fixed_of p.z p.w digits ∷ []) ps tail in
+    let front = words-rows I64 (coordinates digits) ps tail (filled (λ (p : Point). fixed_of p.x p.w digits) (λ (p : Point). fixed_of p.y p.w digits ∷ fixed_of p.z p.w digits ∷ []) ps) in
     let here = e ∙ ap (λ (t : List ℕ). 10 ∷ (t ++ tail)) (append-nil rows) in
     let all = stands-numbers ns old (10 ∷ (rows ++ tail)) left within front here in
     let many = subst (λ (k : ℕ). Stands (times k (value I64)) old ns left) (count_numbers digits ps) all in

@@ -39,8 +39,8 @@ regrouped title form dataset dims origin spacing a b c values = simp append_asso
 abbrev pub values_of : Bool → ImageData → List ℕ
 values_of binary i = values_text binary (size_y i.extent * size_z i.extent) (size_x i.extent) i.values
 
-pub image_parts : (binary : Bool) (i : ImageData) → image_text binary i ≡ header_text binary (size_x i.extent) (size_y i.extent) (size_z i.extent) (corner i) i.spacing (parts_text i.values (count_of i.extent) (values_of binary i))
+pub image_parts : (later binary : Bool) (i : ImageData) → image_text later binary i ≡ header_text later binary (size_x i.extent) (size_y i.extent) (size_z i.extent) (corner i) i.spacing (parts_text i.values (count_of i.extent) (values_of binary i))
 unfolding image_text header_lines geometry_lines
-image_parts binary i =
-    regrouped title_lines (form_line binary) dataset_line (dimensions_line (size_x i.extent) (size_y i.extent) (size_z i.extent)) (origin_line (corner i)) (spacing_line i.spacing) (point_data_line (count_of i.extent)) (array_line i.values.kind) table_line (values_of binary i)
-    ∙ ap (λ (t : List ℕ). header_text binary (size_x i.extent) (size_y i.extent) (size_z i.extent) (corner i) i.spacing t) (array_lines_parts i.values (count_of i.extent) (values_of binary i))
+image_parts later binary i =
+    regrouped (title_lines later) (form_line binary) dataset_line (dimensions_line (size_x i.extent) (size_y i.extent) (size_z i.extent)) (origin_line (corner i)) (spacing_line i.spacing) (point_data_line (count_of i.extent)) (array_line i.values.kind) table_line (values_of binary i)
+    ∙ ap (λ (t : List ℕ). header_text later binary (size_x i.extent) (size_y i.extent) (size_z i.extent) (corner i) i.spacing t) (array_lines_parts i.values (count_of i.extent) (values_of binary i))

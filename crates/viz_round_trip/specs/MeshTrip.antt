@@ -1,6 +1,6 @@
 -- A mesh as it is read again (docs/FORMATS.md, "Written meshes").
-use Rattle.std.specs.Prelude.{ℕ, ◌^◌, ◌≤◌, ℤ, pos, ◌*ℤ◌, Bool, List, [], ◌∷◌, ◌++◌, length, map}
-use Rattle.std.specs.Prelude.{All, Some, None, if◌then◌else◌}
+use Rattle.std.specs.Prelude.{ℕ, ◌^◌, ◌≤◌, pos, ◌*ℤ◌, List, [], ◌∷◌, ◌++◌, length, map}
+use Rattle.std.specs.Prelude.{All, Some, if◌then◌else◌}
 use Rattle.std.specs.List.{flat_map}
 use Rattle.viz_fraction.specs.Points.{Point, numbers, reduced}
 use Rattle.viz_fraction.specs.Decimals.{fixed_of}

@@ -12,26 +12,30 @@ ghost use Rattle.viz_legacy_read.specs.Reading.{Reads, Stops};
 ghost use Rattle.viz_image_write.specs.ImageText.{image_text};
 ghost use Rattle.viz_round_trip.specs.RoundTrip.{moved, BeginsAtZero};
 
-/// The text of an image, in ASCII or in BINARY, is read as the image that it was written of.
+/// The text of an image, of version 3.0 or 5.1, in ASCII or in BINARY, is read as the image that
+/// it was written of.
 ///
 /// A file knows no first index but 0, so the points of an extent that begins further on are
 /// counted from 0. The unit is one of a mesh's coordinates: an image is the same in each.
 pub fn written_images_are_read_again()
-    ensures same { (binary : Bool) (unit : ℕ) (i : ImageData) → IsImage i → BeginsAtZero i.extent
-        → Reads (image_text binary i) First unit (Image i) }
-    ensures moved { (binary : Bool) (unit : ℕ) (i : ImageData) → IsImage i → IsOrigin (corner i)
-        → Reads (image_text binary i) First unit (Image (moved i)) }
+    ensures same { (later binary : Bool) (unit : ℕ) (i : ImageData)
+        → IsImage i → BeginsAtZero i.extent
+        → Reads (image_text later binary i) First unit (Image i) }
+    ensures moved { (later binary : Bool) (unit : ℕ) (i : ImageData)
+        → IsImage i → IsOrigin (corner i)
+        → Reads (image_text later binary i) First unit (Image (moved i)) }
 {}
 
 /// Nothing else is read of such a text, no mesh either, and no fault is met. So of what
-/// `write_image` gave, in either form, `read` gives just that image where the first array is
-/// picked, or memory ran out.
+/// `write_image` gave, of either version and in either form, `read` gives just that image where
+/// the first array is picked, or memory ran out.
 pub fn nothing_else_is_read()
-    ensures only { (binary : Bool) (unit : ℕ) (i : ImageData) (d : Dataset)
+    ensures only { (later binary : Bool) (unit : ℕ) (i : ImageData) (d : Dataset)
         → IsImage i → IsOrigin (corner i)
-        → Reads (image_text binary i) First unit d → d ≡ Image (moved i) }
-    ensures no_fault { (binary : Bool) (unit : ℕ) (i : ImageData) (fault : FileFault)
-        → IsImage i → IsOrigin (corner i) → ¬ Stops (image_text binary i) First unit fault }
+        → Reads (image_text later binary i) First unit d → d ≡ Image (moved i) }
+    ensures no_fault { (later binary : Bool) (unit : ℕ) (i : ImageData) (fault : FileFault)
+        → IsImage i → IsOrigin (corner i)
+        → ¬ Stops (image_text later binary i) First unit fault }
 {}
 
 /// A point that is counted from 0 stands where it stood, and has the number that it had.

@@ -39,7 +39,8 @@ use Rattle.viz_strip_write.proofs.CellLemmas.{all-triangles}
 use Rattle.viz_round_trip.specs.MeshTrip.{points_in_file}
 use Rattle.viz_round_trip.proofs.StandingLemmas.{Stands, stands-gives, stands-follow}
 use Rattle.viz_round_trip.proofs.PointStanding.{numbers_of_points, points_behind}
-use Rattle.viz_round_trip.proofs.PolyStanding.{AreRead, some_behind}
+use Rattle.viz_round_trip.proofs.CellStanding.{AreRead}
+use Rattle.viz_round_trip.proofs.PolyStanding.{some_behind}
 use Rattle.viz_round_trip.proofs.MeshHeads.{StandsHere, poly_rule, stands-poly_file}
 use Rattle.viz_round_trip.proofs.IndexLemmas.{cells-are, no_cells-no_points, no_points-no_cells}
 use Rattle.viz_round_trip.proofs.PieceLemmas.{all-of_size, line_piece, vertex_piece, whole_size}
@@ -60,9 +61,9 @@ record AreFit (ps : List Point) (cs strips : List (List ℕ)) : Type 0 where
   within : list_all (fits I64) (numbers_of_points 3 ps) ≡ true
   range : list_all (fits I64) (map scalar ps) ≡ true
   cells : All (IsCell (length ps)) cs
-  vertices : AreRead (length ps) (of_size 1 cs)
-  lines : AreRead (length ps) (of_size 2 cs)
-  strips_read : AreRead (length ps) strips
+  vertices : AreRead false (length ps) (of_size 1 cs)
+  lines : AreRead false (length ps) (of_size 2 cs)
+  strips_read : AreRead false (length ps) strips
   pieces : All (IsCell (length ps)) (all_pieces strips)
 
 -- the pieces that are read
@@ -78,7 +79,7 @@ read_mesh ps cs strips = mesh_of 3 (points_in_file 3 ps) None (read_cells cs (al
 -- ---- polydata and its attributes
 
 stands-all : (ps : List Point) (cs strips : List (List ℕ)) (old : Reading) (behind : List ℕ) → AreFit ps cs strips → 0 < length ps → data_text ps ≡ codes "POINT_DATA" ++ 32 ∷ behind
-    → rest_of old ≡ 10 ∷ (codes "POINTS" ++ points_behind false 3 ps (kinds_behind (of_size 1 cs) (of_size 2 cs) strips behind)) → StandsHere (poly_rule false Zero 3) old (read_mesh ps cs strips)
+    → rest_of old ≡ 10 ∷ (codes "POINTS" ++ points_behind false 3 ps (kinds_behind (of_size 1 cs) (of_size 2 cs) strips behind)) → StandsHere (poly_rule false false Zero 3) old (read_mesh ps cs strips)
 stands-all ps cs strips old behind fit some same e =
     let n = length ps in
     let p = points_in_file 3 ps in
@@ -93,26 +94,26 @@ stands-all ps cs strips old behind fit some same e =
     let read = stands-follow (polydata false false) _ old (poly_with ps a b strips) m (10 ∷ (codes "POINT_DATA" ++ 32 ∷ behind)) d.0 poly
     (stands-follow (attributes (passing n (cells_by_kind kinds))) (λ picked. gives (mesh_of 3 p picked (pieces_of kinds))) poly.new none m d.0 d.0 d.1 (stands-gives m d.1.new d.0 d.1.rest)) in (
       d.0,
-      subst (λ (cells : List (List ℕ)). Stands (poly_rule false Zero 3) old (mesh_of 3 p none cells) d.0) (pieces-again n cs strips fit.cells fit.pieces) read,
+      subst (λ (cells : List (List ℕ)). Stands (poly_rule false false Zero 3) old (mesh_of 3 p none cells) d.0) (pieces-again n cs strips fit.cells fit.pieces) read,
     )
 
 -- ---- the whole file
 
 sections-parts : (cs strips : List (List ℕ)) (tail : List ℕ)
-    → sections_text cs strips ++ tail ≡ some_behind false (codes "VERTICES") (of_size 1 cs) (some_behind false (codes "LINES") (of_size 2 cs) (some_behind false (codes "TRIANGLE_STRIPS") strips tail))
+    → sections_text cs strips ++ tail ≡ some_behind false false (codes "VERTICES") (of_size 1 cs) (some_behind false false (codes "LINES") (of_size 2 cs) (some_behind false false (codes "TRIANGLE_STRIPS") strips tail))
 sections-parts cs strips tail =
-    let v = some_section false (codes "VERTICES") (of_size 1 cs) in
-    let l = some_section false (codes "LINES") (of_size 2 cs) in
-    let p = some_section false (codes "TRIANGLE_STRIPS") strips in
-    let behind = some_behind false (codes "TRIANGLE_STRIPS") strips tail in
-    append_assoc (v ++ l) p tail ∙ append_assoc v l (p ++ tail) ∙ ap (λ (t : List ℕ). v ++ (l ++ t)) (some_parts false (codes "TRIANGLE_STRIPS") strips tail) ∙ ap (λ (t : List ℕ). v ++ t) (some_parts false (codes "LINES") (of_size 2 cs) behind)
-    ∙ some_parts false (codes "VERTICES") (of_size 1 cs) _
+    let v = some_section false false (codes "VERTICES") (of_size 1 cs) in
+    let l = some_section false false (codes "LINES") (of_size 2 cs) in
+    let p = some_section false false (codes "TRIANGLE_STRIPS") strips in
+    let behind = some_behind false false (codes "TRIANGLE_STRIPS") strips tail in
+    append_assoc (v ++ l) p tail ∙ append_assoc v l (p ++ tail) ∙ ap (λ (t : List ℕ). v ++ (l ++ t)) (some_parts false false (codes "TRIANGLE_STRIPS") strips tail) ∙ ap (λ (t : List ℕ). v ++ t) (some_parts false false (codes "LINES") (of_size 2 cs) behind)
+    ∙ some_parts false false (codes "VERTICES") (of_size 1 cs) _
 
-text-parts : (ps : List Point) (c : List ℕ) (cs strips : List (List ℕ)) → text_by ps (c ∷ cs) strips ≡ title_lines 3 ++ (form_line false ++ (dataset_line false ++ (points_text false 3 ps ++ (sections_text (c ∷ cs) strips ++ scalars_text false ps))))
+text-parts : (ps : List Point) (c : List ℕ) (cs strips : List (List ℕ)) → text_by ps (c ∷ cs) strips ≡ title_lines false 3 ++ (form_line false ++ (dataset_line false ++ (points_text false 3 ps ++ (sections_text (c ∷ cs) strips ++ scalars_text false ps))))
 unfolding text_by head_text
-text-parts ps c cs strips = regrouped (title_lines 3) (form_line false) (dataset_line false) (points_text false 3 ps) (sections_text (c ∷ cs) strips) (scalars_text false ps)
+text-parts ps c cs strips = regrouped (title_lines false 3) (form_line false) (dataset_line false) (points_text false 3 ps) (sections_text (c ∷ cs) strips) (scalars_text false ps)
 
-empty-parts : text_by [] [] [] ≡ empty_text false 3
+empty-parts : text_by [] [] [] ≡ empty_text false false 3
 unfolding text_by head_text
 empty-parts = refl
 
@@ -123,7 +124,7 @@ stands-with p ps c cs strips old fit e =
     let tail = ap (λ (t : List ℕ). sections_text cells strips ++ t) (scalars_parts false p ps) ∙ sections-parts cells strips (data_text points) in
     let behind = points_text false 3 points ++ (sections_text cells strips ++ scalars_text false points) in
     let lines = ap (λ (t : List ℕ). points_text false 3 points ++ t) tail ∙ points_parts false 3 points _ in
-    stands-poly_file false 3 Zero 3 old _ behind (omega arith) (e ∙ text-parts points c cs strips) (λ new rest.
+    stands-poly_file false false 3 Zero 3 old _ behind (omega arith) (e ∙ text-parts points c cs strips) (λ new rest.
     stands-all points cells strips new _ fit (omega arith) refl (rest ∙ ap (λ (t : List ℕ). 10 ∷ t) lines))
 
 -- ---- any points and cells
@@ -134,8 +135,8 @@ no-strips (s ∷ strips) are = let e : [] ≡ are.0 ∷ are.1 = are.3 in absurd 
 
 reads-nothing : (strips : List (List ℕ)) (text : List ℕ) → strips ≡ [] → text ≡ text_by [] [] strips → Reads text Zero 3 (Mesh (read_mesh [] [] strips))
 reads-nothing strips text none e =
-    let here : text ≡ empty_text false 3 = e ∙ ap (text_by [] []) none ∙ empty-parts in
-    let all = stands-empty false 3 (front text) (omega arith) here in
+    let here : text ≡ empty_text false false 3 = e ∙ ap (text_by [] []) none ∙ empty-parts in
+    let all = stands-empty false false 3 (front text) (omega arith) here in
     subst (λ (s : List (List ℕ)). Reads text Zero 3 (Mesh (read_mesh [] [] s))) (sym none) (all.1.new, all.1.is)
 
 reads-by : (ps : List Point) (cs strips : List (List ℕ)) (text : List ℕ) → AreFit ps cs strips → AreStrips (of_size 3 cs) strips → (cs ≡ [] → ps ≡ []) → text ≡ text_by ps cs strips → Reads text Zero 3 (Mesh (read_mesh ps cs strips))
@@ -181,9 +182,9 @@ fit-from sheets strips may strips_are k =
       within = points_fit 3 (points_of sheets) may.numbers.coordinates.each;
       range = scalars_fit (points_of sheets) may.numbers.scalars.each;
       cells = k.are;
-      vertices = record { small = may.counts.vertices; below = below-of n (of_size 1 cells) (all-of_size (IsCell n) 1 cells k.are) };
-      lines = record { small = may.counts.lines; below = below-of n (of_size 2 cells) (all-of_size (IsCell n) 2 cells k.are) };
-      strips_read = record { small = may.counts.strips strips strips_are; below = strips-below n (of_size 3 cells) strips strips_are k.pieces };
+      vertices = record { small = may.counts.vertices; below = below-of n (of_size 1 cells) (all-of_size (IsCell n) 1 cells k.are); some = tt };
+      lines = record { small = may.counts.lines; below = below-of n (of_size 2 cells) (all-of_size (IsCell n) 2 cells k.are); some = tt };
+      strips_read = record { small = may.counts.strips strips strips_are; below = strips-below n (of_size 3 cells) strips strips_are k.pieces; some = tt };
       pieces = k.pieces;
     }
 
