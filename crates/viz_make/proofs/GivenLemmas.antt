@@ -27,8 +27,8 @@ use Rattle.viz_make.proofs.NetworkLemmas.{cone_is, iso_node, iso_tree, source_no
 -- the text of an image is read as nothing but the image
 abbrev pub OnlyRead : Type 0
 OnlyRead =
-    (binary : Bool) (unit : ℕ) (i : ImageData) (d : Dataset) → IsImage i → IsOrigin (corner i)
-    → Reads (image_text binary i) First unit d → d ≡ Image (moved i)
+    (later binary : Bool) (unit : ℕ) (i : ImageData) (d : Dataset) → IsImage i → IsOrigin (corner i)
+    → Reads (image_text later binary i) First unit d → d ≡ Image (moved i)
 
 -- what the rule makes is no fault
 own_made : (node : Node) (inputs : Inputs Dataset) (d : Dataset) (value : Result Dataset Cause) → DataRule node inputs value
