@@ -42,20 +42,8 @@ pub record IsCellIn (points size : ℕ) (indices bytes : List ℕ) : Type 0 wher
 -- cells of so many indices each stand in front of the bytes, one after the other
 abbrev pub AreCellsIn : {C : Type 0} → (C → List ℕ) → ℕ → ℕ → List C → List ℕ → Type 0
 AreCellsIn list points size [] bytes = Unit {0}
-AreCellsIn list points size (cell ∷ cells) bytes = IsCellIn points size (list cell) bytes
-    × AreCellsIn list points size cells (drop (8 * size) bytes)
-
--- so many indices of points stand in front of the bytes, and these are the numbers with them
-abbrev pub IsRunIn : ℕ → ℕ → List ℕ → List ℕ → List ℕ → Type 0
-IsRunIn points count before numbers bytes =
-    (kind : Kind8) (r : Reading) → size_of kind ≡ 8 → bytes ≡ rest_of r
-    → run_at true kind points count before r ≡ Ok (numbers, advanced r (8 * count))
-
--- cells between offsets stand in front of the bytes, and these are the numbers with them
-abbrev pub AreRunsIn : ℕ → List ℕ → ℕ → List ℕ → List ℕ → List ℕ → Type 0
-AreRunsIn points offsets indices before numbers bytes =
-    (kind : Kind8) (r : Reading) → size_of kind ≡ 8 → bytes ≡ rest_of r
-    → runs_at true kind points 0 offsets before r ≡ Ok (numbers, advanced r (8 * indices))
+AreCellsIn list points size (cell ∷ cells) bytes =
+    IsCellIn points size (list cell) bytes × AreCellsIn list points size cells (drop (8 * size) bytes)
 
 -- so many indices of points stand in front of the bytes, and these are the numbers with them
 abbrev pub IsRunIn : ℕ → ℕ → List ℕ → List ℕ → List ℕ → Type 0
