@@ -230,3 +230,23 @@ fn what_is_set_is_read_back(rt: HostRuntime) -> Result<(), Fail> {
     assert!(rt; release_with(true, Param::Unit, &one));
     Ok(())
 }
+
+#[test]
+fn a_writer_keeps_its_other_parameters(rt: HostRuntime) -> Result<(), Fail> {
+    let rows = [
+        (Param::Version, numbers(1, [5, 0, 0, 0, 0, 0, 0, 0])),
+        (Param::Digits, numbers(1, [6, 0, 0, 0, 0, 0, 0, 0])),
+        (Param::Style, text("binary")?),
+    ];
+    let mut settings = Settings::new(Kind::Writer);
+    for (param, value) in rows {
+        settings = settings.with(param, &value);
+    }
+    for (param, value) in rows {
+        assert_eq!(rt; settings.value(false, param), Some(value), "{param:?}");
+    }
+    let three = numbers(1, [3, 0, 0, 0, 0, 0, 0, 0]);
+    let again = settings.with(Param::Version, &three);
+    assert_eq!(rt; again.value(false, Param::Version), Some(three));
+    Ok(())
+}

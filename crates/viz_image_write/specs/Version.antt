@@ -1,6 +1,10 @@
 -- The version of a written file (VTK's documentation, "VTK File Formats"; docs/FORMATS.md, "Written
 -- files").
-use Rattle.std.specs.Prelude.{ℕ, ◌==◌, Bool, true, false, List, codes}
+use Rattle.std.specs.Prelude.{ℕ, ◌==◌, ◌||◌, Bool, true, false, List, codes}
+
+-- whether files of this version are written: 3 is version 3.0, and 5 is version 5.1
+abbrev pub is_version : ℕ → Bool
+is_version version = version == 3 || version == 5
 
 -- whether a file of this version is one of version 5.1, and not of version 3.0
 abbrev pub is_later : ℕ → Bool

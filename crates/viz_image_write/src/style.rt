@@ -1,7 +1,7 @@
 //! How a dataset is written.
 
-ghost use Rattle.std.specs.Prelude.{◌≡◌, ◌≤◌, ◌⊎◌};
-ghost use Rattle.viz_image_write.specs.Version.{is_later};
+ghost use Rattle.std.specs.Prelude.{◌≡◌, ◌≤◌, IsTrue};
+ghost use Rattle.viz_image_write.specs.Version.{is_version, is_later};
 
 /// How a dataset is written: in bytes or in words, with how many decimal places, and in a file of
 /// which version: 3 for version 3.0, or 5 for version 5.1.
@@ -14,7 +14,7 @@ pub struct Style {
     pub digits: u8,
     pub version: u8,
     ghost few: { digits ≤ 9 },
-    ghost known: { (version ≡ 3) ⊎ (version ≡ 5) },
+    ghost known: { IsTrue (is_version version) },
 }
 
 impl Style {

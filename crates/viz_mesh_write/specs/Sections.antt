@@ -47,15 +47,21 @@ offsets_of cells = offsets_from 0 cells
 abbrev pub offset_row : ℕ → List ℤ
 offset_row n = pos n ∷ []
 
+-- the line in front of offsets
+unfoldable pub offsets_line : List ℕ
+offsets_line = codes "OFFSETS vtktypeint64\n"
+
 -- the offsets, a row for each
 unfoldable pub offsets_text : Bool → List (List ℕ) → List ℕ
-offsets_text binary cells = codes "OFFSETS vtktypeint64\n"
-    ++ block_text binary I64 (map offset_row (offsets_of cells))
+offsets_text binary cells = offsets_line ++ block_text binary I64 (map offset_row (offsets_of cells))
+
+-- the line in front of indices
+unfoldable pub connectivity_line : List ℕ
+connectivity_line = codes "CONNECTIVITY vtktypeint64\n"
 
 -- the indices, a row for each cell
 unfoldable pub connectivity_text : Bool → List (List ℕ) → List ℕ
-connectivity_text binary cells = codes "CONNECTIVITY vtktypeint64\n"
-    ++ block_text binary I64 (map indices_of cells)
+connectivity_text binary cells = connectivity_line ++ block_text binary I64 (map indices_of cells)
 
 -- a section of version 5.1: how many offsets and indices, the offsets and the indices
 unfoldable pub offset_section : Bool → List ℕ → List (List ℕ) → List ℕ

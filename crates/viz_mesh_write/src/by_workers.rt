@@ -1,6 +1,7 @@
 //! The text of a mesh, made by workers.
 
 ghost use Rattle.std.specs.Prelude.{◌≡◌, ◌<◌, ◌↔◌, OnOk, IfOk, IsErrOf};
+ghost use Rattle.viz_image_write.specs.Version.{is_later};
 ghost use Rattle.viz_mesh_write.specs.Fits.{FitCounts, FitNumbers};
 ghost use Rattle.viz_mesh_write.specs.MeshText.{mesh_text};
 ghost use Rattle.viz_mesh_write.specs.Steps.Tallies.{IsReady};
@@ -25,15 +26,16 @@ fn mesh_parts<H: Threads + Sync>(
 ) -> Result<LongText, WriteStop>
     requires workers { 0 < workers }
     requires ready { IsReady sheets.now tally.now }
-    ensures value { IfOk result (λ text.
-        text ≡ mesh_text style.now.binary style.now.digits sheets.now) }
+    ensures value { IfOk result (λ text. text
+        ≡ mesh_text (is_later style.now.version) style.now.binary style.now.digits sheets.now) }
     ensures fits { OnOk result (FitNumbers style.now.digits sheets.now) }
     ensures too_wide { IsErrOf result WriteStop.TooWide
         → ¬ FitNumbers style.now.digits sheets.now }
     ensures few { ¬ IsErrOf result WriteStop.TooMany }
 {
     let mut made = OnWorkers::new(rt, alloc, workers);
-    put_mesh(&mut made, style.binary, style.digits, tally, sheets)?;
+    let (later, binary) = (style.is_later(), style.binary);
+    put_mesh(&mut made, later, binary, style.digits, tally, sheets)?;
     Ok(made.text)
 }
 
@@ -51,8 +53,8 @@ pub fn write_mesh_by_workers<H: Threads + Sync>(
     workers: u32,
 ) -> Result<LongText, WriteStop>
     requires { 0 < workers }
-    ensures value { IfOk result (λ text.
-        text ≡ mesh_text style.now.binary style.now.digits mesh.now) }
+    ensures value { IfOk result (λ text. text
+        ≡ mesh_text (is_later style.now.version) style.now.binary style.now.digits mesh.now) }
     ensures fits { OnOk result (FitCounts mesh.now × FitNumbers style.now.digits mesh.now) }
     ensures too_many { IsErrOf result WriteStop.TooMany ↔ ¬ FitCounts mesh.now }
     ensures too_wide { IsErrOf result WriteStop.TooWide

@@ -6,10 +6,10 @@ ghost use Rattle.std.specs.List.{flat_map};
 ghost use Rattle.viz_column.specs.declared.kind.Kind8.TheVariants.{I32};
 ghost use Rattle.viz_mesh_write.specs.MeshText.{type_of};
 ghost use Rattle.viz_mesh_write.specs.Rows.{row_of};
-ghost use Rattle.viz_mesh_write.specs.Steps.Passes.{IsMovable, cell_row, row_of_size, type_row};
-ghost use Rattle.viz_mesh_write.specs.Steps.Passes.{index_text, index_bytes};
+ghost use Rattle.viz_mesh_write.specs.Steps.Passes.{IsMovable, is_kept, cell_row, kept_row};
+ghost use Rattle.viz_mesh_write.specs.Steps.Passes.{index_text, index_bytes, long_bytes, type_row};
 
-use viz_image_write::{left_byte, left_count, left_int};
+use viz_image_write::{left_byte, left_count, left_int, left_long};
 
 /// What is written of each cell. A function that is generic in it has no `match` in its loop.
 pub(crate) trait CellRow {
@@ -34,12 +34,16 @@ pub(crate) trait CellRow {
         ensures most { end ≤ result + 128 };
 }
 
-/// The numbers of each cell.
+/// The numbers of each cell of so many points, or of every cell, by whether the file is of version
+/// 5.1.
 #[derive(Clone, Copy)]
-pub(crate) struct Every;
+pub(crate) struct Numbers {
+    pub(crate) size: Option<usize>,
+    pub(crate) later: bool,
+}
 
-impl CellRow for Every {
-    ghost written = { λ _ binary first cell. cell_row binary first cell };
+impl CellRow for Numbers {
+    ghost written = { λ n binary first cell. kept_row n.size n.later binary first cell };
 
     #[inline(always)]
     fn put_left(
@@ -50,29 +54,11 @@ impl CellRow for Every {
         first: u32,
         ranks: &[u32],
     ) -> usize {
-        left_cell(block, end, binary, first, ranks)
-    }
-}
-
-/// The numbers of each cell of so many points.
-#[derive(Clone, Copy)]
-pub(crate) struct OfSize {
-    pub(crate) size: usize,
-}
-
-impl CellRow for OfSize {
-    ghost written = { λ s binary first cell. row_of_size s.size binary first cell };
-
-    #[inline(always)]
-    fn put_left(
-        &self,
-        block: &mut [u8],
-        end: usize,
-        binary: bool,
-        first: u32,
-        ranks: &[u32],
-    ) -> usize {
-        left_of_size(block, end, binary, self.size, first, ranks)
+        if is_kept(self.size, ranks) {
+            left_cell(block, end, self.later, binary, first, ranks)
+        } else {
+            end
+        }
     }
 }
 
@@ -99,9 +85,19 @@ impl CellRow for Types {
 /// What is written of cells: the rows of one kind.
 #[derive(Clone, Copy)]
 pub(crate) enum OfCells {
-    Every(Every),
-    OfSize(OfSize),
+    Numbers(Numbers),
     Types(Types),
+}
+
+/// Whether a cell has so many points, where they are given.
+#[inline(always)]
+pub(crate) fn is_kept(size: Option<usize>, ranks: &[u32]) -> bool
+    ensures { result ≡ is_kept size ranks.now }
+{
+    match size {
+        Some(size) => ranks.len() == size,
+        None => true,
+    }
 }
 
 /// An index behind a space.
@@ -158,6 +154,26 @@ fn left_index_bytes(block: &mut [u8], end: usize, first: u32, ranks: &[u32]) -> 
     at
 }
 
+/// The bytes of the indices of a cell of a file of version 5.1.
+#[inline(always)]
+fn left_index_longs(block: &mut [u8], end: usize, first: u32, ranks: &[u32]) -> usize
+    requires most { length ranks.now ≤ 4 }
+    requires below { All (λ r. first + r < 2 ^ 31) ranks.now }
+    requires room { 32 ≤ end }
+    requires within { end ≤ length block.old }
+    ensures written { drop result block.new
+        ≡ flat_map (long_bytes first) ranks.now ++ drop end block.old }
+    ensures at { result ≤ end }
+    ensures most { end ≤ result + 32 }
+{
+    let mut at = end;
+    let n = ranks.len();
+    for k in 0..n {
+        at = left_long(block, at, &i64::from(first + ranks[n - 1 - k]));
+    }
+    at
+}
+
 /// The line of a cell.
 #[inline(always)]
 fn left_cell_words(block: &mut [u8], end: usize, first: u32, ranks: &[u32]) -> usize
@@ -165,7 +181,7 @@ fn left_cell_words(block: &mut [u8], end: usize, first: u32, ranks: &[u32]) -> u
     requires room { 128 ≤ end }
     requires within { end ≤ length block.old }
     ensures written { drop result block.new
-        ≡ cell_row false first ranks.now ++ drop end block.old }
+        ≡ cell_row false false first ranks.now ++ drop end block.old }
     ensures at { result ≤ end }
     ensures most { end ≤ result + 128 }
 {
@@ -181,7 +197,7 @@ fn left_cell_bytes(block: &mut [u8], end: usize, first: u32, ranks: &[u32]) -> u
     requires room { 128 ≤ end }
     requires within { end ≤ length block.old }
     ensures written { drop result block.new
-        ≡ cell_row true first ranks.now ++ drop end block.old }
+        ≡ cell_row false true first ranks.now ++ drop end block.old }
     ensures at { result ≤ end }
     ensures most { end ≤ result + 128 }
 {
@@ -189,31 +205,47 @@ fn left_cell_bytes(block: &mut [u8], end: usize, first: u32, ranks: &[u32]) -> u
     left_int(block, indices, ranks.len() as u32)
 }
 
-/// The row of a cell.
+/// The line of a cell's indices.
 #[inline(always)]
-fn left_cell(block: &mut [u8], end: usize, binary: bool, first: u32, ranks: &[u32]) -> usize
+fn left_line(block: &mut [u8], end: usize, first: u32, ranks: &[u32]) -> usize
     requires movable { IsMovable first ranks.now }
     requires room { 128 ≤ end }
     requires within { end ≤ length block.old }
     ensures written { drop result block.new
-        ≡ cell_row binary first ranks.now ++ drop end block.old }
+        ≡ cell_row true false first ranks.now ++ drop end block.old }
     ensures at { result ≤ end }
     ensures most { end ≤ result + 128 }
 {
-    if binary {
-        left_cell_bytes(block, end, first, ranks)
+    let newline = left_byte(block, end, b'\n');
+    let indices = left_index_words(block, newline, first, ranks);
+    if ranks.is_empty() {
+        indices
     } else {
-        left_cell_words(block, end, first, ranks)
+        indices + 1
     }
 }
 
-/// The row of a cell, where it has so many points.
+/// The bytes of a cell's indices.
 #[inline(always)]
-fn left_of_size(
+fn left_longs(block: &mut [u8], end: usize, first: u32, ranks: &[u32]) -> usize
+    requires movable { IsMovable first ranks.now }
+    requires room { 128 ≤ end }
+    requires within { end ≤ length block.old }
+    ensures written { drop result block.new
+        ≡ cell_row true true first ranks.now ++ drop end block.old }
+    ensures at { result ≤ end }
+    ensures most { end ≤ result + 128 }
+{
+    left_index_longs(block, end, first, ranks)
+}
+
+/// The row of a cell.
+#[inline(always)]
+fn left_cell(
     block: &mut [u8],
     end: usize,
+    later: bool,
     binary: bool,
-    size: usize,
     first: u32,
     ranks: &[u32],
 ) -> usize
@@ -221,14 +253,15 @@ fn left_of_size(
     requires room { 128 ≤ end }
     requires within { end ≤ length block.old }
     ensures written { drop result block.new
-        ≡ row_of_size size binary first ranks.now ++ drop end block.old }
+        ≡ cell_row later binary first ranks.now ++ drop end block.old }
     ensures at { result ≤ end }
     ensures most { end ≤ result + 128 }
 {
-    if ranks.len() == size {
-        left_cell(block, end, binary, first, ranks)
-    } else {
-        end
+    match (later, binary) {
+        (false, false) => left_cell_words(block, end, first, ranks),
+        (false, true) => left_cell_bytes(block, end, first, ranks),
+        (true, false) => left_line(block, end, first, ranks),
+        (true, true) => left_longs(block, end, first, ranks),
     }
 }
 

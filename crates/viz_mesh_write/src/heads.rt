@@ -3,19 +3,22 @@
 ghost use Rattle.std.specs.Prelude.{◌≡◌, ◌++◌, OnOk};
 ghost use Rattle.viz_image_write.specs.ImageText.{form_line};
 ghost use Rattle.viz_mesh_write.specs.MeshText.{title_lines, dataset_line, points_line};
-ghost use Rattle.viz_mesh_write.specs.MeshText.{section_line, types_line, scalars_head};
+ghost use Rattle.viz_mesh_write.specs.MeshText.{types_line, scalars_head};
+ghost use Rattle.viz_mesh_write.specs.Sections.{section_line, offsets_line, connectivity_line};
 
 use crate::numbers::put_count;
 use crate::target::Target;
 use std::alloc::AllocError;
+use viz_image_write::put_version;
 
 /// The version, and the title with the number of places.
-pub(crate) fn put_title(text: &mut Vec<u8>, digits: u8) -> Result<(), AllocError>
-    ensures { OnOk result (text.new.items ≡ text.old.items ++ title_lines digits) }
+pub(crate) fn put_title(text: &mut Vec<u8>, later: bool, digits: u8) -> Result<(), AllocError>
+    ensures { OnOk result (text.new.items ≡ text.old.items ++ title_lines later digits) }
 {
-    text.extend_from_slice(b"# vtk DataFile Version 3.0\nvizrun fixed 10^-")?;
+    put_version(text, later)?;
+    text.extend_from_slice(b"vizrun fixed 10^-")?;
     put_count(text, digits as u64)?;
-    text.extend_from_slice(b"\n")?;
+    text.push(b'\n')?;
     Ok(())
 }
 
@@ -56,7 +59,7 @@ fn make_points_line(line: &mut Vec<u8>, n: u64) -> Result<(), AllocError>
 }
 
 /// The keyword of a section, the number of its cells and of all their numbers, on a line.
-#[tactic(auto, unfolding(crate::specs::MeshText::section_line))]
+#[tactic(auto, unfolding(crate::specs::Sections::section_line))]
 fn make_section_line(
     line: &mut Vec<u8>,
     keyword: &[u8],
@@ -71,6 +74,44 @@ fn make_section_line(
     line.push(b' ')?;
     put_count(line, size)?;
     line.push(b'\n')?;
+    Ok(())
+}
+
+/// Puts the line in front of offsets.
+pub(crate) fn put_offsets_line<T: Target>(text: &mut T) -> Result<(), AllocError>
+    ensures { OnOk result (T.text text.new ≡ T.text text.old ++ offsets_line) }
+{
+    let mut line = text.line();
+    make_offsets_line(&mut line)?;
+    text.put(line)?;
+    Ok(())
+}
+
+/// Puts the line in front of indices.
+pub(crate) fn put_connectivity_line<T: Target>(text: &mut T) -> Result<(), AllocError>
+    ensures { OnOk result (T.text text.new ≡ T.text text.old ++ connectivity_line) }
+{
+    let mut line = text.line();
+    make_connectivity_line(&mut line)?;
+    text.put(line)?;
+    Ok(())
+}
+
+/// The line in front of offsets.
+#[tactic(auto, unfolding(crate::specs::Sections::offsets_line))]
+fn make_offsets_line(line: &mut Vec<u8>) -> Result<(), AllocError>
+    ensures { OnOk result (line.new.items ≡ line.old.items ++ offsets_line) }
+{
+    line.extend_from_slice(b"OFFSETS vtktypeint64\n")?;
+    Ok(())
+}
+
+/// The line in front of indices.
+#[tactic(auto, unfolding(crate::specs::Sections::connectivity_line))]
+fn make_connectivity_line(line: &mut Vec<u8>) -> Result<(), AllocError>
+    ensures { OnOk result (line.new.items ≡ line.old.items ++ connectivity_line) }
+{
+    line.extend_from_slice(b"CONNECTIVITY vtktypeint64\n")?;
     Ok(())
 }
 

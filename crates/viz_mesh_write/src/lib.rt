@@ -3,8 +3,8 @@
 //! Contract: `write_mesh` gives the text of the definition, or the refusal that it names;
 //! `write_owned_mesh` gives the same, and gives the mesh up on the way; `write_mesh_by_workers`
 //! gives it in parts, whatever the number of workers. There is no other writer of
-//! meshes, surfaces among them. Definitions: `specs/MeshText.antt`, `specs/Cells.antt`,
-//! `specs/Fits.antt`; the rule is that of docs/FORMATS.md, "Written meshes".
+//! meshes, surfaces among them. Definitions: `specs/MeshText.antt`, `specs/Sections.antt`,
+//! `specs/Cells.antt`, `specs/Fits.antt`; the rule is that of docs/FORMATS.md, "Written meshes".
 #![tactic(auto)]
 
 mod by_workers;
@@ -23,6 +23,7 @@ mod point_rows;
 mod points;
 mod sections;
 mod sheet_cells;
+mod starts;
 mod straight;
 mod tally;
 mod target;

@@ -3,6 +3,7 @@
 ghost use Rattle.std.specs.Prelude.{◌≡◌, ◌≢◌, ◌≤◌, ◌<◌, ◌^◌, ◌++◌, ◌↔◌, Err, OnOk, IfOk, IsErrOf};
 ghost use Rattle.std.specs.Prelude.{length};
 ghost use Rattle.viz_image_write.specs.ImageText.{form_line};
+ghost use Rattle.viz_image_write.specs.Version.{is_later};
 ghost use Rattle.viz_mesh_write.specs.Cells.{points_of, cells_of, has_tetrahedra};
 ghost use Rattle.viz_mesh_write.specs.Fits.{FitCounts, FitRows, FitNumbers};
 ghost use Rattle.viz_mesh_write.specs.MeshText.{title_lines, dataset_line, coordinates, scalars};
@@ -23,7 +24,7 @@ use viz_image_write::{Style, WriteStop};
 use viz_sheet::{Mesh, Sheet};
 
 /// The room for all lines in front of numbers.
-pub(crate) const ROOM_OF_HEADS: u64 = 512;
+pub(crate) const ROOM_OF_HEADS: u64 = 1024;
 
 /// The most bytes of a number of 64 bits in words, and of what stands behind it.
 pub(crate) const LONG_WORD: u64 = 21;
@@ -34,14 +35,14 @@ const INDEX_WORD: u64 = 11;
 /// The same of a type.
 const TYPE_WORD: u64 = 3;
 
-/// Room for the whole text.
-pub(crate) fn room(binary: bool, tally: &Tally) -> u64
+/// Room for the whole text: in a file of version 5.1 offsets stand in the place of counts.
+pub(crate) fn room(later: bool, binary: bool, tally: &Tally) -> u64
     requires { AreSmall tally.now }
 {
-    let (long, index, kind) = if binary {
-        (8, 4, 4)
-    } else {
-        (LONG_WORD, INDEX_WORD, TYPE_WORD)
+    let (long, index, kind) = match (binary, later) {
+        (true, true) => (8, 8, 4),
+        (true, false) => (8, 4, 4),
+        (false, _) => (LONG_WORD, INDEX_WORD, TYPE_WORD),
     };
     ROOM_OF_HEADS + 4 * long * tally.points + index * tally.size() + kind * tally.cells()
 }
@@ -49,6 +50,7 @@ pub(crate) fn room(binary: bool, tally: &Tally) -> u64
 /// The lines in front of the points.
 pub(crate) fn put_head<T: Target>(
     text: &mut T,
+    later: bool,
     binary: bool,
     digits: u8,
     tally: &Tally,
@@ -56,11 +58,11 @@ pub(crate) fn put_head<T: Target>(
 ) -> Result<(), AllocError>
     requires { IsReady sheets.now tally.now }
     ensures { OnOk result (T.text text.new ≡ T.text text.old
-        ++ (title_lines digits ++ form_line binary
+        ++ (title_lines later digits ++ form_line binary
         ++ dataset_line (has_tetrahedra (cells_of sheets.now)))) }
 {
     let mut line = text.line();
-    put_title(&mut line, digits)?;
+    put_title(&mut line, later, digits)?;
     put_form(&mut line, binary)?;
     put_dataset(&mut line, is_grid(tally, sheets))?;
     text.put(line)?;
@@ -132,6 +134,7 @@ pub(crate) fn put_scalars_text<T: Target>(
 /// The cells of sheets.
 fn put_sheets<T: Target>(
     text: &mut T,
+    later: bool,
     binary: bool,
     tally: &Tally,
     sheets: &[Sheet],
@@ -139,15 +142,16 @@ fn put_sheets<T: Target>(
     requires needs { T.needs }
     requires ready { IsReady sheets.now tally.now }
     ensures { OnOk result (T.text text.new
-        ≡ T.text text.old ++ cells_text binary (cells_of sheets.now)) }
+        ≡ T.text text.old ++ cells_text later binary (cells_of sheets.now)) }
 {
-    put_cells_text(text, binary, tally, sheets)
+    put_cells_text(text, later, binary, tally, sheets)
 }
 
 /// The whole text.
 #[tactic(auto, unfolding(crate::specs::MeshText::mesh_text))]
 pub(crate) fn put_mesh<T: Target>(
     text: &mut T,
+    later: bool,
     binary: bool,
     digits: u8,
     tally: &Tally,
@@ -157,14 +161,14 @@ pub(crate) fn put_mesh<T: Target>(
     requires digits { digits ≤ 9 }
     requires ready { IsReady sheets.now tally.now }
     ensures ok { OnOk result (T.text text.new
-        ≡ T.text text.old ++ mesh_text binary digits sheets.now) }
+        ≡ T.text text.old ++ mesh_text later binary digits sheets.now) }
     ensures fits { OnOk result (FitNumbers digits sheets.now) }
     ensures too_wide { IsErrOf result WriteStop.TooWide → ¬ FitNumbers digits sheets.now }
     ensures few { result ≢ Err WriteStop.TooMany }
 {
-    put_head(text, binary, digits, tally, sheets)?;
+    put_head(text, later, binary, digits, tally, sheets)?;
     put_points_text(text, binary, digits, tally.points, sheets)?;
-    put_sheets(text, binary, tally, sheets)?;
+    put_sheets(text, later, binary, tally, sheets)?;
     put_scalars_text(text, binary, tally.points, sheets)?;
     Ok(())
 }
@@ -177,29 +181,31 @@ fn mesh_bytes(
     sheets: &[Sheet],
 ) -> Result<Vec<u8>, WriteStop>
     requires ready { IsReady sheets.now tally.now }
-    ensures value { IfOk result (λ text.
-        text.items ≡ mesh_text style.now.binary style.now.digits sheets.now) }
+    ensures value { IfOk result (λ text. text.items
+        ≡ mesh_text (is_later style.now.version) style.now.binary style.now.digits sheets.now) }
     ensures fits { OnOk result (FitNumbers style.now.digits sheets.now) }
     ensures too_wide { IsErrOf result WriteStop.TooWide
         → ¬ FitNumbers style.now.digits sheets.now }
     ensures few { ¬ IsErrOf result WriteStop.TooMany }
 {
-    let mut made = Straight::with_room(alloc, room(style.binary, tally))?;
-    put_mesh(&mut made, style.binary, style.digits, tally, sheets)?;
+    let (later, binary) = (style.is_later(), style.binary);
+    let mut made = Straight::with_room(alloc, room(later, binary, tally))?;
+    put_mesh(&mut made, later, binary, style.digits, tally, sheets)?;
     Ok(made.text)
 }
 
 /// The text of a mesh: a grid where it has a tetrahedron, and else polydata. Points stand by sheet
-/// and then by name, and cells by the indices that their points have then. Coordinates are rounded
-/// down at the style's number of places and counted in the last one; scalars are rounded down.
+/// and then by name, and cells by the indices that their points have then: with their counts, or in
+/// a file of version 5.1 with offsets. Coordinates are rounded down at the style's number of places
+/// and counted in the last one; scalars are rounded down.
 ///
 /// # Errors
 ///
 /// `TooMany` exactly where the counts don't fit; `TooWide` only where they fit and a written number
 /// doesn't. Want of memory may come in place of `TooWide` and of a text, and never of `TooMany`.
 pub fn write_mesh(alloc: Global, mesh: &Mesh, style: &Style) -> Result<Bytes, WriteStop>
-    ensures value { IfOk result (λ text.
-        text ≡ mesh_text style.now.binary style.now.digits mesh.now) }
+    ensures value { IfOk result (λ text. text
+        ≡ mesh_text (is_later style.now.version) style.now.binary style.now.digits mesh.now) }
     ensures fits { OnOk result (FitCounts mesh.now × FitNumbers style.now.digits mesh.now) }
     ensures too_many { IsErrOf result WriteStop.TooMany ↔ ¬ FitCounts mesh.now }
     ensures too_wide { IsErrOf result WriteStop.TooWide

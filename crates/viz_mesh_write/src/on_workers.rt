@@ -44,6 +44,10 @@ impl<H: Threads + Sync> Target for OnWorkers<'_, H> {
 
     ghost needs = { IsSync H.row };
 
+    fn alloc(&self) -> Global {
+        self.alloc
+    }
+
     fn line(&self) -> Vec<u8> {
         Vec::new(self.alloc)
     }
@@ -80,10 +84,7 @@ impl<H: Threads + Sync> Target for OnWorkers<'_, H> {
         let (rt, alloc, workers) = (self.rt, self.alloc, self.workers);
         let text = &mut self.text;
         match what {
-            OfCells::Every(what) => {
-                put_rank_parts(rt, alloc, text, binary, what, first, ranks, workers)
-            }
-            OfCells::OfSize(what) => {
+            OfCells::Numbers(what) => {
                 put_rank_parts(rt, alloc, text, binary, what, first, ranks, workers)
             }
             OfCells::Types(what) => {

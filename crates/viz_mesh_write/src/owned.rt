@@ -2,6 +2,7 @@
 
 ghost use Rattle.std.specs.Prelude.{◌≡◌, ◌≢◌, ◌<◌, ◌^◌, ◌++◌, ◌↔◌, Err, OnOk, IfOk, IsErrOf};
 ghost use Rattle.std.specs.Prelude.{length};
+ghost use Rattle.viz_image_write.specs.Version.{is_later};
 ghost use Rattle.viz_mesh_write.specs.Cells.{points_of, cells_of};
 ghost use Rattle.viz_mesh_write.specs.Fits.{FitCounts, FitRows, FitNumbers};
 ghost use Rattle.viz_mesh_write.specs.MeshText.{scalars, cells_text, scalars_text, mesh_text};
@@ -43,6 +44,7 @@ fn scalars_bytes(
 fn put_own_sheets<T: Target>(
     alloc: Global,
     text: &mut T,
+    later: bool,
     binary: bool,
     tally: &Tally,
     sheets: Vec<Sheet>,
@@ -50,10 +52,10 @@ fn put_own_sheets<T: Target>(
     requires needs { T.needs }
     requires ready { IsReady sheets.items tally.now }
     ensures { OnOk result (T.text text.new
-        ≡ T.text text.old ++ cells_text binary (cells_of sheets.items)) }
+        ≡ T.text text.old ++ cells_text later binary (cells_of sheets.items)) }
 {
     let cells = all_own_cells(alloc, sheets)?;
-    put_cells_text(text, binary, tally, &cells)
+    put_cells_text(text, later, binary, tally, &cells)
 }
 
 /// The whole text of sheets that are given up on the way: their names and points before the text of
@@ -68,18 +70,18 @@ fn put_own_mesh<T: Target>(
 ) -> Result<(), WriteStop>
     requires needs { T.needs }
     requires ready { IsReady sheets.items tally.now }
-    ensures ok { OnOk result (T.text text.new
-        ≡ T.text text.old ++ mesh_text style.now.binary style.now.digits sheets.items) }
+    ensures ok { OnOk result (T.text text.new ≡ T.text text.old
+        ++ mesh_text (is_later style.now.version) style.now.binary style.now.digits sheets.items) }
     ensures fits { OnOk result (FitNumbers style.now.digits sheets.items) }
     ensures too_wide { IsErrOf result WriteStop.TooWide
         → ¬ FitNumbers style.now.digits sheets.items }
     ensures few { result ≢ Err WriteStop.TooMany }
 {
-    let Style { binary, digits } = *style;
-    put_head(text, binary, digits, tally, &sheets)?;
+    let (later, binary, digits) = (style.is_later(), style.binary, style.digits);
+    put_head(text, later, binary, digits, tally, &sheets)?;
     put_points_text(text, binary, digits, tally.points, &sheets)?;
     let scalars = scalars_bytes(alloc, binary, tally.points, &sheets)?;
-    put_own_sheets(alloc, text, binary, tally, sheets)?;
+    put_own_sheets(alloc, text, later, binary, tally, sheets)?;
     text.put(scalars)?;
     Ok(())
 }
@@ -92,14 +94,14 @@ fn own_mesh_bytes(
     sheets: Vec<Sheet>,
 ) -> Result<Vec<u8>, WriteStop>
     requires ready { IsReady sheets.items tally.now }
-    ensures value { IfOk result (λ text.
-        text.items ≡ mesh_text style.now.binary style.now.digits sheets.items) }
+    ensures value { IfOk result (λ text. text.items
+        ≡ mesh_text (is_later style.now.version) style.now.binary style.now.digits sheets.items) }
     ensures fits { OnOk result (FitNumbers style.now.digits sheets.items) }
     ensures too_wide { IsErrOf result WriteStop.TooWide
         → ¬ FitNumbers style.now.digits sheets.items }
     ensures few { ¬ IsErrOf result WriteStop.TooMany }
 {
-    let mut made = Straight::with_room(alloc, room(style.binary, tally))?;
+    let mut made = Straight::with_room(alloc, room(style.is_later(), style.binary, tally))?;
     put_own_mesh(alloc, &mut made, style, tally, sheets)?;
     Ok(made.text)
 }
@@ -112,8 +114,8 @@ fn own_mesh_bytes(
 ///
 /// Those of `write_mesh`.
 pub fn write_owned_mesh(alloc: Global, mesh: Mesh, style: &Style) -> Result<Bytes, WriteStop>
-    ensures value { IfOk result (λ text.
-        text ≡ mesh_text style.now.binary style.now.digits mesh) }
+    ensures value { IfOk result (λ text. text
+        ≡ mesh_text (is_later style.now.version) style.now.binary style.now.digits mesh) }
     ensures fits { OnOk result (FitCounts mesh × FitNumbers style.now.digits mesh) }
     ensures too_many { IsErrOf result WriteStop.TooMany ↔ ¬ FitCounts mesh }
     ensures too_wide { IsErrOf result WriteStop.TooWide

@@ -37,6 +37,10 @@ impl Target for Straight {
 
     ghost needs = { Unit {0} };
 
+    fn alloc(&self) -> Global {
+        self.alloc
+    }
+
     fn line(&self) -> Vec<u8> {
         Vec::new(self.alloc)
     }
@@ -67,8 +71,7 @@ impl Target for Straight {
     ) -> Result<(), AllocError> {
         let (text, block) = (&mut self.text, &mut self.block);
         match what {
-            OfCells::Every(what) => put_ranks(text, block, binary, what, first, ranks),
-            OfCells::OfSize(what) => put_ranks(text, block, binary, what, first, ranks),
+            OfCells::Numbers(what) => put_ranks(text, block, binary, what, first, ranks),
             OfCells::Types(what) => put_ranks(text, block, binary, what, first, ranks),
         }
     }

@@ -9,7 +9,7 @@ ghost use Rattle.viz_mesh_write.specs.Steps.Passes.{IsMovable, point_rows};
 
 use crate::cell_rows::OfCells;
 use crate::point_rows::OfPoints;
-use std::alloc::AllocError;
+use std::alloc::{AllocError, Global};
 use viz_image_write::WriteStop;
 use viz_sheet::{Places, Ranks};
 
@@ -19,6 +19,9 @@ pub(crate) trait Target {
 
     /// What rows are made by, as threads: that they may be shared.
     ghost needs: { Type 0 };
+
+    /// Where memory comes from.
+    fn alloc(&self) -> Global;
 
     /// A line that is to be put, still empty.
     fn line(&self) -> Vec<u8>

@@ -195,7 +195,7 @@ fn each_refusal_has_a_neighbour(rt: HostRuntime) -> Result<(), Fail> {
     makes(&rt, rt.alloc(), &mut story, &REFUSED)
 }
 
-const BAD_VALUES: [Row; 13] = [
+const BAD_VALUES: [Row; 17] = [
     // The parameter, then its value.
     (Set("no", Param::Op, 1), Some(Refusal::Unknown)),
     (SetText("src", Param::Op, "add"), Some(Refusal::NoParam)),
@@ -207,6 +207,10 @@ const BAD_VALUES: [Row; 13] = [
     (Set("src", Param::Unit, 9), None),
     (Set("box", Param::Bounds, 1), Some(Refusal::BadValue)),
     (Set("box", Param::Release, 1), None),
+    (Add(Kind::Writer, "out"), None),
+    (Set("out", Param::Version, 4), Some(Refusal::BadValue)),
+    (Set("out", Param::Version, 5), None),
+    (Set("box", Param::Version, 5), Some(Refusal::NoParam)),
     (Load("no", "bytes"), Some(Refusal::Unknown)),
     (Load("box", "bytes"), Some(Refusal::NoParam)),
     (Load("src", "bytes"), None),

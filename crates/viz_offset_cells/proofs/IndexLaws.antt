@@ -1,7 +1,6 @@
 -- The indices of the cells that are cut are those of points.
-use Rattle.std.proofs.Common.{◌≡◌, ℕ, ℤ, pos, negsuc, zero, suc, ◌-◌, ◌<◌, Bool, true, List, [], ◌∷◌, sym, subst, inl, inr}
-use Rattle.std.specs.Prelude.{unsigned_abs, drop}
-use Rattle.std.proofs.lemmas.Bool.{ltb-true, true≢false}
+use Rattle.std.proofs.Common.{ℕ, zero, suc, ◌-◌, ◌<◌, Bool, List, [], ◌∷◌, sym, subst, inl, inr}
+use Rattle.std.specs.Prelude.{drop}
 use Rattle.std.proofs.lemmas.List.Elements.{All-nil, All-cons, All-take, All-drop}
 use Rattle.viz_column.specs.declared.kind.Kind8.{Kind8}
 use Rattle.viz_lex.specs.Reading.{Reading}

@@ -1,3 +1,4 @@
+pub mod BlockLoops
 pub mod IndexLaws
 pub mod Loops
 pub mod OffsetLaws

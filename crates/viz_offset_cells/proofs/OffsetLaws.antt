@@ -1,12 +1,12 @@
 -- The readers of offsets and indices decide their rules.
-use Rattle.std.proofs.Common.{◌≡◌, ℕ, ◌^◌, Bool, not, ◌||◌, List, [], Result, Ok, Err, refl, sym, ap, if◌then◌else◌}
-use Rattle.std.specs.Prelude.{◌==◌, codes, unwrap_or, unsigned_abs}
+use Rattle.std.proofs.Common.{ℕ, Bool, not, List, [], Result, Ok, if◌then◌else◌}
+use Rattle.std.specs.Prelude.{codes, unwrap_or, unsigned_abs}
 use Rattle.viz_column.specs.declared.kind.Kind8.{Kind8}
 use Rattle.viz_column.specs.declared.kind.Kind8.TheVariants.{U8}
 use Rattle.viz_column.specs.Kinds.{size_of, fits}
 use Rattle.viz_column.specs.Bytes.{number_in}
 use Rattle.viz_lex.specs.declared.fault.FileFault.{FileFault}
-use Rattle.viz_lex.specs.declared.fault.FileKind.TheVariants.{Keyword, ValueRange, Count, Index, TooMany, Unsupported}
+use Rattle.viz_lex.specs.declared.fault.FileKind.TheVariants.{Keyword, ValueRange, Count, Index, Unsupported}
 use Rattle.viz_lex.specs.Reading.{Reading, ◌>>=◌}
 use Rattle.viz_lex.specs.Steps.{has, due_word, due_number, keyword_at}
 use Rattle.viz_lex.specs.Rules.{gives, Decides}
@@ -17,7 +17,7 @@ use Rattle.viz_lex.proofs.KnownLemmas.{decides-times_knowing}
 use Rattle.viz_lex.proofs.ItemLemmas.{decides-word, decides-number, decides-keyword}
 use Rattle.viz_lex.proofs.PassRules.{decides-block}
 use Rattle.viz_attr.specs.Types.{is_left_out_type}
-use Rattle.viz_attr.specs.Counts.{is_number, is_at_least, is_below, count_from}
+use Rattle.viz_attr.specs.Counts.{count_from}
 use Rattle.viz_attr.specs.Steps.{count_from_at}
 use Rattle.viz_attr.proofs.PartLaws.{decides-count_from}
 use Rattle.viz_counted_cells.specs.Sections.{here, section_start, is_index, section_size}

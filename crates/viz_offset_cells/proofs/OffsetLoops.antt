@@ -35,11 +35,11 @@ picked : (test a b : Bool) → test ≡ false → (if test then a else b) ≡ tr
 picked true a b e h = absurd (true≢false e)
 picked false a b e h = h
 
-some_before : (front : List ℕ) (last : ℕ) → (length (front ++ last ∷ []) == 0) ≡ false
+pub some_before : (front : List ℕ) (last : ℕ) → (length (front ++ last ∷ []) == 0) ≡ false
 some_before [] last = refl
 some_before (f ∷ fs) last = grind arith
 
-last_is : (front : List ℕ) (last : ℕ) → last_of (front ++ last ∷ []) ≡ last
+pub last_is : (front : List ℕ) (last : ℕ) → last_of (front ++ last ∷ []) ≡ last
 last_is front last =
     let long : length (front ++ last ∷ []) ≡ length front + 1 = length-append front (last ∷ []) in
     let place : length (front ++ last ∷ []) - 1 ≡ length front = omega (arith, long) in

@@ -1,3 +1,4 @@
+pub mod Blocks
 pub mod Offsets
 pub mod Runs
 pub mod Steps

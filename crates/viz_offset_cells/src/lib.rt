@@ -5,12 +5,16 @@
 //! version 5.1".
 #![tactic(auto)]
 
+mod blocks;
+mod cuts;
 mod kinds;
 mod laws;
 mod numbers;
 mod offsets;
 mod runs;
 mod sections;
+mod steps;
+mod wide_cells;
 
 pub use laws::{
     indices_are_those_of_points, offset_sections_are_decided, offset_sections_are_definite,

@@ -1,14 +1,18 @@
 //! The offsets at which the indices of a section are cut into cells.
 
-ghost use Rattle.std.specs.Prelude.{◌≡◌, ◌<◌, ◌^◌, [], IfOk};
+ghost use Rattle.std.specs.Prelude.{◌≡◌, ◌<◌, ◌^◌, [], true, IfOk};
 ghost use Rattle.viz_lex.specs.Reading.{Reads};
 ghost use Rattle.viz_lex.specs.Readers.{known_at};
 ghost use Rattle.viz_attr.specs.Reads.{ReadsUnlessMemory};
 ghost use Rattle.viz_offset_cells.specs.Offsets.{is_offset};
+ghost use Rattle.viz_offset_cells.specs.Blocks.{cuts_of};
 ghost use Rattle.viz_offset_cells.specs.Steps.{offset_at, offsets_at, AreAllCuts};
 
+use crate::blocks::pass;
+use crate::cuts::Cuts;
 use crate::kinds::index_type;
 use crate::numbers::typed_number;
+use crate::steps::next_step;
 use std::alloc::Global;
 use viz_attr::AttrStop;
 use viz_column::Kind8;
@@ -51,8 +55,8 @@ fn offset(
     Ok(n as u64)
 }
 
-/// So many offsets.
-fn all_offsets(
+/// So many offsets, one by one.
+fn listed_offsets(
     alloc: Global,
     lexer: &mut Lexer<'_>,
     binary: bool,
@@ -60,10 +64,8 @@ fn all_offsets(
     most: u64,
     indices: u64,
 ) -> Result<Vec<u64>, AttrStop>
-    requires none { most ≡ 0 → indices ≡ 0 }
-    ensures read { ReadsUnlessMemory (λ v. v.items) result lexer.new
+    ensures { ReadsUnlessMemory (λ v. v.items) result lexer.new
         (known_at (offset_at binary kind most indices) most [] lexer.old) }
-    ensures cuts { IfOk result (λ v. AreAllCuts v.items indices) }
 {
     let left = lexer.bytes().len() as u64 - lexer.place();
     let room = most.min(left);
@@ -74,6 +76,50 @@ fn all_offsets(
     Ok(offsets)
 }
 
+/// So many offsets in BINARY.
+fn block_offsets(
+    alloc: Global,
+    lexer: &mut Lexer<'_>,
+    kind: Kind8,
+    most: u64,
+    indices: u64,
+) -> Result<Cuts, AttrStop>
+    requires few { most < 2 ^ 31 }
+    requires within { indices < 2 ^ 31 }
+    ensures { ReadsUnlessMemory cuts_of result lexer.new
+        (known_at (offset_at true kind most indices) most [] lexer.old) }
+{
+    if let Some(step) = next_step(lexer, kind, most, indices) {
+        pass(lexer, 8 * most);
+        return Ok(Cuts::Steps(step, most - 1));
+    }
+    let offsets = listed_offsets(alloc, lexer, true, kind, most, indices)?;
+    Ok(Cuts::Listed(offsets))
+}
+
+/// So many offsets.
+fn all_offsets(
+    alloc: Global,
+    lexer: &mut Lexer<'_>,
+    binary: bool,
+    kind: Kind8,
+    most: u64,
+    indices: u64,
+) -> Result<Cuts, AttrStop>
+    requires few { most < 2 ^ 31 }
+    requires within { indices < 2 ^ 31 }
+    requires none { most ≡ 0 → indices ≡ 0 }
+    ensures read { ReadsUnlessMemory cuts_of result lexer.new
+        (known_at (offset_at binary kind most indices) most [] lexer.old) }
+    ensures cuts { IfOk result (λ c. AreAllCuts (cuts_of c) indices) }
+{
+    if binary {
+        return block_offsets(alloc, lexer, kind, most, indices);
+    }
+    let offsets = listed_offsets(alloc, lexer, binary, kind, most, indices)?;
+    Ok(Cuts::Listed(offsets))
+}
+
 /// OFFSETS type, and so many offsets into so many indices.
 #[tactic(auto, unfolding(crate::specs::Steps::offsets_at))]
 pub(crate) fn offsets(
@@ -82,11 +128,13 @@ pub(crate) fn offsets(
     binary: bool,
     most: u64,
     indices: u64,
-) -> Result<Vec<u64>, AttrStop>
+) -> Result<Cuts, AttrStop>
+    requires few { most < 2 ^ 31 }
+    requires within { indices < 2 ^ 31 }
     requires none { most ≡ 0 → indices ≡ 0 }
-    ensures read { ReadsUnlessMemory (λ v. v.items) result lexer.new
+    ensures read { ReadsUnlessMemory cuts_of result lexer.new
         (offsets_at binary most indices lexer.old) }
-    ensures cuts { IfOk result (λ v. AreAllCuts v.items indices) }
+    ensures cuts { IfOk result (λ c. AreAllCuts (cuts_of c) indices) }
 {
     lexer.due_keyword(b"OFFSETS")?;
     let kind = index_type(lexer)?;

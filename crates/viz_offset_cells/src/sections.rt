@@ -26,6 +26,7 @@ fn cut_cells(
 ) -> Result<CellSection, AttrStop>
     requires few { points < 2 ^ 31 }
     requires within { indices < 2 ^ 31 }
+    requires offsets { most < 2 ^ 31 }
     requires none { most ≡ 0 → indices ≡ 0 }
     ensures { ReadsUnlessMemory section_of result lexer.new
         (cut_cells_at binary points most indices lexer.old) }
@@ -33,8 +34,8 @@ fn cut_cells(
     let cuts = offsets(alloc, lexer, binary, most, indices)?;
     let numbers = connectivity(alloc, lexer, binary, points, &cuts, indices)?;
     Ok(CellSection {
-        count: (cuts.len() as u64).saturating_sub(1),
-        numbers: CellNumbers::of(CellArrays::Mixed(numbers)),
+        count: cuts.cells(),
+        numbers,
     })
 }
 
@@ -57,6 +58,7 @@ fn any_cells(
 ) -> Result<CellSection, AttrStop>
     requires few { points < 2 ^ 31 }
     requires within { indices < 2 ^ 31 }
+    requires offsets { most < 2 ^ 31 }
     requires none { most ≡ 0 → indices ≡ 0 }
     ensures { ReadsUnlessMemory section_of result lexer.new
         (any_cells_at binary points most indices lexer.old) }

@@ -62,7 +62,7 @@ const ENTRIES: [Row; 14] = [
     (b"4294967295 1 add file a\nend 1\n", None),
 ];
 
-const EDITS: [Row; 6] = [
+const EDITS: [Row; 8] = [
     (
         b"1 1 add file a\n1 2 add file a\n1 x\n",
         Some((3, ScriptRefusal::Edit)),
@@ -78,6 +78,11 @@ const EDITS: [Row; 6] = [
         Some((3, ScriptRefusal::Edit)),
     ),
     (b"1 1 add file a\n1 2 set a unit 9\nend 2\n", None),
+    (
+        b"1 1 add writer a\n1 2 set a version 4\n",
+        Some((3, ScriptRefusal::Edit)),
+    ),
+    (b"1 1 add writer a\n1 2 set a version 5\nend 2\n", None),
 ];
 
 // A load of ten bytes that holds the last line of another journal.
@@ -147,9 +152,13 @@ const CONTOUR: &[u8] = b"vizrun journal 1\n1 1 add file src\n1 2 load src 8\na\n
     2 1 set iso levels -9223372036854775808 10\n2 2 set src array *\n1 6 disconnect iso 1\n\
     1 7 remove src\nend 9\n";
 
+const WRITER: &[u8] = b"vizrun journal 1\n1 1 add writer out\n1 2 set out version 5\n\
+    1 3 set out digits 6\n1 4 set out form binary\n1 5 set out version 3\nend 5\n";
+
 #[test]
 fn what_is_read_is_written_again(rt: HostRuntime) -> Result<(), Fail> {
-    is_again(&rt, rt.alloc(), CONTOUR)
+    is_again(&rt, rt.alloc(), CONTOUR)?;
+    is_again(&rt, rt.alloc(), WRITER)
 }
 
 fn word(text: &[u8]) -> Result<Word, Fail> {

@@ -1,15 +1,17 @@
 -- What one pass over the sheets writes.
 use Rattle.std.specs.Prelude.{ℕ, ◌+◌, ◌^◌, ◌<◌, ◌==◌, ◌≤◌, ℤ, pos, Bool, List, [], ◌∷◌, ◌++◌}
-use Rattle.std.specs.Prelude.{length, All, if◌then◌else◌}
+use Rattle.std.specs.Prelude.{length, All, Option, Some, None, true, false, if◌then◌else◌}
 use Rattle.std.specs.List.{flat_map}
 use Rattle.std.specs.Fmt.{decimal}
 use Rattle.viz_fraction.specs.Points.{Point}
+use Rattle.viz_column.specs.declared.kind.Kind8.{Kind8}
 use Rattle.viz_column.specs.declared.kind.Kind8.TheVariants.{I32, I64}
 use Rattle.viz_column.specs.Bytes.{bytes_of}
-use Rattle.viz_mesh_write.specs.Cells.{moved}
+use Rattle.viz_mesh_write.specs.Cells.{moved, of_size}
 use Rattle.viz_mesh_write.specs.Rows.{row_of}
 use Rattle.viz_mesh_write.specs.Fits.{FitsRow}
-use Rattle.viz_mesh_write.specs.MeshText.{cell_numbers, type_of}
+use Rattle.viz_mesh_write.specs.Sections.{cell_numbers, indices_of}
+use Rattle.viz_mesh_write.specs.MeshText.{type_of}
 use Rattle.viz_mesh_write.specs.Steps.SheetCells.{CellsData}
 
 -- the written numbers of points, a row for each
@@ -37,13 +39,39 @@ index_text first r = 32 ∷ decimal (first + r)
 abbrev pub index_bytes : ℕ → ℕ → List ℕ
 index_bytes first r = bytes_of I32 (pos (first + r))
 
--- the row of a cell by ranks, with so many points in front
-abbrev pub cell_row : Bool → ℕ → List ℕ → List ℕ
-cell_row binary first cell = row_of binary I32 (cell_numbers (moved first cell))
+-- the bytes of an index of a file of version 5.1
+abbrev pub long_bytes : ℕ → ℕ → List ℕ
+long_bytes first r = bytes_of I64 (pos (first + r))
 
--- the same where the cell has so many points
-abbrev pub row_of_size : ℕ → Bool → ℕ → List ℕ → List ℕ
-row_of_size size binary first cell = if length cell == size then cell_row binary first cell else []
+-- the type of the numbers of a section, by whether its file is of version 5.1
+abbrev pub kind_of : Bool → Kind8
+kind_of true = I64
+kind_of false = I32
+
+-- the numbers of a cell in a section, by the same
+abbrev pub numbers_of : Bool → List ℕ → List ℤ
+numbers_of true = indices_of
+numbers_of false = cell_numbers
+
+-- the row of a cell by ranks, with so many points in front
+abbrev pub cell_row : Bool → Bool → ℕ → List ℕ → List ℕ
+cell_row later binary first cell =
+    row_of binary (kind_of later) (numbers_of later (moved first cell))
+
+-- whether a cell has so many points, where they are given
+abbrev pub is_kept : Option ℕ → List ℕ → Bool
+is_kept None cell = true
+is_kept (Some n) cell = length cell == n
+
+-- the cells of so many points, where they are given, and else all
+abbrev pub kept : Option ℕ → List (List ℕ) → List (List ℕ)
+kept None cells = cells
+kept (Some n) cells = of_size n cells
+
+-- the row of a cell that is kept
+abbrev pub kept_row : Option ℕ → Bool → Bool → ℕ → List ℕ → List ℕ
+kept_row size later binary first cell =
+    if is_kept size cell then cell_row later binary first cell else []
 
 -- the row of the type of a cell
 abbrev pub type_row : Bool → ℕ → List ℕ → List ℕ

@@ -4,7 +4,7 @@ use Rattle.viz_mesh_read.proofs.pieces.lines_in.Goals as goal
 
 pub loop-preserved : goal.loop-preserved
 loop-preserved c =
-    cells-on lines_of c.args.count c.loop.counter c.loop.pieces.items c.push_lines.new.pieces.items c.loop.left.now c.first_indices.result.now c.behind_first-left.result.now _ c.loop-test.true c.first_indices.ensures c.behind_first-left.ensures c.in_ok-push_lines.ensures c.loop.invariant
+    cells-on lines_of c.args.count c.loop.counter c.loop.pieces.items c.push_lines.new.pieces.items c.loop.left.now c.first_indices.result.now c.behind_first-left.result.now _ c.loop-test.true c.first_indices.ensures.value c.behind_first-left.ensures.value c.in_ok-push_lines.ensures c.loop.invariant
 
 pub returns : goal.returns
 returns c = cells-done lines_of c.args.count c.loop.counter c.loop.pieces.items c.loop.left.now _ c.loop-test.false c.loop.invariant

@@ -15,4 +15,4 @@ put_cells_text-requires-clause-ready g c =
 
 pub returns : goal.returns
 returns g c =
-    subst (λ (cells : List (List ℕ)). OnOk c.put_cells_text.result ((g.T.Target.text c.put_cells_text.new.text) ≡ (g.T.Target.text c.args.text.now) ++ cells_text c.args.binary cells)) (cells_again c.args.sheets.now) c.put_cells_text.ensures
+    subst (λ (cells : List (List ℕ)). OnOk c.put_cells_text.result ((g.T.Target.text c.put_cells_text.new.text) ≡ (g.T.Target.text c.args.text.now) ++ cells_text c.args.later c.args.binary cells)) (cells_again c.args.sheets.now) c.put_cells_text.ensures

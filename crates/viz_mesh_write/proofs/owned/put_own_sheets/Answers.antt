@@ -18,4 +18,4 @@ put_cells_text-requires-clause-ready g c =
 pub returns : goal.returns
 returns g c =
     let same = c.deref.ensures.value ∙ c.in_ok-cells.ensures in
-    subst (λ (cells : List (List ℕ)). OnOk c.put_cells_text.result ((g.T.Target.text c.put_cells_text.new.text) ≡ (g.T.Target.text c.args.text.now) ++ cells_text c.args.binary cells)) (own_cells_again c.deref.result.now c.args.sheets.items same) c.put_cells_text.ensures
+    subst (λ (cells : List (List ℕ)). OnOk c.put_cells_text.result ((g.T.Target.text c.put_cells_text.new.text) ≡ (g.T.Target.text c.args.text.now) ++ cells_text c.args.later c.args.binary cells)) (own_cells_again c.deref.result.now c.args.sheets.items same) c.put_cells_text.ensures

@@ -1,18 +1,9 @@
-use Rattle.std.proofs.Common.{◌≡◌, ◌++◌, ◌∷◌, [], Ok, arith}
-use Rattle.std.proofs.lemmas.Grind.{common_steps}
-use Rattle.viz_offset_cells.specs.Steps.{offset_at}
-use Rattle.viz_offset_cells.proofs.Loops.{known-on, known-done}
 use Rattle.viz_offset_cells.proofs.OffsetLoops.{known-cuts}
+use Rattle.viz_offset_cells.proofs.BlockLoops.{cuts-read}
 use Rattle.viz_offset_cells.proofs.offsets.all_offsets.Goals as goal
 
-pub loop-preserved : goal.loop-preserved
-loop-preserved c =
-    let n = c.in_ok-offset.field-0 in
-    let pushed : c.push.new.self.items ≡ c.loop.offsets.items ++ n ∷ [] = search (arith, common_steps) in
-    let read : offset_at c.args.binary c.args.kind c.args.most c.args.indices c.loop.offsets.items c.loop.lexer ≡ Ok (n, c.offset.new.lexer) = search (arith, common_steps) in
-    rw pushed (known-on (offset_at c.args.binary c.args.kind c.args.most c.args.indices) c.args.most c.loop.counter c.loop.offsets.items c.loop.lexer n c.offset.new.lexer _ c.loop-test.true read c.loop.invariant)
+pub returns-then-binary-clause-cuts : goal.returns-then-binary-clause-cuts
+returns-then-binary-clause-cuts c = cuts-read _ c.args.kind c.args.most c.args.indices c.args.lexer.now c.block_offsets.new.lexer c.block_offsets.result c.requires.none c.block_offsets.ensures
 
 pub returns-clause-cuts : goal.returns-clause-cuts
-returns-clause-cuts c =
-    known-cuts c.args.binary c.args.kind c.args.most c.args.indices c.args.lexer.now c.loop.lexer c.loop.offsets.items c.requires.none
-    (known-done (offset_at c.args.binary c.args.kind c.args.most c.args.indices) c.args.most c.loop.counter c.loop.offsets.items c.loop.lexer _ c.loop-test.false c.loop.invariant)
+returns-clause-cuts c = known-cuts c.args.binary c.args.kind c.args.most c.args.indices c.args.lexer.now c.listed_offsets.new.lexer c.in_ok-offsets.offsets.items c.requires.none c.in_ok-offsets.ensures

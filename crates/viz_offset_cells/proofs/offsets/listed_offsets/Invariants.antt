@@ -1,7 +1,7 @@
 use Rattle.std.proofs.Common.{◌≡◌, ◌-◌, []}
 use Rattle.viz_lex.specs.Readers.{known_at}
 use Rattle.viz_offset_cells.specs.Steps.{offset_at}
-use Rattle.viz_offset_cells.proofs.offsets.all_offsets.Given as goal
+use Rattle.viz_offset_cells.proofs.offsets.listed_offsets.Given as goal
 
 -- what comes of the offsets that are left is what comes of all
 abbrev pub invariant-loop : goal.invariant-loop
