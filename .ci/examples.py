@@ -23,14 +23,16 @@ TOP = os.path.dirname(os.path.dirname(os.path.abspath(__file__)))
 PROGRAM = os.path.join(TOP, "crates/viz_cli/out/viz_cli")
 README, FILTERS, USING = "README.md", "docs/FILTERS.md", "docs/USING.md"
 FORMATS = "docs/FORMATS.md"
-# Lines that are shown and not typed: their first words, and why. A file that such a line writes is
-# shown behind it, where a later line reads it.
+# Lines that are shown and not typed: their first words, and why. No line that is typed reads a file
+# that such a line writes.
 NOT_TYPED = {
     "python3 docs/whole.py ": "it needs VTK and numpy, which the gate hasn't",
     "python3 docs/scaled.py ": "it needs VTK, which the gate hasn't",
-    "python3 docs/mesh42.py ": "it needs VTK and numpy, which the gate hasn't",
+    "python3 docs/mesh.py ": "it needs VTK and numpy, which the gate hasn't",
     "python3 docs/clip.py ": "it needs VTK and numpy, which the gate hasn't",
     "xvfb-run ": "it draws with VTK, which the gate hasn't",
+    "pvpython ": "it is ParaView's Python, which the gate hasn't",
+    "./vizrun once wavelet.vtk ": "it reads a file that ParaView has written",
 }
 # What is said of a kind, in this order; a kind has a line for each of its parameters.
 WORDS = ["Ports", "Parameter", "Makes", "Faults", "VTK", "Example"]

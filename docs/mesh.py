@@ -1,9 +1,9 @@
 """Simple cells at whole points, which vizrun reads (docs/USING.md).
 
-python3 mesh42.py IN OUT SCALE [ARRAY FACTOR]
+python3 mesh.py IN OUT SCALE [ARRAY FACTOR]
 
-It multiplies points by SCALE, rounds, and writes version 4.2. With ARRAY the values of points of
-this name are multiplied by FACTOR, rounded, and written alone.
+It multiplies points by SCALE, rounds, and writes them. With ARRAY the values of points of this name
+are multiplied by FACTOR, rounded, and written alone.
 """
 import sys
 import numpy
@@ -31,10 +31,10 @@ if array:
         sys.exit("no array has this name")
     numbers = whole(mesh.GetPointData().GetArray(name), factor)
     numbers.SetName(name)
-    mesh.GetPointData().Initialize()
+    for arrays in (mesh.GetPointData(), mesh.GetCellData(), mesh.GetFieldData()):
+        arrays.Initialize()
     mesh.GetPointData().SetScalars(numbers)
 writer = vtk.vtkUnstructuredGridWriter()
 writer.SetInputData(mesh)
 writer.SetFileName(target)
-writer.SetFileVersion(42)
 writer.Write()
