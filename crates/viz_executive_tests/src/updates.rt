@@ -45,6 +45,7 @@ pub(crate) fn shape(pieces: u32, workers: u32) -> Option<Shape> {
 const STYLE: Style = Style {
     binary: false,
     digits: 9,
+    version: 3,
 };
 
 fn text_of(alloc: Global, dataset: &Dataset) -> Result<Bytes, WriteStop> {

@@ -27,8 +27,8 @@ use Rattle.viz_make.proofs.NetworkLemmas.{cone_is, iso_node, iso_tree, source_no
 -- the text of an image is read as nothing but the image
 abbrev pub OnlyRead : Type 0
 OnlyRead =
-    (binary : Bool) (unit : ℕ) (i : ImageData) (d : Dataset) → IsImage i → IsOrigin (corner i)
-    → Reads (image_text binary i) First unit d → d ≡ Image (moved i)
+    (later binary : Bool) (unit : ℕ) (i : ImageData) (d : Dataset) → IsImage i → IsOrigin (corner i)
+    → Reads (image_text later binary i) First unit d → d ≡ Image (moved i)
 
 -- what the rule makes is no fault
 own_made : (node : Node) (inputs : Inputs Dataset) (d : Dataset) (value : Result Dataset Cause) → DataRule node inputs value
@@ -81,5 +81,5 @@ contour_is only c net text d writable net_is text_is given =
     let there : IsScratch (network_with text) iso_id (Ok d) = subst (λ (n : Network). IsScratch n iso_id (Ok d)) net_is given in
     let made = iso_scratch text d (subst (λ t. IsScratchOf t (Ok d)) (cone_is text) there) in
     let reads : Reads (volume_text c) First 0 made.read = subst (λ (t : List ℕ). Reads t First 0 made.read) text_is made.reads in
-    let read : made.read ≡ Image (moved (image_of c)) = only false 0 (image_of c) made.read writable.image writable.origin reads in
+    let read : made.read ≡ Image (moved (image_of c)) = only false false 0 (image_of c) made.read writable.image writable.origin reads in
     made.is ∙ ap (λ e. Mesh (sections_of (contour_form middle ∷ []) (sheets_of e))) read

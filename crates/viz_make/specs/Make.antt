@@ -30,7 +30,7 @@ image_of c = volume c.number c.extent
 
 -- the text that is written
 abbrev pub volume_text : Make → List ℕ
-volume_text c = image_text false (image_of c)
+volume_text c = image_text false false (image_of c)
 
 -- the triangles of its contour at the middle, by edges
 abbrev pub contour_of : Make → List (List Edge)

@@ -18,6 +18,7 @@ use viz_image_write::{Style, WriteStop, write_image};
 const STYLE: Style = Style {
     binary: false,
     digits: 0,
+    version: 3,
 };
 
 /// The numbers of a made volume: its points, the sum of its values, the triangles of its contour,

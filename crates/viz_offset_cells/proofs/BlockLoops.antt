@@ -159,7 +159,7 @@ step-fits step most i offset left bytes lt few s =
 
 -- ---- cells
 
-index-next : (kind : Kind8) (points i : ℕ) (r : Reading) → size_of kind ≡ 8 → points < 2147483648 → 8 ≤ length (rest_of r) → big_number 8 (rest_of r) ≡ i → i < points → index_at true kind points r ≡ Ok (i, advanced r 8)
+pub index-next : (kind : Kind8) (points i : ℕ) (r : Reading) → size_of kind ≡ 8 → points < 2147483648 → 8 ≤ length (rest_of r) → big_number 8 (rest_of r) ≡ i → i < points → index_at true kind points r ≡ Ok (i, advanced r 8)
 unfolding index_at
 index-next kind points i r wide few room is below =
     let test : nat_lt i points ≡ true = lt-ltb i points below in

@@ -5,3 +5,4 @@ pub mod OffsetLaws
 pub mod OffsetLoops
 pub mod RunLaws
 pub mod Times
+pub mod WideRuns

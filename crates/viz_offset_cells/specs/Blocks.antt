@@ -4,11 +4,12 @@ use Rattle.std.specs.Prelude.{◌≡◌, ◌≤◌, ◌<◌, ℕ, zero, suc, ◌
 use Rattle.std.specs.Prelude.{drop, Ok}
 use Rattle.byteorder.specs.Endian.{big_number}
 use Rattle.viz_column.specs.declared.kind.Kind8.{Kind8}
+use Rattle.viz_column.specs.Kinds.{size_of}
 use Rattle.viz_lex.specs.Reading.{Reading, rest_of, advanced}
 use Rattle.viz_lex.specs.Readers.{known_at}
 use Rattle.viz_offset_cells.specs.declared.cuts.Cuts.{Cuts}
 use Rattle.viz_offset_cells.specs.declared.cuts.Cuts.TheVariants.{Steps, Listed}
-use Rattle.viz_offset_cells.specs.Steps.{offset_at, all_runs_at}
+use Rattle.viz_offset_cells.specs.Steps.{offset_at, run_at, runs_at, all_runs_at}
 
 -- so many offsets from the first on, each a step behind the one before
 abbrev pub steps_from : ℕ → ℕ → ℕ → List ℕ
@@ -43,6 +44,18 @@ abbrev pub AreCellsIn : {C : Type 0} → (C → List ℕ) → ℕ → ℕ → Li
 AreCellsIn list points size [] bytes = Unit {0}
 AreCellsIn list points size (cell ∷ cells) bytes =
     IsCellIn points size (list cell) bytes × AreCellsIn list points size cells (drop (8 * size) bytes)
+
+-- so many indices of points stand in front of the bytes, and these are the numbers with them
+abbrev pub IsRunIn : ℕ → ℕ → List ℕ → List ℕ → List ℕ → Type 0
+IsRunIn points count before numbers bytes =
+    (kind : Kind8) (r : Reading) → size_of kind ≡ 8 → bytes ≡ rest_of r
+    → run_at true kind points count before r ≡ Ok (numbers, advanced r (8 * count))
+
+-- cells between offsets stand in front of the bytes, and these are the numbers with them
+abbrev pub AreRunsIn : ℕ → List ℕ → ℕ → List ℕ → List ℕ → List ℕ → Type 0
+AreRunsIn points offsets indices before numbers bytes =
+    (kind : Kind8) (r : Reading) → size_of kind ≡ 8 → bytes ≡ rest_of r
+    → runs_at true kind points 0 offsets before r ≡ Ok (numbers, advanced r (8 * indices))
 
 -- so many offsets into so many indices are next, each a step behind the one before
 pub record AreStepsNext (kind : Kind8) (step most indices : ℕ) (r : Reading) : Type 0 where

@@ -15,6 +15,7 @@ mod runs;
 mod sections;
 mod steps;
 mod wide_cells;
+mod wide_runs;
 
 pub use laws::{
     indices_are_those_of_points, offset_sections_are_decided, offset_sections_are_definite,

@@ -10,6 +10,7 @@ ghost use Rattle.viz_offset_cells.specs.Steps.{AreAllCuts};
 
 use crate::blocks::{behind, rest};
 use crate::cuts::Cuts;
+use crate::wide_runs::next_runs;
 use byteorder::{BigEndian, ByteOrder};
 use std::alloc::{AllocError, Global};
 use viz_column::Kind8;
@@ -35,7 +36,7 @@ trait WideCell: Copy + Drop {
 
 /// The index in front of the bytes, where it is that of one of so many points.
 #[inline(always)]
-fn index_in(bytes: &[u8], points: u64) -> Option<u32>
+pub(crate) fn index_in(bytes: &[u8], points: u64) -> Option<u32>
     requires room { 8 ≤ length bytes.now }
     requires few { points < 2 ^ 31 }
     ensures value { IfSome result (λ i. big_number 8 bytes.now ≡ i) }
@@ -188,8 +189,8 @@ fn next_steps(
     }
 }
 
-/// The numbers of the cells between offsets, where all have three or four indices, which are next
-/// in 64 bits each.
+/// The numbers of the cells between offsets, where their indices are next in 64 bits each, and all
+/// have three or four of them or they have several sizes.
 pub(crate) fn next_cells(
     alloc: Global,
     lexer: &Lexer<'_>,
@@ -199,6 +200,7 @@ pub(crate) fn next_cells(
     indices: u64,
 ) -> Result<Option<CellNumbers>, AllocError>
     requires few { points < 2 ^ 31 }
+    requires within { indices < 2 ^ 31 }
     requires cuts { AreAllCuts (cuts_of cuts.now) indices }
     ensures { IfOk result (λ found. IfSome found (λ n.
         AreRunsNext kind points (cuts_of cuts.now) indices n.items lexer.now)) }
@@ -210,6 +212,6 @@ pub(crate) fn next_cells(
         Cuts::Steps(step, count) => {
             next_steps(alloc, lexer, kind, points, *step, *count, indices)
         }
-        Cuts::Listed(_) => Ok(None),
+        Cuts::Listed(offsets) => next_runs(alloc, lexer, kind, points, offsets, indices),
     }
 }

@@ -237,6 +237,17 @@ fn faults_in_blocks(rt: HostRuntime) -> Result<(), Fail> {
             FileKind::Truncated,
             137,
         ),
+        // cells of several sizes: an index of the last one
+        (
+            b"3 6\nOFFSETS vtktypeint64\n\x00\x00\x00\x00\x00\x00\x00\x00\x00\x00\x00\
+              \x00\x00\x00\x00\x02\x00\x00\x00\x00\x00\x00\x00\x06\n\
+              CONNECTIVITY vtktypeint64\n\x00\x00\x00\x00\x00\x00\x00\x00\x00\x00\x00\
+              \x00\x00\x00\x00\x01\x00\x00\x00\x00\x00\x00\x00\x03\x00\x00\x00\x00\x00\
+              \x00\x00\x02\x00\x00\x00\x00\x00\x00\x00\x01\x00\x00\x00\x00\x00\x00\x00\
+              \x04",
+            FileKind::Index,
+            116,
+        ),
     ] {
         let wanted = Some(FileFault { kind, place });
         assert_eq!(rt; fault(rt.alloc(), true, text), wanted, "{text:?}");

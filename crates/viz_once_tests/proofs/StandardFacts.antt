@@ -13,18 +13,19 @@ use Rattle.viz_fraction.specs.Points.{divisor_of, numbers}
 use Rattle.viz_kuhn.specs.Cubes.{cubes_of}
 use Rattle.viz_kuhn.specs.Kuhn.{rows}
 use Rattle.viz_image_write.specs.ImageText.{title_lines, form_line, dataset_line, dimensions_line, vector_line, origin_line, spacing_line, geometry_lines, point_data_line, array_line, table_line, header_lines, image_text}
+use Rattle.viz_image_write.specs.Version.{version_line}
 use Rattle.viz_meaning.specs.Section.{sections_of}
 use Rattle.viz_meaning.specs.Tetrahedra.{sheets_of}
 use Rattle.viz_meaning.specs.Threshold.{thresholded}
 use Rattle.viz_mesh_write.specs.Counts.{cells_written, points_written}
-use Rattle.viz_mesh_write.specs.MeshText.{title_lines as mesh_titles, dataset_line as mesh_line, points_line, points_text, scalars_head, section_line, section_text, parts_text, mesh_text}
+use Rattle.viz_mesh_write.specs.MeshText.{title_lines as mesh_titles, dataset_line as mesh_line, points_line, points_text, scalars_head, section_line, counted_section, parts_text, mesh_text}
 use Rattle.viz_node_meaning.specs.Data.{contour_forms}
-use Rattle.viz_scratch.specs.Written.{text_with}
+use Rattle.viz_scratch.specs.Written.{plain, text_with}
 use Rattle.viz_sheet.specs.Sheet.{SheetData}
 
 -- the text of a node that is no writer
 abbrev plain_text : Dataset → List ℕ
-plain_text = text_with (record { binary = false; digits = 3 })
+plain_text = text_with plain
 
 -- the contour of a dataset at one level
 abbrev contoured : ℤ → Dataset → Dataset
@@ -53,7 +54,7 @@ cube = record { x0 = 0; x1 = 1; y0 = 0; y1 = 1; z0 = 0; z1 = 1 }
 
 threshold_two_by_two : plain_text (Image (thresholded (pos 2) (pos 3) (unit_image square (pos 1 ∷ pos 2 ∷ pos 3 ∷ pos 4 ∷ []))))
     ≡ codes "# vtk DataFile Version 3.0\nvizrun image\nASCII\nDATASET STRUCTURED_POINTS\nDIMENSIONS 2 2 1\nORIGIN 0 0 0\nSPACING 1 1 1\nPOINT_DATA 4\nSCALARS scalars int 1\nLOOKUP_TABLE default\n0 2\n3 0\n"
-unfolding digits title_lines form_line dataset_line dimensions_line vector_line origin_line spacing_line geometry_lines point_data_line array_line table_line header_lines image_text
+unfolding digits version_line title_lines form_line dataset_line dimensions_line vector_line origin_line spacing_line geometry_lines point_data_line array_line table_line header_lines image_text
 threshold_two_by_two = refl
 
 -- a cube whose values are 0, but at its highest corner
@@ -72,7 +73,7 @@ first_contour_points = refl
 -- a level above all values
 empty_contour : plain_text (contoured (pos 10) (Image (cube_to (pos 9))))
     ≡ codes "# vtk DataFile Version 3.0\nvizrun fixed 10^-3\nASCII\nDATASET POLYDATA\nPOINTS 0 long\nPOLYGONS 0 0\n"
-unfolding digits rows cells_at gcd divisor_of form_line mesh_titles mesh_line points_line points_text section_line section_text parts_text mesh_text
+unfolding digits rows cells_at gcd divisor_of form_line mesh_titles mesh_line points_line points_text version_line section_line counted_section parts_text mesh_text
 empty_contour = refl
 
 -- a line along x from the scalar 0 to the scalar 2
@@ -86,7 +87,7 @@ line_to far = record {
 -- its middle
 middle_of_a_line : plain_text (contoured (pos 1) (Mesh (line_to 3 ∷ [])))
     ≡ codes "# vtk DataFile Version 3.0\nvizrun fixed 10^-3\nASCII\nDATASET POLYDATA\nPOINTS 1 long\n1500 0 0\nVERTICES 1 2\n1 0\nPOINT_DATA 1\nSCALARS scalars long 1\nLOOKUP_TABLE default\n1\n"
-unfolding digits cells_at fixed_of gcd divisor_of form_line scalars_head mesh_titles mesh_line points_line points_text section_line section_text parts_text mesh_text
+unfolding digits cells_at fixed_of gcd divisor_of form_line scalars_head mesh_titles mesh_line points_line points_text version_line section_line counted_section parts_text mesh_text
 middle_of_a_line = refl
 
 single_layer : cubes_of square ≡ 0

@@ -65,7 +65,7 @@ IsStripsOf (Mesh sheets) r =
 
 -- the text of a mesh, and how many cells and points it has
 pub record IsCellFile (sheets : List SheetData) (made : MadeFile) : Type 0 where
-  pub text_is : made.text ≡ mesh_text false 3 sheets
+  pub text_is : made.text ≡ mesh_text false false 3 sheets
   pub counts_are : made.counts ≡ Cells (length (cells_of sheets)) (length (points_of sheets))
 
 -- the file of a mesh, whose counts and then whose numbers have to fit

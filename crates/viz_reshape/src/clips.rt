@@ -55,6 +55,7 @@ fn written(alloc: Global, mesh: Mesh) -> Result<MadeFile, MakeStop>
     let style = Style {
         binary: false,
         digits: 3,
+        version: 3,
     };
     match write_owned_mesh(alloc, mesh, &style) {
         Ok(text) => Ok(MadeFile { text, counts }),

@@ -11,6 +11,7 @@ use Rattle.viz_image_write.specs.declared.stop.WriteStop.{WriteStop}
 use Rattle.viz_image_write.specs.declared.stop.WriteStop.TheVariants as write
 use Rattle.viz_image_write.specs.declared.style.Style.{Style as Writers}
 use Rattle.viz_image_write.specs.ImageText.{image_text}
+use Rattle.viz_image_write.specs.Version.{is_later}
 use Rattle.viz_mesh_write.specs.Counts.{cells_written, points_written}
 use Rattle.viz_mesh_write.specs.Fits.{FitCounts, FitNumbers}
 use Rattle.viz_mesh_write.specs.MeshText.{mesh_text}
@@ -25,23 +26,30 @@ use Rattle.viz_network.specs.Network.{Network}
 use Rattle.viz_node_meaning.specs.Information.{within}
 use Rattle.viz_node_meaning.specs.Scratch.{IsScratch}
 
--- whether numbers are written in binary, and at how many decimal places coordinates of meshes are
+-- whether the file is one of version 5.1, whether numbers are written in binary, and at how many
+-- decimal places coordinates of meshes are
 pub record Style : Type 0 where
+  pub later : Bool
   pub binary : Bool
   pub digits : ℕ
 
--- the style of a writer; all else is written in words, at three places
+-- words at three places, in a file of version 3.0
+abbrev pub plain : Style
+plain = record { later = false; binary = false; digits = 3 }
+
+-- the style of a writer; all else is written plainly
 abbrev pub style_with : Settings → Style
 style_with (settings.Writer binary digits version) = record {
+  later = is_later version;
   binary = binary;
   digits = within 0 9 digits;
 }
-style_with _ = record { binary = false; digits = 3 }
+style_with _ = plain
 
 -- the text of a dataset
 abbrev pub text_with : Style → Dataset → List ℕ
-text_with style (Image i) = image_text style.binary i
-text_with style (Mesh sheets) = mesh_text style.binary style.digits sheets
+text_with style (Image i) = image_text style.later style.binary i
+text_with style (Mesh sheets) = mesh_text style.later style.binary style.digits sheets
 
 -- the text hasn't too many points or cells: that of an image never has
 abbrev pub HasFewCounts : Dataset → Type 0
@@ -72,7 +80,7 @@ IsTextBehind style id (Ok d) r = IsTextOf style id d r
 
 -- the style of the node at the foot of a cone
 abbrev pub style_of : Option Tree → Style
-style_of None = record { binary = false; digits = 3 }
+style_of None = plain
 style_of (Some t) = style_with t.0.settings
 
 -- the file of a node: the text of its dataset, or the fault of it or of its writing
@@ -89,7 +97,11 @@ pub record HasCounts (net : Network) (id cells points : ℕ) : Type 0 where
 
 -- a style of the writers
 abbrev pub style_seen : Writers → Style
-style_seen s = record { binary = s.binary; digits = s.digits }
+style_seen s = record {
+  later = is_later s.version;
+  binary = s.binary;
+  digits = s.digits;
+}
 
 -- a stop of the writing at a node
 abbrev pub of_write : NodeId → WriteStop → Stop

@@ -1,6 +1,7 @@
 //! The written file of a node.
 
-ghost use Rattle.std.specs.Prelude.{◌≡◌, ◌<◌, IsSome};
+ghost use Rattle.std.specs.Prelude.{◌≡◌, ◌<◌, IsSome, IsTrue};
+ghost use Rattle.viz_image_write.specs.Version.{is_version, is_later};
 ghost use Rattle.viz_network.specs.Network.{node_of};
 ghost use Rattle.viz_node_meaning.specs.Information.{within};
 ghost use Rattle.viz_node_meaning.specs.Scratch.{Answers};
@@ -22,19 +23,33 @@ fn digits_with(digits: u8) -> u8
     if digits < 9 { digits } else { 9 }
 }
 
+// Version 5.1 where it is asked for, else 3.0.
+fn version_with(version: u8) -> u8
+    ensures value { is_later result ≡ is_later version }
+    ensures known { IsTrue (is_version result) }
+{
+    if version == 5 { 5 } else { 3 }
+}
+
 /// The style of a node's file: that of its parameters where it is a writer, else words at three
-/// places.
+/// places in a file of version 3.0.
 pub fn style_with(settings: &Settings) -> Style
-    ensures { style_seen result ≡ style_with settings.now }
+    ensures value { style_seen result ≡ style_with settings.now }
 {
     match settings {
-        Settings::Writer { binary, digits, .. } => Style {
+        Settings::Writer {
+            binary,
+            digits,
+            version,
+        } => Style {
             binary: *binary,
             digits: digits_with(*digits),
+            version: version_with(*version),
         },
         _ => Style {
             binary: false,
             digits: 3,
+            version: 3,
         },
     }
 }

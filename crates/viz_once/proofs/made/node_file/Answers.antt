@@ -15,14 +15,14 @@ pub returns-in_err-text : goal.returns-in_err-text
 returns-in_err-text c =
     let stop = c.in_err-text.field-0.0 in
     passed_on c.args.filter.now c.args.bytes stop c.from_residual-in_err-text.result c.from_residual-in_err-text.ensures.1
-    (unwritten c.args.filter.now c.args.bytes c.settings_of.ensures.numbers _ (c.style_with-style.ensures ∙ ap style_with c.settings_of.ensures.value)
+    (unwritten c.args.filter.now c.args.bytes c.settings_of.ensures.numbers _ (c.style_with-style.ensures.value ∙ ap style_with c.settings_of.ensures.value)
     c.in_ok-dataset.dataset c.in_ok-dataset.ensures.value stop c.in_err-text.ensures.value)
 
 pub returns-in-Some-Some : goal.returns-in-Some-Some
 returns-in-Some-Some c =
     let d = c.in_ok-dataset.dataset in
     record {
-      file = file_is c.args.filter.now c.args.bytes c.settings_of.ensures.numbers _ (c.style_with-style.ensures ∙ ap style_with c.settings_of.ensures.value)
+      file = file_is c.args.filter.now c.args.bytes c.settings_of.ensures.numbers _ (c.style_with-style.ensures.value ∙ ap style_with c.settings_of.ensures.value)
           d c.in_ok-dataset.ensures.value _ c.in_ok-text.ensures.value;
       counts = record {
         dataset = d;
