@@ -39,6 +39,8 @@ MOST = {"gyroid": 256, "sphere": 256, "noise": 128, "mesh": 128}
 TETRAHEDRA_MOST = {"gyroid": 128, "sphere": 128, "noise": 64}
 MOVED = bytes(it ^ 0x80 for it in range(256))
 HEAD = "# vtk DataFile Version 3.0\n%s\n%s\nDATASET %s\n"
+# The versions of a mesh, and whether its sections are cut at offsets.
+VERSIONS = [("version 3.0", False), ("version 5.1", True)]
 COLUMNS = ["What", "Size", "Triangles: ours; VTK's", "Ours", "VTK's", "Ratio: processor",
            "Ratio: wall", "Ratio: memory", "VTK's by tetrahedra: the same, and the ratios"]
 errors = []
@@ -118,26 +120,47 @@ def write_scalars(file, count, rows):
         file.write(highest_first(array("i", row)))
 
 
-def write_grid(path, side):
+def write_section(file, keyword, later, cells, size, rows):
+    """A section of so many cells of one size, which rows of their indices give one behind the
+    other: counted, as int, or as version 5.1 has it, in 64 bits."""
+    if not later:
+        file.write(b"\n%s %d %d\n" % (keyword, cells, (size + 1) * cells))
+        for row in rows:
+            counted = array("i", [size]) * (len(row) // size * (size + 1))
+            for at in range(size):
+                counted[at + 1::size + 1] = array("i", row[at::size])
+            file.write(highest_first(counted))
+        return
+    file.write(b"\n%s %d %d\nOFFSETS vtktypeint64\n" % (keyword, cells + 1, size * cells))
+    for first in range(0, cells + 1, 65536):
+        most = min(first + 65536, cells + 1)
+        file.write(highest_first(array("q", range(size * first, size * most, size))))
+    file.write(b"\nCONNECTIVITY vtktypeint64\n")
+    for row in rows:
+        file.write(highest_first(array("q", row)))
+
+
+def head_of(title, dataset, points, later):
+    """All in front of the numbers of so many points."""
+    head = HEAD.replace("Version 3.0", "Version 5.1") if later else HEAD
+    return ((head + "POINTS %d int\n") % (title, "BINARY", dataset, points)).encode()
+
+
+def write_grid(path, side, later=False):
     """Each cube between so many points along each axis as six tetrahedra, along its diagonal."""
     x, y, z = 1, side, side * side
     ways = [(x, y), (x, z), (y, x), (y, z), (z, x), (z, y)]
-    cube = [it for a, b in ways for it in (-1, 0, a, a + b, x + y + z)]
-    row = [it if it < 0 else it + at for at in range(side - 1) for it in cube]
+    cube = [it for a, b in ways for it in (0, a, a + b, x + y + z)]
+    row = [it + at for at in range(side - 1) for it in cube]
     cells = 6 * (side - 1) ** 3
     with open(path, "wb") as file:
-        head = HEAD + "POINTS %d int\n"
-        file.write((head % ("grid", "BINARY", "UNSTRUCTURED_GRID", side ** 3)).encode())
+        file.write(head_of("grid", "UNSTRUCTURED_GRID", side ** 3, later))
         for k in range(side):
             for j in range(side):
                 places = [it for i in range(side) for it in (i, j, k)]
                 file.write(highest_first(array("i", places)))
-        file.write(b"\nCELLS %d %d\n" % (cells, 5 * cells))
-        for k in range(side - 1):
-            for j in range(side - 1):
-                first = side * (j + side * k)
-                numbers = array("i", [4 if it < 0 else it + first for it in row])
-                file.write(highest_first(numbers))
+        firsts = (side * (j + side * k) for k in range(side - 1) for j in range(side - 1))
+        write_section(file, b"CELLS", later, cells, 4, ([it + at for it in row] for at in firsts))
         file.write(b"\nCELL_TYPES %d\n" % cells)
         for _ in range(side - 1):
             file.write(highest_first(array("i", [10]) * (cells // (side - 1))))
@@ -145,21 +168,18 @@ def write_grid(path, side):
                                         for k in range(side) for j in range(side)))
 
 
-def write_sheet(path, side):
+def write_sheet(path, side, later=False):
     """A wavy sheet of triangles, between so many points along two axes."""
     cells = 2 * (side - 1) ** 2
     row = [it for at in range(side - 1)
-           for it in (-1, at, at + 1, at + side + 1, -1, at, at + side + 1, at + side)]
+           for it in (at, at + 1, at + side + 1, at, at + side + 1, at + side)]
     with open(path, "wb") as file:
-        head = HEAD + "POINTS %d int\n"
-        file.write((head % ("sheet", "BINARY", "POLYDATA", side * side)).encode())
+        file.write(head_of("sheet", "POLYDATA", side * side, later))
         for j in range(side):
             places = [it for i in range(side) for it in (i, j, i * j % 97)]
             file.write(highest_first(array("i", places)))
-        file.write(b"\nPOLYGONS %d %d\n" % (cells, 4 * cells))
-        for j in range(side - 1):
-            numbers = array("i", [3 if it < 0 else it + side * j for it in row])
-            file.write(highest_first(numbers))
+        rows = ([it + side * j for it in row] for j in range(side - 1))
+        write_section(file, b"POLYGONS", later, cells, 3, rows)
         write_scalars(file, side * side, (range(j, j + side) for j in range(side)))
 
 
@@ -331,22 +351,32 @@ def rows_of_scripts(sides):
 
 
 def rows_of_meshes(sides):
-    """The reading of a grid and of polydata, by a contour that is empty, and a boundary."""
+    """The reading of a grid and of polydata in both versions, by a contour that is empty, the
+    boundary of a grid, and a grid that is written in both versions."""
     empty = ["ours.vtk", "contour", str(ABOVE_ALL)]
     for side in (it for it in sides if it <= MOST["mesh"]):
-        cells, points, grid = 6 * (side - 1) ** 3, side ** 3, "in_grid_%d.vtk" % side
-        begin = {"size": "{:,} points, {:,} tetrahedra".format(points, cells), "source": grid,
-                 "make": (write_grid, side)}
-        yield Row("reading a BINARY grid", ours=["once", grid, *empty], peer=["grid", grid],
-                  outcome="empty", cells=cells, **begin)
+        cells, points = 6 * (side - 1) ** 3, side ** 3
+        for name, later in VERSIONS:
+            grid = "in_grid_%d_%d.vtk" % (side, later)
+            begin = {"size": "{:,} points, {:,} tetrahedra".format(points, cells), "source": grid,
+                     "make": (write_grid, side, later)}
+            yield Row("reading a BINARY grid, %s" % name, ours=["once", grid, *empty],
+                      peer=["grid", grid], outcome="empty", cells=cells, **begin)
         yield Row("the boundary of a BINARY grid",
                   script=network(grid, [["boundary"]]) + ["1 update boundary ours.vtk 1 1"],
                   peer=["boundary", grid, "vtk.vtk"], outcome="equal", **begin)
+        for name, later in VERSIONS:
+            style = ["writer", "form binary", "version %d" % (5 if later else 3)]
+            yield Row("reading and writing a BINARY grid, %s" % name,
+                      script=network(grid, [style]) + ["1 update writer ours.vtk 1 1"], **begin)
     for side in (16 * it for it in sides if it <= MOST["mesh"]):
-        cells, points, sheet = 2 * (side - 1) ** 2, side ** 2, "in_sheet_%d.vtk" % side
-        yield Row("reading BINARY polydata", "{:,} points, {:,} triangles".format(points, cells),
-                  sheet, (write_sheet, side), ours=["once", sheet, *empty],
-                  peer=["polydata", sheet], outcome="empty", cells=cells)
+        cells, points = 2 * (side - 1) ** 2, side ** 2
+        for name, later in VERSIONS:
+            sheet = "in_sheet_%d_%d.vtk" % (side, later)
+            yield Row("reading BINARY polydata, %s" % name,
+                      "{:,} points, {:,} triangles".format(points, cells),
+                      sheet, (write_sheet, side, later), ours=["once", sheet, *empty],
+                      peer=["polydata", sheet], outcome="empty", cells=cells)
 
 
 def triangles(path):

@@ -233,20 +233,20 @@ fn what_is_set_is_read_back(rt: HostRuntime) -> Result<(), Fail> {
 
 #[test]
 fn a_writer_keeps_its_other_parameters(rt: HostRuntime) -> Result<(), Fail> {
-    let rows = [
-        (Param::Version, numbers(1, [5, 0, 0, 0, 0, 0, 0, 0])),
-        (Param::Digits, numbers(1, [6, 0, 0, 0, 0, 0, 0, 0])),
-        (Param::Style, text("binary")?),
-    ];
-    let mut settings = Settings::new(Kind::Writer);
-    for (param, value) in rows {
-        settings = settings.with(param, &value);
-    }
-    for (param, value) in rows {
-        assert_eq!(rt; settings.value(false, param), Some(value), "{param:?}");
-    }
+    let version = numbers(1, [5, 0, 0, 0, 0, 0, 0, 0]);
+    let digits = numbers(1, [6, 0, 0, 0, 0, 0, 0, 0]);
+    let style = text("binary")?;
+    let new = Settings::new(Kind::Writer);
+    let versioned = new.with(Param::Version, &version);
+    let placed = versioned.with(Param::Digits, &digits);
+    let all = placed.with(Param::Style, &style);
+    assert_eq!(rt; all.value(false, Param::Version), Some(version));
+    assert_eq!(rt; all.value(false, Param::Digits), Some(digits));
+    assert_eq!(rt; all.value(false, Param::Style), Some(style));
     let three = numbers(1, [3, 0, 0, 0, 0, 0, 0, 0]);
-    let again = settings.with(Param::Version, &three);
+    let again = all.with(Param::Version, &three);
     assert_eq!(rt; again.value(false, Param::Version), Some(three));
+    assert_eq!(rt; again.value(false, Param::Digits), Some(digits));
+    assert_eq!(rt; again.value(false, Param::Style), Some(style));
     Ok(())
 }

@@ -1,11 +1,11 @@
 -- Where cells begin is the offsets of the cells by indices.
-use Rattle.std.proofs.Common.{◌≡◌, get_or, ℕ, suc, pos, ◌+◌, ◌<◌, ◌≤◌, ◌^◌, ◌==◌, Bool, true, false, List, [], ◌∷◌, ◌++◌, length, map, drop, refl, sym, ap, ap₂, ◌∙◌, append-nil, append_assoc, arith}
+use Rattle.std.proofs.Common.{◌≡◌, get_or, ℕ, ◌+◌, ◌<◌, ◌≤◌, ◌^◌, ◌==◌, Bool, true, false, List, [], ◌∷◌, ◌++◌, length, map, drop, refl, sym, ap, ap₂, ◌∙◌, append-nil, append_assoc, arith}
 use Rattle.std.specs.Prelude.{cond, Option, Some, None}
 use Rattle.std.specs.List.{All, flat_map, filter}
 use Rattle.std.proofs.lemmas.List.{drop_more, drop_all, length-map}
 use Rattle.std.proofs.lemmas.List.Elements.{All-nil, All-cons, filter-append}
 use Rattle.viz_column.specs.declared.kind.Kind8.TheVariants.{I64}
-use Rattle.viz_mesh_write.specs.Cells.{moved, of_size}
+use Rattle.viz_mesh_write.specs.Cells.{moved}
 use Rattle.viz_mesh_write.specs.Rows.{row_of}
 use Rattle.viz_mesh_write.specs.Sections.{index_count, offsets_from, offsets_of, offset_row}
 use Rattle.viz_mesh_write.specs.Steps.Passes.{IsMovable, is_kept, kept, kept_row}

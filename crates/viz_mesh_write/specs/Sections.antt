@@ -53,7 +53,8 @@ offsets_line = codes "OFFSETS vtktypeint64\n"
 
 -- the offsets, a row for each
 unfoldable pub offsets_text : Bool → List (List ℕ) → List ℕ
-offsets_text binary cells = offsets_line ++ block_text binary I64 (map offset_row (offsets_of cells))
+offsets_text binary cells = offsets_line
+    ++ block_text binary I64 (map offset_row (offsets_of cells))
 
 -- the line in front of indices
 unfoldable pub connectivity_line : List ℕ

@@ -1,11 +1,11 @@
 //! The sections of cells, and their types.
 
-ghost use Rattle.std.specs.Prelude.{◌≡◌, ◌<◌, ◌*◌, ◌+◌, ◌^◌, ◌++◌, codes, OnOk, length, map};
+ghost use Rattle.std.specs.Prelude.{◌≡◌, ◌<◌, ◌*◌, ◌+◌, ◌^◌, ◌++◌, OnOk, length, map};
 ghost use Rattle.viz_mesh_write.specs.Cells.{of_size};
 ghost use Rattle.viz_mesh_write.specs.MeshText.{types_text, grid_text, some_section};
 ghost use Rattle.viz_mesh_write.specs.MeshText.{parts_text, poly_text, cells_text};
 ghost use Rattle.viz_mesh_write.specs.Rows.{block_end};
-ghost use Rattle.viz_mesh_write.specs.Sections.{section_line, index_count, offsets_text};
+ghost use Rattle.viz_mesh_write.specs.Sections.{index_count, offsets_text};
 ghost use Rattle.viz_mesh_write.specs.Sections.{offset_section, counted_section, section_text};
 ghost use Rattle.viz_mesh_write.specs.Steps.Kinds.{written_by};
 ghost use Rattle.viz_mesh_write.specs.Steps.Passes.{cell_rows, kept};

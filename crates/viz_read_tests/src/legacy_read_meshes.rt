@@ -185,8 +185,8 @@ fn faults_of_meshes(rt: HostRuntime) {
               0 0 0 1 0 0 0 1 0\n\
               CELLS 1 4\n\
               ",
-            FileKind::Sections51,
-            92,
+            FileKind::Truncated,
+            102,
         ),
         (
             b"# vtk DataFile Version 5.10\n\
@@ -195,10 +195,11 @@ fn faults_of_meshes(rt: HostRuntime) {
               DATASET POLYDATA\n\
               POINTS 3 int\n\
               0 0 0 1 0 0 0 1 0\n\
-              LINES 0 0\n\
+              LINES 2 2\n\
+              OFFSETS int 0 1\n\
               ",
-            FileKind::Sections51,
-            84,
+            FileKind::Count,
+            108,
         ),
         (
             b"# vtk DataFile Version 5.01\n\
@@ -207,10 +208,11 @@ fn faults_of_meshes(rt: HostRuntime) {
               DATASET POLYDATA\n\
               POINTS 3 int\n\
               0 0 0 1 0 0 0 1 0\n\
-              LINES 0 0\n\
+              LINES 2 2\n\
+              OFFSETS int 0 1\n\
               ",
-            FileKind::Sections51,
-            84,
+            FileKind::Count,
+            108,
         ),
         (
             b"# vtk DataFile Version 12.0\n\
@@ -219,10 +221,11 @@ fn faults_of_meshes(rt: HostRuntime) {
               DATASET POLYDATA\n\
               POINTS 3 int\n\
               0 0 0 1 0 0 0 1 0\n\
-              LINES 0 0\n\
+              LINES 2 2\n\
+              OFFSETS int 0 1\n\
               ",
-            FileKind::Sections51,
-            84,
+            FileKind::Count,
+            108,
         ),
         (
             b"# vtk DataFile Version 3.0\n\

@@ -7,7 +7,7 @@ use Rattle.viz_fraction.specs.Points.{Point}
 use Rattle.viz_column.specs.declared.kind.Kind8.TheVariants.{I32, I64}
 use Rattle.viz_column.specs.Bytes.{bytes_of}
 use Rattle.viz_image_write.specs.ImageText.{row_text, rows_text, values_text}
-use Rattle.viz_mesh_write.specs.Sections.{size_of, section_line, section_text, counted_section, offset_section, offsets_text, connectivity_text, index_count}
+use Rattle.viz_mesh_write.specs.Sections.{size_of, section_line, section_text, counted_section, offset_section, offsets_line, offsets_text, connectivity_line, connectivity_text, index_count}
 use Rattle.viz_mesh_write.specs.MeshText.{coordinates, points_line, points_text, types_line, types_text, grid_text, some_section, parts_text, scalar, scalars, scalars_head, scalars_text}
 use Rattle.viz_mesh_write.specs.Rows.{row_of, block_text}
 use Rattle.viz_mesh_write.specs.Cells.{of_size}
@@ -40,7 +40,7 @@ line_parts key n m behind =
 
 -- both blocks of a section of version 5.1, and what is behind them
 blocks_parts : (binary : Bool) (cs : List (List ℕ)) (tail : List ℕ) → (offsets_text binary cs ++ connectivity_text binary cs) ++ tail ≡ blocks_behind binary cs tail
-unfolding offsets_text connectivity_text
+unfolding offsets_text offsets_line connectivity_text connectivity_line
 blocks_parts binary cs tail =
     let first = codes "OFFSETS vtktypeint64\n" in
     let second = codes "CONNECTIVITY vtktypeint64\n" in

@@ -2,11 +2,13 @@
 
 ghost use Rattle.std.specs.Prelude.{◌≡◌, ◌++◌, OnOk};
 ghost use Rattle.std.specs.Fmt.{decimal};
-ghost use Rattle.viz_mesh_write.specs.MeshText.{points_line, scalars_head, section_line};
+ghost use Rattle.viz_mesh_write.specs.MeshText.{points_line, scalars_head};
+ghost use Rattle.viz_mesh_write.specs.Sections.{section_line};
 ghost use Rattle.viz_strip_write.specs.StripText.{head_text};
 
 use itoa::Buffer;
 use std::alloc::AllocError;
+use viz_image_write::put_version;
 
 /// A count in words.
 pub(crate) fn put_count(text: &mut Vec<u8>, n: u64) -> Result<(), AllocError>
@@ -20,7 +22,8 @@ pub(crate) fn put_count(text: &mut Vec<u8>, n: u64) -> Result<(), AllocError>
 pub(crate) fn put_head(text: &mut Vec<u8>) -> Result<(), AllocError>
     ensures { OnOk result (text.new.items ≡ text.old.items ++ head_text) }
 {
-    text.extend_from_slice(b"# vtk DataFile Version 3.0\nvizrun fixed 10^-")?;
+    put_version(text, false)?;
+    text.extend_from_slice(b"vizrun fixed 10^-")?;
     put_count(text, 3)?;
     text.extend_from_slice(b"\nASCII\nDATASET POLYDATA\n")?;
     Ok(())
@@ -37,7 +40,7 @@ pub(crate) fn put_points_line(text: &mut Vec<u8>, n: u64) -> Result<(), AllocErr
 }
 
 /// The keyword of a section, the number of its cells and of all their numbers, on a line.
-#[tactic(auto, unfolding(viz_mesh_write::specs::MeshText::section_line))]
+#[tactic(auto, unfolding(viz_mesh_write::specs::Sections::section_line))]
 pub(crate) fn put_section_line(
     text: &mut Vec<u8>,
     keyword: &[u8],

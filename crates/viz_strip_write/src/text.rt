@@ -38,7 +38,7 @@ fn put_some_section(
     requires fits { (size + 1) * n < 2 ^ 31 }
     requires small { size < 4 }
     ensures { OnOk result (text.new.items
-        ≡ text.old.items ++ some_section false keyword.now (of_size size (ranks_in ranks.now))) }
+        ≡ text.old.items ++ some_section false false keyword.now (of_size size (ranks_in ranks.now))) }
 {
     if n == 0 {
         return Ok(());
@@ -52,7 +52,7 @@ fn put_some_section(
 fn put_strips(text: &mut Vec<u8>, size: u64, rows: &Rows) -> Result<(), AllocError>
     requires size { size ≡ size_of rows.now }
     ensures { OnOk result (text.new.items
-        ≡ text.old.items ++ some_section false (codes "TRIANGLE_STRIPS") rows.now) }
+        ≡ text.old.items ++ some_section false false (codes "TRIANGLE_STRIPS") rows.now) }
 {
     if rows.len() == 0 {
         return Ok(());

@@ -34,7 +34,12 @@ fn text_of<T: Number>(
         return Err("an image".into());
     }
     let image = Image::new(extent, origin, spacing, column);
-    let text = write_image(alloc, &image, &Style { binary, digits: 0 })?;
+    let style = Style {
+        binary,
+        digits: 0,
+        version: 3,
+    };
+    let text = write_image(alloc, &image, &style)?;
     Ok(text)
 }
 

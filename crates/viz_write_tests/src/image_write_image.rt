@@ -25,6 +25,20 @@ LOOKUP_TABLE default
 7
 ";
 
+/// The same in a file of version 5.1.
+const ONE_POINT_LATER: &str = "# vtk DataFile Version 5.1
+vizrun image
+ASCII
+DATASET STRUCTURED_POINTS
+DIMENSIONS 1 1 1
+ORIGIN 0 0 0
+SPACING 1 1 1
+POINT_DATA 1
+SCALARS scalars unsigned_char 1
+LOOKUP_TABLE default
+7
+";
+
 /// Two by two points; the extent begins at 3, 1, 2, so the origin is -0.5 + 3 / 4, 1 - 2 and 10^-9.
 const SHIFTED: &str = "# vtk DataFile Version 3.0
 vizrun image
@@ -53,6 +67,18 @@ fn image_of(
     Some(Image::new(extent, origin, spacing, column))
 }
 
+// Words in a file of this version, where it is one.
+fn style_of(version: u8) -> Option<Style> {
+    if version != 3 && version != 5 {
+        return None;
+    }
+    Some(Style {
+        binary: false,
+        digits: 3,
+        version,
+    })
+}
+
 // The text of an image of these numbers.
 fn text_of<T: Number>(
     alloc: Global,
@@ -68,7 +94,11 @@ fn text_of<T: Number>(
         values.push(T::of_whole(*n).unwrap_or(T::zero()))?;
     }
     let image = image_of(extent, origin, spacing, Column::of(values)).ok_or("an image")?;
-    let style = Style { binary, digits: 3 };
+    let style = Style {
+        binary,
+        digits: 3,
+        version: 3,
+    };
     let text = write_image(alloc, &image, &style)?;
     Ok(text)
 }
@@ -87,6 +117,21 @@ fn a_row_is_a_line(rt: HostRuntime) -> Result<(), Fail> {
         &[-1, 300, 2, -32_768],
     )?;
     assert!(rt; shifted.list() == SHIFTED.as_bytes());
+    Ok(())
+}
+
+// By the version the first line differs alone.
+#[test]
+fn the_first_line_tells_the_version(rt: HostRuntime) -> Result<(), Fail> {
+    let alloc = rt.alloc();
+    for (version, want) in [(3, ONE_POINT), (5, ONE_POINT_LATER)] {
+        let extent = Extent::new([0; 6]).ok_or("an extent")?;
+        let column = Column::of(Vec::<u8>::from_slice(alloc, &[7])?);
+        let image = image_of(extent, [0; 3], [ONE; 3], column).ok_or("an image")?;
+        let style = style_of(version).ok_or("a version")?;
+        let text = write_image(alloc, &image, &style)?;
+        assert!(rt; text.list() == want.as_bytes(), "{version}");
+    }
     Ok(())
 }
 
@@ -191,6 +236,7 @@ fn a_far_corner_is_too_wide(rt: HostRuntime) -> Result<(), Fail> {
         let style = Style {
             binary: true,
             digits: 0,
+            version: 3,
         };
         let answer = write_image(alloc, &image, &style);
         assert_eq!(rt; matches!(answer, Err(WriteStop::TooWide)), wide);

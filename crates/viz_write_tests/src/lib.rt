@@ -10,4 +10,6 @@ mod image_write_image;
 #[cfg(test)]
 mod mesh_again;
 #[cfg(test)]
+mod mesh_later;
+#[cfg(test)]
 mod mesh_write;

@@ -84,7 +84,11 @@ fn text_of(alloc: Global, first: Sheet, second: Sheet, binary: bool) -> Result<B
     let mut sheets = Vec::new(alloc);
     sheets.push(first)?;
     sheets.push(second)?;
-    let style = Style { binary, digits: 1 };
+    let style = Style {
+        binary,
+        digits: 1,
+        version: 3,
+    };
     let text = write_mesh(alloc, &Mesh::new(sheets), &style)?;
     Ok(text)
 }

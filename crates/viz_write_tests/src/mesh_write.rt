@@ -12,11 +12,13 @@ use viz_sheet::{Leaves, Mesh, Mixed, Places, Ranks, Sheet, are_cells, sheet_of};
 const WORDS: Style = Style {
     binary: false,
     digits: 3,
+    version: 3,
 };
 
 const BYTES: Style = Style {
     binary: true,
     digits: 3,
+    version: 3,
 };
 
 /// The origin and half a unit along each axis, with the scalars 0, 1/2, 1 and 3/2.
@@ -71,7 +73,7 @@ fn sheet_by(alloc: Global, count: u32, places: Places, ranks: Ranks) -> Result<S
 }
 
 // The same of the corners.
-fn corners(alloc: Global, ranks: Ranks) -> Result<Sheet, Fail> {
+pub(crate) fn corners(alloc: Global, ranks: Ranks) -> Result<Sheet, Fail> {
     sheet_by(alloc, 4, wide(alloc, &CORNERS)?, ranks)
 }
 
@@ -82,7 +84,7 @@ fn bytes_of(alloc: Global, sheets: Vec<Sheet>, style: &Style) -> Result<Bytes, W
 }
 
 // These sheets are written so, lent or given up.
-fn shows(
+pub(crate) fn shows(
     rt: &impl Abort,
     alloc: Global,
     sheets: Vec<Sheet>,
@@ -153,7 +155,7 @@ fn bytes_have_their_highest_first(rt: HostRuntime) -> Result<(), Fail> {
 }
 
 // Cells of these sizes, among them one of each size that is asked for.
-fn any(alloc: Global, with_tetrahedron: bool) -> Result<Ranks, Fail> {
+pub(crate) fn any(alloc: Global, with_tetrahedron: bool) -> Result<Ranks, Fail> {
     let mut cells = Vec::new(alloc);
     cells.push(Mixed::new(3, [0, 2, 3, 9]))?;
     cells.push(Mixed::new(1, [1, 9, 9, 9]))?;
@@ -245,7 +247,7 @@ POLYGONS 0 0
 ";
 
 // A sheet without a cell.
-fn empty(alloc: Global) -> Result<Sheet, Fail> {
+pub(crate) fn empty(alloc: Global) -> Result<Sheet, Fail> {
     sheet_by(alloc, 0, wide(alloc, &[])?, Ranks::Lines(Vec::new(alloc)))
 }
 
@@ -286,7 +288,7 @@ LOOKUP_TABLE default
 ";
 
 // A line from the second of three points to the third, and a vertex at the third.
-fn line(alloc: Global) -> Result<Sheet, Fail> {
+pub(crate) fn line(alloc: Global) -> Result<Sheet, Fail> {
     let places = narrow(alloc, &[[9, 9, 9, 9, 1], [7, 0, 0, 1, 1], [0, 7, 0, 2, 1]])?;
     let mut cells = Vec::new(alloc);
     cells.push(Mixed::new(2, [1, 2, 0, 0]))?;
@@ -352,6 +354,7 @@ fn ranks_are_moved_by_the_sheets_in_front(rt: HostRuntime) -> Result<(), Fail> {
     let style = Style {
         binary: false,
         digits: 0,
+        version: 3,
     };
     shows(&rt, rt.alloc(), sheets, &style, TWO_SHEETS)
 }
@@ -434,8 +437,8 @@ LOOKUP_TABLE default
 5
 ";
 
-#[test]
-fn a_surface_is_written(rt: HostRuntime) -> Result<(), Fail> {
+// The sheet of that contour.
+pub(crate) fn surface(alloc: Global) -> Result<Sheet, Fail> {
     let triangles = [
         [1, 0, 3],
         [5, 0, 1],
@@ -444,15 +447,14 @@ fn a_surface_is_written(rt: HostRuntime) -> Result<(), Fail> {
         [4, 0, 5],
         [6, 0, 4],
     ];
-    let ranks = Ranks::Triangles(Vec::from_array(rt.alloc(), triangles)?);
-    let sheet = sheet_by(rt.alloc(), 7, wide(rt.alloc(), &CORNER)?, ranks)?;
-    shows(
-        &rt,
-        rt.alloc(),
-        vec![in rt.alloc(); sheet]?,
-        &WORDS,
-        SURFACE,
-    )
+    let ranks = Ranks::Triangles(Vec::from_array(alloc, triangles)?);
+    sheet_by(alloc, 7, wide(alloc, &CORNER)?, ranks)
+}
+
+#[test]
+fn a_surface_is_written(rt: HostRuntime) -> Result<(), Fail> {
+    let sheets = vec![in rt.alloc(); surface(rt.alloc())?]?;
+    shows(&rt, rt.alloc(), sheets, &WORDS, SURFACE)
 }
 
 // One point as a vertex.
@@ -470,6 +472,7 @@ fn vertex_text(alloc: Global, numbers: [i128; 5], digits: u8) -> Result<String, 
     let style = Style {
         binary: false,
         digits,
+        version: 3,
     };
     let bytes = bytes_of(alloc, vertex(alloc, numbers)?, &style)?;
     let mut text = Vec::new(alloc);
@@ -543,7 +546,11 @@ fn wide_numbers_are_refused(rt: HostRuntime) -> Result<(), Fail> {
         ([0, 0, 0, 9_223_372_036_854_775_808, 1], false, 0),
         ([0, 0, 0, -9_223_372_036_854_775_809, 1], true, 0),
     ] {
-        let style = Style { binary, digits };
+        let style = Style {
+            binary,
+            digits,
+            version: 3,
+        };
         let sheets = vertex(rt.alloc(), numbers)?;
         let mesh = Mesh::new(sheets);
         let refused = matches!(

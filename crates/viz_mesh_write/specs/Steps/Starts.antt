@@ -1,5 +1,5 @@
 -- Where the cells of a section begin in its connectivity.
-use Rattle.std.specs.Prelude.{ℕ, ◌+◌, List, [], ◌∷◌, ◌++◌, length, map, Option, if◌then◌else◌}
+use Rattle.std.specs.Prelude.{ℕ, ◌+◌, List, [], ◌∷◌, ◌++◌, length, Option, if◌then◌else◌}
 use Rattle.viz_mesh_write.specs.Steps.Passes.{is_kept}
 use Rattle.viz_mesh_write.specs.Steps.SheetCells.{CellsData}
 

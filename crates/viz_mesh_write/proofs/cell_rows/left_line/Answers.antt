@@ -1,4 +1,4 @@
-use Rattle.std.proofs.Common.{drop, rules, arith}
+use Rattle.std.proofs.Common.{drop, rules}
 use Rattle.viz_mesh_write.proofs.CellLemmas.{line_words, line_empty}
 use Rattle.viz_mesh_write.proofs.cell_rows.left_line.Goals as goal
 

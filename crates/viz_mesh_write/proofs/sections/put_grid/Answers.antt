@@ -1,4 +1,4 @@
-use Rattle.std.proofs.Common.{◌≡◌, ◌-◌, ℕ, ap₂, ◌∙◌, arith}
+use Rattle.std.proofs.Common.{◌-◌, ℕ, ap₂, ◌∙◌, arith}
 use Rattle.viz_mesh_write.specs.Steps.SheetCells.{indices_by}
 use Rattle.viz_mesh_write.proofs.SectionLemmas.{all_count, all_indices, grid_is}
 use Rattle.viz_mesh_write.proofs.sections.put_grid.Goals as goal

@@ -1,4 +1,4 @@
-use Rattle.std.proofs.Common.{ℕ, List, ◌<◌, ◌^◌, ◌∙◌, None, true, ap, map, subst, sym, arith}
+use Rattle.std.proofs.Common.{ℕ, ◌<◌, ◌^◌, ◌∙◌, None, true, ap, map, subst, sym, arith}
 use Rattle.std.specs.List.{All, flat_map}
 use Rattle.viz_mesh_write.specs.Sections.{offsets_of}
 use Rattle.viz_mesh_write.specs.Steps.Passes.{IsMovable, kept, kept_row}

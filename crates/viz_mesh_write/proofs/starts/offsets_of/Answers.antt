@@ -1,6 +1,5 @@
-use Rattle.std.proofs.Common.{map, arith}
-use Rattle.viz_mesh_write.specs.Steps.Starts.{count_all, starts_all}
-use Rattle.viz_mesh_write.proofs.StartLemmas.{sheet_starts_more, sheet_count_more, starts_end}
+use Rattle.std.proofs.Common.{arith}
+use Rattle.viz_mesh_write.proofs.StartLemmas.{sheet_count_more}
 use Rattle.viz_mesh_write.proofs.starts.offsets_of.Goals as goal
 
 pub push_sheet-requires : goal.push_sheet-requires
