@@ -18,7 +18,8 @@ use Rattle.viz_meaning.specs.Section.{sections_of}
 use Rattle.viz_meaning.specs.Tetrahedra.{sheets_of}
 use Rattle.viz_meaning.specs.Threshold.{thresholded}
 use Rattle.viz_mesh_write.specs.Counts.{cells_written, points_written}
-use Rattle.viz_mesh_write.specs.MeshText.{title_lines as mesh_titles, dataset_line as mesh_line, points_line, points_text, scalars_head, section_line, counted_section, parts_text, mesh_text}
+use Rattle.viz_mesh_write.specs.MeshText.{title_lines as mesh_titles, dataset_line as mesh_line, points_line, points_text, scalars_head, parts_text, mesh_text}
+use Rattle.viz_mesh_write.specs.Sections.{section_line, counted_section}
 use Rattle.viz_node_meaning.specs.Data.{contour_forms}
 use Rattle.viz_scratch.specs.Written.{plain, text_with}
 use Rattle.viz_sheet.specs.Sheet.{SheetData}

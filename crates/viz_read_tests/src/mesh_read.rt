@@ -83,7 +83,7 @@ VERTICES 3 3
 OFFSETS int
 0 1 3
 CONNECTIVITY unsigned_char
-0 2 1
+0 1 2
 LINES 0 0
 triangle_strips 2 4
 offsets vtktypeint64 0 4
