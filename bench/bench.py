@@ -380,22 +380,22 @@ def rows_of_meshes(sides):
 
 
 def triangles(path):
-    """The triangles of a polydata file, by the line in front of them. Since version 5.1 it counts
-    where they begin, and so the end of the last one too."""
+    """The triangles of a polydata file, or the tetrahedra of a grid, by the line in front of them.
+    Since version 5.1 it counts where they begin, and so the end of the last one too."""
     with open(path, "rb") as file:
         later, kept = b"5.1" in file.readline(), b""
         for block in iter(lambda: file.read(1 << 20), b""):
             kept = kept[-40:] + block
-            found = re.search(rb"\nPOLYGONS (\d+) \d+\n", kept)
+            found = re.search(rb"\n(?:POLYGONS|CELLS) (\d+) \d+\n", kept)
             if found:
                 return max(int(found[1]) - later, 0)
     return 0
 
 
 def written(folder, begin):
-    """The triangles of all files that begin so."""
+    """The cells of all written files that begin so, journals left out."""
     return sum(triangles(os.path.join(folder, name)) for name in sorted(os.listdir(folder))
-               if name.startswith(begin))
+               if name.startswith(begin) and name.endswith(".vtk"))
 
 
 def reported(put):
