@@ -25,6 +25,10 @@ VOLUME = ("# vtk DataFile Version 3.0\nc\nASCII\nDATASET STRUCTURED_POINTS\nDIME
 SQUARE = ("# vtk DataFile Version 3.0\nq\nASCII\nDATASET POLYDATA\nPOINTS 4 int\n"
           "0 0 0 1 0 0 1 1 0 0 1 0\nPOLYGONS 2 8\n3 0 1 2\n3 0 2 3\n"
           "POINT_DATA 4\nSCALARS s int\nLOOKUP_TABLE default\n0 0 0 0\n")
+GRID = ("# vtk DataFile Version 5.1\ng\nASCII\nDATASET UNSTRUCTURED_GRID\nPOINTS 5 int\n"
+        "0 0 0 1 0 0 0 1 0 0 0 1 1 1 1\nCELLS 4 10\nOFFSETS vtktypeint64\n0 4 7 10\n"
+        "CONNECTIVITY vtktypeint64\n0 1 2 3 1 2 4 2 3 4\nCELL_TYPES 3\n10 5 5\n"
+        "POINT_DATA 5\nSCALARS s int\nLOOKUP_TABLE default\n0 1 2 3 4\n")
 FRONT = ["1 add file src", "1 load src c.vtk", "1 add contour iso", "1 connect src iso 1"]
 # The lines of each script.
 SCRIPTS = {
@@ -36,6 +40,9 @@ SCRIPTS = {
                                   "1 set iso levels 5", "1 update edge a.vtk 3 2",
                                   "1 set iso levels 8", "1 update edge b.vtk 4 2",
                                   "1 audit iso 2 2"],
+    "version 5.1": ["1 add file src", "1 load src g.vtk", "1 add writer w", "1 connect src w 1",
+                    "1 set w version 5", "1 update w a.vtk 1 1", "1 set w form binary",
+                    "1 update w b.vtk 2 2"],
 }
 # The words of each command; of a script `s` is the script and `j` the journal.
 COMMANDS = {name: ["run", "s", "j"] for name in SCRIPTS}
@@ -59,7 +66,7 @@ def wrong(name, way, number, what):
 def folder_of(name, root):
     """A fresh folder with the files that a command reads."""
     folder = tempfile.mkdtemp(dir=root)
-    for path, content in ("c.vtk", VOLUME), ("q.vtk", SQUARE):
+    for path, content in ("c.vtk", VOLUME), ("q.vtk", SQUARE), ("g.vtk", GRID):
         with open(os.path.join(folder, path), "w") as file:
             file.write(content)
     if name in SCRIPTS:
