@@ -3,11 +3,11 @@ use Rattle.std.specs.Prelude.{◌≡◌, ◌↔◌, ℕ, ◌<◌, List, [], ◌�
 use Rattle.viz_base.specs.declared.call.Call.{Call}
 use Rattle.viz_base.specs.declared.port.Port as port
 use Rattle.viz_network.specs.declared.edit.Edit.{Edit}
-use Rattle.viz_network.specs.declared.edit.Edit.TheVariants as edits
+use Rattle.viz_network.specs.declared.edit.Edit.TheVariants.{Load}
 use Rattle.viz_network.specs.declared.node.Node.{Node}
 use Rattle.viz_network.specs.Network.{Network, named}
 use Rattle.viz_entries.specs.declared.entry.Entry.{Entry}
-use Rattle.viz_script.specs.Orders.{Asked, edit, load, update, audit}
+use Rattle.viz_script.specs.Orders.{Asked, edit, edits, load, update, audit}
 use Rattle.viz_scratch.specs.Written.{IsFileOf}
 use Rattle.viz_surface_law.specs.declared.audits.Counts.{Counts}
 use Rattle.viz_report.specs.declared.line.Line.{Line}
@@ -18,11 +18,12 @@ use Rattle.viz_account.specs.Lines.{IsEntry, network_at, TellsFile}
 
 -- ---- one command
 
--- an edit by one of these passes was accepted: it is entry n of the history, a new one, since n is
+-- a batch by one of these passes was accepted: it is entry n of the history, a new one, since n is
 -- past the number of the line before
-pub record IsAccepted (h : List Entry) (passes : List ℕ) (low n : ℕ) (e : Edit) : Type 0 where
-  pub past : low < n
-  pub entry : IsEntry h passes n e
+pub record IsAccepted (h : List Entry) (passes : List ℕ) (low n : ℕ) (batch : List Edit) : Type 0
+  where
+    pub past : low < n
+    pub entry : IsEntry h passes n batch
 
 -- a node of this name is there, and has a file
 abbrev pub HasFile : Network → List ℕ → Type 0
@@ -38,9 +39,10 @@ HasAudit net node = (x : Node) × (c : Counts) × (named net node ≡ Some x)
 -- accepted; the file that it loads was within the limit, and the edit with some bytes was accepted;
 -- or its node has a file, or counts, in the network of the first n entries
 abbrev pub Came : List Entry → List ℕ → ℕ → ℕ → Asked → Type 0
-Came h passes low n (edit e) = IsAccepted h passes low n e
+Came h passes low n (edit e) = IsAccepted h passes low n (e ∷ [])
+Came h passes low n (edits batch) = IsAccepted h passes low n batch
 Came h passes low n (load node file) = (bytes : List ℕ)
-    × IsAccepted h passes low n (edits.Load node bytes)
+    × IsAccepted h passes low n (Load node bytes ∷ [])
 Came h passes low n (update node file pieces workers) = HasFile (network_at h n) node
 Came h passes low n (audit node pieces workers) = HasAudit (network_at h n) node
 

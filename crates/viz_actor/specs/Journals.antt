@@ -24,7 +24,7 @@ numbered passes before [] = []
 numbered passes before (e ∷ es) = record {
   actor = actor_with 1 passes e.pass;
   count = length (entries_of by_of (passes_with passes e.pass) before) + 1;
-  edit = e.edit;
+  batch = e.batch;
 } ∷ numbered passes (before ++ e ∷ []) es
 
 -- the text of the journal of a history, by the passes of each actor

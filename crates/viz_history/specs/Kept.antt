@@ -11,5 +11,5 @@ pub record IsKept (h : List Entry) (limit : ℕ) (net : Network) (cache : List S
   pub network : net ≡ network_of h
   pub legal : IsLegal h
   pub within : length h ≤ limit
-  pub fits : limit < 4294967295
+  pub fits : limit ≤ 67108863
   pub parts : AreTrueOf (edits_of h) cache

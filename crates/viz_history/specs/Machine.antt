@@ -4,13 +4,12 @@ use Rattle.std.specs.Prelude.{◌≡◌, ℕ, ◌+◌, ◌<◌, ◌≤◌, List,
 use Rattle.viz_parts.specs.declared.stored.Key.{Key}
 use Rattle.viz_parts.specs.declared.stored.Stored.{Stored}
 use Rattle.viz_network.specs.declared.edit.Edit.{Edit}
-use Rattle.viz_network.specs.Edits.{apply}
 use Rattle.viz_entries.specs.declared.entry.Entry.{Entry}
 use Rattle.viz_history.specs.declared.answer.EditAnswer.{EditAnswer}
 use Rattle.viz_history.specs.declared.answer.EditAnswer.TheVariants.{Done, Refused, Full, Memory}
 use Rattle.viz_history.specs.declared.pinned.Pinned.{Pinned}
 use Rattle.viz_history.specs.declared.publishing.Kept.{Kept}
-use Rattle.viz_entries.specs.History.{entry, network_of}
+use Rattle.viz_entries.specs.History.{entry, edits_of, network_of, apply_behind}
 use Rattle.viz_history.specs.Publishing.{TakesIn, GivesOvertakenUp, all_brought}
 
 -- the history, the most entries that it may have, the most parts that may be kept, the kept parts
@@ -45,17 +44,17 @@ pub record Gains (e : Entry) (old new : State) : Type 0 where
   pub cache : new.cache ≡ old.cache
   pub spare : old.spare ≤ new.spare + 1
 
--- what an edit of a pass, with this number among the pass's, is answered, and the state then
-abbrev pub Replies : ℕ → ℕ → Edit → State → EditAnswer → State → Type 0
-Replies pass count edit old (Done at) new = Gains (entry pass count edit) old new
+-- what a batch of a pass, with this number among the pass's, is answered, and the state then
+abbrev pub Replies : ℕ → ℕ → List Edit → State → EditAnswer → State → Type 0
+Replies pass count batch old (Done at) new = Gains (entry pass count batch) old new
     × (at ≡ length old.history + 1) × (length old.history < old.limit)
-    × (apply (length old.history + 1) edit (network_of old.history) ≡ Ok (network_of new.history))
-Replies pass count edit old (Refused r at) new = Stays old new × (at ≡ length old.history)
+    × (apply_behind old.history batch ≡ Ok (network_of new.history))
+Replies pass count batch old (Refused index r at) new = Stays old new × (at ≡ length old.history)
     × (length old.history < old.limit)
-    × (apply (length old.history + 1) edit (network_of old.history) ≡ Err r)
-Replies pass count edit old (Full at) new = Stays old new × (at ≡ old.limit)
+    × (apply_behind old.history batch ≡ Err (index, r))
+Replies pass count batch old (Full at) new = Stays old new × (at ≡ old.limit)
     × (length old.history ≡ old.limit)
-Replies pass count edit old Memory new = Stays old new × (length old.history < old.limit)
+Replies pass count batch old Memory new = Stays old new × (length old.history < old.limit)
 
 -- the number of entries, the network of the history, and all kept parts
 pub record IsPinOf (s : State) (p : Pinned) : Type 0 where
@@ -74,4 +73,5 @@ pub record Publishes (used : List Key) (made : List Stored) (old : State) (count
   pub taken : List Stored
   pub takes : TakesIn (network_of old.history) old.capacity made (all_brought used old.cache) count
       taken
-  pub gives_up : GivesOvertakenUp (network_of old.history) (length old.history) taken new.cache
+  pub gives_up : GivesOvertakenUp (network_of old.history) (length (edits_of old.history)) taken
+      new.cache

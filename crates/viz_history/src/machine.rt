@@ -26,8 +26,9 @@ use viz_turn::Story;
 #[derive(Drop)]
 pub struct Core {
     history: Vec<Entry>,
-    // The network of the history.
+    // The network of the history, and the number of its edits.
     net: Net,
+    edits: u32,
     limit: u32,
     cache: Cache,
 }
@@ -65,8 +66,9 @@ impl Story for Core {
 
 impl Core {
     /// A core without entries, whose history may have so many, and which may keep so many parts.
+    /// A history of so many batches has positions of 32 bits.
     pub fn new(alloc: Global, limit: u32, capacity: u32) -> Result<Core, AllocError>
-        requires limit { limit < 4294967295 }
+        requires limit { limit ≤ 67108863 }
         requires capacity { 0 < capacity }
         ensures ok { IfOk result (λ core. IsFirst limit capacity core) }
     {
@@ -78,7 +80,7 @@ impl Core {
         })
     }
 
-    /// Makes room for one entry, so that an edit that takes no memory isn't refused for want of it.
+    /// Makes room for one entry, so that a batch that takes no memory isn't refused for want of it.
     pub fn reserve(&mut self) -> Result<(), AllocError>
         ensures ok { OnOk result (1 ≤ self.new.spare) }
         ensures same { Stays self.old self.new }
@@ -86,13 +88,14 @@ impl Core {
         self.history.reserve(1)
     }
 
-    /// Makes the edit as the next one of the pass, or says why not. Full comes before the refusals
-    /// of the network. Where there is room for an entry, only an Add and a Load can meet want of
-    /// memory.
-    pub fn edit(&mut self, pass: u64, count: u32, edit: Edit) -> EditAnswer
+    /// Makes the batch as the next one of the pass, or says why not. Full comes before the refusals
+    /// of the network. Where there is room for an entry, a batch of Sets, and one edit that is no
+    /// Add and no Load, can't meet want of memory.
+    pub fn edit(&mut self, pass: u64, count: u32, batch: Batch) -> EditAnswer
         requires next { count ≡ next pass self.old.history }
-        ensures replies { Replies pass count edit self.old result self.new }
-        ensures memory { result ≡ EditAnswer.Memory → 1 ≤ self.old.spare → MayTakeMemory edit }
+        ensures replies { Replies pass count batch self.old result self.new }
+        ensures memory { result ≡ EditAnswer.Memory → 1 ≤ self.old.spare
+            → MayTakeMemoryAll batch }
     {
         let at = self.history.len() as u32;
         if self.limit <= at {
@@ -160,7 +163,7 @@ impl Core {
     pub fn front(&self) -> u32
         ensures value { result ≡ length self.now.history }
         ensures within { result ≤ self.now.limit }
-        ensures fits { self.now.limit < 4294967295 }
+        ensures fits { self.now.limit ≤ 67108863 }
     {
         self.history.len() as u32
     }

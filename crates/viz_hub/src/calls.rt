@@ -44,7 +44,7 @@ impl Hub {
     /// A hub without entries, whose history may have so many, and its first pass. So many parts may
     /// be kept. `Err` is want of memory.
     pub fn start(alloc: Global, limit: u32, capacity: u32) -> Result<(Hub, Pass), AllocError>
-        requires limit { limit < 4294967295 }
+        requires limit { limit ≤ 67108863 }
         requires capacity { 0 < capacity }
         ensures limit { IfOk result (λ r. r.0.mark ≡ limit) }
         ensures pass { IfOk result (λ r. r.1 ≡ first_pass r.0) }
@@ -62,18 +62,18 @@ impl Hub {
         }
     }
 
-    /// Makes the edit behind all that the pass has seen and others have added since, or says why
+    /// Makes the batch behind all that the pass has seen and others have added since, or says why
     /// not. The pass then has seen the history up to there.
-    pub fn edit<R: Wait>(&self, rt: &R, pass: &mut Pass, edit: Edit) -> EditAnswer
+    pub fn edit<R: Wait>(&self, rt: &R, pass: &mut Pass, batch: Batch) -> EditAnswer
         requires belongs { pass.old.turn ≡ self.now }
         ensures same { pass.new ≡ at_seen pass.old pass.new.seen }
-        ensures answers { Answers pass.old edit result pass.new.seen }
+        ensures answers { Answers pass.old batch result pass.new.seen }
         ensures distinct { once (numbers pass.old) ≡ true }
     {
         let Some(place) = pass.place.take() else {
             unreachable!()
         };
-        let (place, answer) = edit_by(&self.turn, rt, place, edit);
+        let (place, answer) = edit_by(&self.turn, rt, place, batch);
         pass.place = Some(place);
         answer
     }

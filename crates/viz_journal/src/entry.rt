@@ -1,13 +1,13 @@
 //! Entries of a journal.
 
-use viz_network::Edit;
+use viz_batches::Batch;
 
-/// An accepted edit.
+/// An accepted batch.
 #[derive(Debug, Drop)]
 pub struct JournalEntry {
     /// Who made it.
     pub actor: u32,
-    /// Its number among the accepted edits of this actor, from 1.
+    /// Its number among the entries of this actor, from 1.
     pub count: u32,
-    pub edit: Edit,
+    pub batch: Batch,
 }

@@ -63,6 +63,7 @@ cause_text cause.TooMany = codes "TooMany"
 -- the word of a reason; a fault has the name of its node
 abbrev pub reason_text : Reason → List ℕ
 reason_text (reason.Edit r) = refusal_text r
+reason_text (reason.Batch index r) = decimal index ++ codes ":" ++ refusal_text r
 reason_text reason.Full = codes "Full"
 reason_text reason.TooLong = codes "TooLong"
 reason_text reason.Unknown = codes "Unknown"

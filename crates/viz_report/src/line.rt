@@ -8,6 +8,8 @@ use viz_network::{Fault, Refusal};
 pub enum Reason {
     /// The network refuses the edit.
     Edit(Refusal),
+    /// The network refuses the edit at this place of the batch, from 1, and none before it.
+    Batch { index: u32, refusal: Refusal },
     /// The history has as many entries as it may have.
     Full,
     /// The file that was to be loaded is longer than the port's limit.

@@ -15,12 +15,14 @@ use Rattle.viz_script.specs.declared.order.Order.TheVariants as order
 -- a command as contracts see it: a shape is its two numbers
 pub data Asked : Type 0 where
   edit : Edit → Asked
+  edits : List Edit → Asked
   load : List ℕ → List ℕ → Asked
   update : List ℕ → List ℕ → ℕ → ℕ → Asked
   audit : List ℕ → ℕ → ℕ → Asked
 
 abbrev pub seen : Order → Asked
 seen (order.Do e) = edit e
+seen (order.DoAll batch) = edits batch
 seen (order.Load node file) = load node file
 seen (order.Update node file shape) = update node file shape.pieces shape.workers
 seen (order.Audit node shape) = audit node shape.pieces shape.workers

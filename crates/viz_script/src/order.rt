@@ -1,6 +1,7 @@
 //! Commands of a script.
 
 use viz_base::{Shape, Word};
+use viz_batches::Batch;
 use viz_network::Edit;
 use viz_words::FileName;
 
@@ -9,6 +10,8 @@ use viz_words::FileName;
 pub enum Order {
     /// An edit of the network. It is no Load.
     Do(Edit),
+    /// Edits from `begin` to `end`, none of which is a Load.
+    DoAll(Batch),
     /// Loads a file into a node.
     Load {
         node: Word,
@@ -27,7 +30,8 @@ pub enum Order {
     },
 }
 
-/// A command with the phase, the actor and the line that it stands at, each counted from 1.
+/// A command with the phase, the actor and the line that it stands at, each counted from 1. A batch
+/// stands where it begins.
 #[derive(Debug, Drop)]
 pub struct Step {
     pub phase: u32,

@@ -49,6 +49,8 @@ known_verb (Some command.Set) words = set_verb words
 known_verb (Some command.Load) words = Ok verb.Load
 known_verb (Some command.Update) words = Ok verb.Update
 known_verb (Some command.Audit) words = Ok verb.Audit
+known_verb (Some command.Begin) words = Ok verb.Begin
+known_verb (Some command.End) words = Ok verb.End
 
 -- the command of the words; Missing where it, its kind or its parameter is missing
 abbrev pub verb_of : List (List ℕ) → Result Verb ScriptRefusal

@@ -14,6 +14,7 @@ refusal_word refusal.ActorRange = codes "ActorRange"
 refusal_word refusal.Phase = codes "Phase"
 refusal_word refusal.TooLong = codes "TooLong"
 refusal_word refusal.Edit = codes "Edit"
+refusal_word refusal.Batch = codes "Batch"
 
 -- the line of a script or journal that is refused
 unfoldable pub refused_script : ℕ → ScriptRefusal → List ℕ

@@ -23,6 +23,8 @@ command_word command.Set = codes "set"
 command_word command.Load = codes "load"
 command_word command.Update = codes "update"
 command_word command.Audit = codes "audit"
+command_word command.Begin = codes "begin"
+command_word command.End = codes "end"
 
 -- the word of a kind of node
 abbrev pub kind_word : Kind → List ℕ
@@ -61,7 +63,8 @@ param_word param.Version = codes "version"
 -- the commands
 abbrev pub commands : List Command
 commands = command.Add ∷ command.Remove ∷ command.Connect ∷ command.Disconnect ∷ command.Set
-    ∷ command.Load ∷ command.Update ∷ command.Audit ∷ []
+    ∷ command.Load ∷ command.Update ∷ command.Audit ∷ command.Begin
+    ∷ command.End ∷ []
 
 -- the kinds
 abbrev pub kinds : List Kind

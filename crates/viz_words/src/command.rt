@@ -13,6 +13,8 @@ pub enum Command {
     Load,
     Update,
     Audit,
+    Begin,
+    End,
 }
 
 /// A command with its kind or its parameter.
@@ -28,4 +30,6 @@ pub enum Verb {
     Load,
     Update,
     Audit,
+    Begin,
+    End,
 }

@@ -34,6 +34,10 @@ pub enum ScriptRefusal {
     /// Exactly where the network refuses the edit.
     #[error("the network refuses the edit")]
     Edit,
+    /// Exactly where a batch is begun, ended or left open where it may not be, or has what it may
+    /// not have.
+    #[error("a batch that isn't one")]
+    Batch,
 }
 
 /// Why a script or a journal isn't read, and at which line, counted from 1.
@@ -79,6 +83,7 @@ fn refusal_word(refusal: &ScriptRefusal) -> &'static str
         ScriptRefusal::Phase => "Phase",
         ScriptRefusal::TooLong => "TooLong",
         ScriptRefusal::Edit => "Edit",
+        ScriptRefusal::Batch => "Batch",
     }
 }
 

@@ -17,6 +17,8 @@ const COMMANDS: [Command; 8] = [
     Command::Load,
     Command::Update,
     Command::Audit,
+    Command::Begin,
+    Command::End,
 ];
 
 /// The kinds.
@@ -68,6 +70,8 @@ pub fn command_word(command: Command) -> &'static [u8]
         Command::Load => b"load",
         Command::Update => b"update",
         Command::Audit => b"audit",
+        Command::Begin => b"begin",
+        Command::End => b"end",
     }
 }
 

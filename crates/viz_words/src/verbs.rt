@@ -58,5 +58,7 @@ pub fn verb_of(text: &[u8]) -> Result<Verb, ScriptRefusal>
         Some(Command::Load) => Ok(Verb::Load),
         Some(Command::Update) => Ok(Verb::Update),
         Some(Command::Audit) => Ok(Verb::Audit),
+        Some(Command::Begin) => Ok(Verb::Begin),
+        Some(Command::End) => Ok(Verb::End),
     }
 }
