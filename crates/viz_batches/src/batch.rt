@@ -22,6 +22,18 @@ pub struct Batch {
     edits: Edits,
 }
 
+impl Model for Batch {
+    ghost use Rattle.std.specs.Prelude.{List};
+    ghost use Rattle.viz_network.specs.declared.edit.Edit.{Edit as Item};
+    ghost use Rattle.viz_batches.specs.Steps.Listed.{listed};
+
+    ghost Value = { List Item };
+
+    ghost view = { λ batch. listed batch.edits };
+
+    ghost invariant = { λ batch. IsBatch (listed batch.edits) };
+}
+
 impl Batch {
     /// A batch of one edit. It takes no memory.
     pub fn one(edit: Edit) -> Batch
