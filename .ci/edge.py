@@ -89,7 +89,7 @@ def files_of_each_size(place):
         place.put("x", data)
         lines = ["1 add file src", "1 load src x"]
         wants("load of %d bytes" % size, place.script(lines), (0, edits(2)))
-        journal = b"vizrun journal 1\n1 1 add file src\n1 2 load src %d\n%s\nend 2\n" % (size, data)
+        journal = b"vizrun journal 2\n1 1 1\nadd file src\n1 2 1\nload src %d\n%s\nend 2\n" % (size, data)
         wants("journal of a load of %d bytes" % size, place.has("j"), journal)
         wants("the journal read back", place.run(["scratch", "j", "2", "src", "o.vtk"]),
               (3, b"refused fault:src:BadFile(%s) at 2\n" % (b"Magic,0")))
@@ -98,7 +98,7 @@ def files_of_each_size(place):
 def written_files_of_each_size(place):
     """A journal of so many bytes is written whole, and read whole as the file of a load."""
     for size in (65_535, 65_536, 65_537, 40_000_000):
-        front = b"vizrun journal 1\n1 1 add file src\n1 2 load src "
+        front = b"vizrun journal 2\n1 1 1\nadd file src\n1 2 1\nload src "
         digits = len(str(size - len(front)))
         inside = size - len(front) - digits - len(b"\n\nend 2\n")
         place.put("x", noise(inside))
@@ -263,7 +263,7 @@ def outputs_that_fail(place):
     what has no file keeps its status."""
     place.put("b.vtk", open(os.path.join(DATA, "b.vtk"), "rb").read())
     place.put("s", b"1 add file src\n1 load src b.vtk\n1 update src o.vtk 1 1\n")
-    journal = b"vizrun journal 1\n1 1 add file src\n1 2 load src %d\n%s\nend 2\n" % (
+    journal = b"vizrun journal 2\n1 1 1\nadd file src\n1 2 1\nload src %d\n%s\nend 2\n" % (
         len(place.has("b.vtk")), place.has("b.vtk"))
     reads, writes = os.pipe()
     os.close(reads)
