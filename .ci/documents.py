@@ -231,18 +231,14 @@ def check_contour():
 
 
 def check_scripts():
-    """The script of two levels, a row of tests whose file has another name, and that of two actors,
-    a worked row."""
-    tests = "crates/viz_session_tests/src/tests"
-    pages = [text(tests + end) for end in (".rt", "/failing.rt", "/scratch.rt")]
-    levels, whole, again = (constant(page, name) for page, name in
-                            zip(pages, ("LEVELS", "WHOLE", "AGAIN")))
-    row = ".ci/rows/two-actors-share-a-network/"
-    shown([levels.replace("a.vtk", "c.vtk"), typed("run levels.script levels.journal", whole),
-           typed("scratch levels.journal 5 iso again.vtk", again),
-           text(row + "s.script").replace("a.vtk", "c.vtk"),
-           typed("run two.script two.journal", text(row + "want/stdout"))],
-          "the script of a test")
+    """The script of two levels and that of two actors, worked rows whose file has another name."""
+    row, other = ".ci/rows/levels-by-a-batch/", ".ci/rows/two-actors-share-a-network/"
+    levels, two = (text(it + "s.script").replace("a.vtk", "c.vtk") for it in (row, other))
+    lines = text(row + "want/stdout").splitlines(keepends=True)
+    shown([levels, typed("run levels.script levels.journal", "".join(lines[:-1])),
+           typed("scratch levels.journal 3 iso again.vtk", lines[-1]),
+           two, typed("run two.script two.journal", text(other + "want/stdout"))],
+          "the script of a row")
 
 
 def check_kit():

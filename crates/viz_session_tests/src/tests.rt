@@ -148,9 +148,9 @@ fn a_changed_level_is_contoured_again(rt: HostRuntime) -> Result<(), Fail> {
     assert_eq!(rt; left.text.as_str(), want.as_str());
     assert!(rt; file(&left.ports, "two.vtk") == Some(EMPTY.as_bytes()));
     let journal = left.desk.file("j").ok_or("no journal")?.list();
-    let lines = "1 3 add contour iso\n1 4 connect src iso 1\n1 5 set iso levels 5\n1 6 set iso \
-                 levels 10\nend 6\n";
-    let front = "vizrun journal 1\n1 1 add file src\n1 2 load src 214\n";
+    let lines = "1 3 1\nadd contour iso\n1 4 1\nconnect src iso 1\n1 5 1\nset iso levels 5\n1 6 1\n\
+                 set iso levels 10\nend 6\n";
+    let front = "vizrun journal 2\n1 1 1\nadd file src\n1 2 1\nload src 214\n";
     let want = format!(in alloc; "{front}{CORNER}\n{lines}")?;
     assert!(rt; journal == want.as_bytes());
     replayed(&rt, alloc, journal, file(&left.ports, "one.vtk"))

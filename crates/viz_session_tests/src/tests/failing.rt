@@ -77,9 +77,11 @@ LOOKUP_TABLE default
 5
 ";
 
-pub const JOURNAL: &str = "vizrun journal 1
-1 1 add file src
-1 2 load src 214
+pub const JOURNAL: &str = "vizrun journal 2
+1 1 1
+add file src
+1 2 1
+load src 214
 # vtk DataFile Version 5.1
 vtk output
 ASCII
@@ -95,19 +97,28 @@ METADATA
 INFORMATION 0
 
 
-1 3 add contour iso
-1 4 connect src iso 1
-1 5 set iso levels 5
-1 6 set iso levels 10
+1 3 1
+add contour iso
+1 4 1
+connect src iso 1
+1 5 1
+set iso levels 5
+1 6 1
+set iso levels 10
 end 6
 ";
 
-const JOURNAL_UNREAD: &str = "vizrun journal 1
-1 1 add file src
-1 2 add contour iso
-1 3 connect src iso 1
-1 4 set iso levels 5
-1 5 set iso levels 10
+const JOURNAL_UNREAD: &str = "vizrun journal 2
+1 1 1
+add file src
+1 2 1
+add contour iso
+1 3 1
+connect src iso 1
+1 4 1
+set iso levels 5
+1 5 1
+set iso levels 10
 end 5
 ";
 
@@ -191,7 +202,7 @@ fn each_failing_call_is_a_fault(rt: HostRuntime) -> Result<(), Fail> {
             [0, 2, 0],
             20,
             WHOLE,
-            [Some(ONE), Some(EMPTY), Some("vizrun journal 1\n1 1")],
+            [Some(ONE), Some(EMPTY), Some("vizrun journal 2\n1 1")],
         ),
         // the put
         ([0, 0, 1], 0, "", whole),

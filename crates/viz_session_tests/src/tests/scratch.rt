@@ -3,7 +3,7 @@
 use super::failing::{BEGUN, JOURNAL, ONE};
 use super::*;
 
-const EMPTY_JOURNAL: &str = "vizrun journal 1\nend 0\n";
+const EMPTY_JOURNAL: &str = "vizrun journal 2\nend 0\n";
 
 /// What `scratch` puts of the first five entries.
 const AGAIN: &str = "file at 5 cells 6 points 7\n";
