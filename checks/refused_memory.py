@@ -43,13 +43,20 @@ SCRIPTS = {
     "version 5.1": ["1 add file src", "1 load src g.vtk", "1 add writer w", "1 connect src w 1",
                     "1 set w version 5", "1 update w a.vtk 1 1", "1 set w form binary",
                     "1 update w b.vtk 2 2"],
+    "batches": ["1 add file src", "1 load src c.vtk", "1 begin", "1 add contour iso",
+                "1 connect src iso 1", "1 set iso levels 5", "1 end", "1 update iso a.vtk 1 1",
+                "1 begin", "1 add threshold low", "1 set low range 0 7", "1 connect src low 1",
+                "1 connect low iso 1", "1 set iso levels 6", "1 end", "1 update iso b.vtk 2 2"],
 }
+OLD = ("vizrun journal 1\n1 1 add file src\n1 2 load src %d\n%s\n1 3 add contour iso\n"
+       "1 4 connect src iso 1\n1 5 set iso levels 5\nend 5\n" % (len(VOLUME), VOLUME))
 # The words of each command; of a script `s` is the script and `j` the journal.
 COMMANDS = {name: ["run", "s", "j"] for name in SCRIPTS}
 COMMANDS["one file"] = ["once", "c.vtk", "a.vtk", "contour", "5"]
 COMMANDS["strips"] = ["strip", "q.vtk", "a.vtk"]
 COMMANDS["a clip"] = ["clip", "c.vtk", "a.vtk", "0", "0", "2", "1"]
 COMMANDS["a volume"] = ["make", "7", "3", "2", "2", "a.vtk"]
+COMMANDS["a journal"] = ["migrate", "old", "a.vtk"]
 # How each kind of call is refused: by error numbers (input and output, no space, no file), or for
 # half of the bytes.
 WAYS = [("memory", "12"), ("open", "2"), ("open", "28"), ("read", "5"), ("read", "short"),
@@ -66,7 +73,7 @@ def wrong(name, way, number, what):
 def folder_of(name, root):
     """A fresh folder with the files that a command reads."""
     folder = tempfile.mkdtemp(dir=root)
-    for path, content in ("c.vtk", VOLUME), ("q.vtk", SQUARE), ("g.vtk", GRID):
+    for path, content in ("c.vtk", VOLUME), ("q.vtk", SQUARE), ("g.vtk", GRID), ("old", OLD):
         with open(os.path.join(folder, path), "w") as file:
             file.write(content)
     if name in SCRIPTS:
@@ -87,17 +94,22 @@ def without_ran(report):
 
 
 def target_of(name, actor, command):
-    """The words of an actor's command of a script."""
+    """The words of an actor's command of a script; a batch is one command."""
     lines = [it.split() for it in SCRIPTS[name] if it.startswith("%s " % actor)]
-    return lines[int(command) - 1]
+    commands, is_open = [], False
+    for words in lines:
+        if not is_open:
+            commands.append(words)
+        is_open = words[1] == "begin" or is_open and words[1] != "end"
+    return commands[int(command) - 1]
 
 
 def whole_files(name, way, number, found, plain, folder):
     """Each file that a line tells as whole has the bytes that are due."""
     for line in found.out.splitlines():
         told = re.match(r"file (?:(\d+) (\d+) )?(?:at (\d+) )?cells \d+ points \d+", line)
-        strips = re.match(r"strips \d+ triangles \d+ points \d+", line)
-        if (strips or told and not told[1]) and found.files.get("a.vtk") != plain.files["a.vtk"]:
+        whole = re.match(r"strips \d+ triangles \d+ points \d+|migrated \d+", line)
+        if (whole or told and not told[1]) and found.files.get("a.vtk") != plain.files["a.vtk"]:
             wrong(name, way, number, "a.vtk isn't whole")
         if told and told[1]:
             _, _, node, path, *_ = target_of(name, told[1], told[2])
