@@ -4,7 +4,7 @@ use Rattle.viz_network.specs.declared.edit.Edit.{Edit}
 use Rattle.viz_network.specs.declared.refusal.Refusal.{Refusal}
 use Rattle.viz_network.specs.Network.{Network}
 use Rattle.viz_network.specs.Edits.{apply}
-use Rattle.viz_network.specs.History.{pick, after, net_of}
+use Rattle.viz_network.specs.History.{pick, net_of}
 use Rattle.viz_network.proofs.SoundLemmas.{sound_after}
 use Rattle.viz_network.proofs.HistoryLemmas.{sound_of}
 use Rattle.viz_batches.specs.declared.stop.BatchStop.{BatchStop}
