@@ -1,5 +1,5 @@
 -- All commands of an account came to what they asked for exactly where all lines tell so.
-use Rattle.std.proofs.Common.{◌≡◌, ℕ, ◌+◌, ◌<◌, ◌≤◌, ◌⊎◌, inl, inr, true, cond, List, [], ◌∷◌, ◌++◌, flat_map, nat_eq, Option, None, Some, Result, Ok, Err, refl, sym, ap, ap₂, subst, ◌∙◌, arith}
+use Rattle.std.proofs.Common.{◌≡◌, ℕ, ◌+◌, ◌<◌, ◌≤◌, ◌⊎◌, inl, inr, cond, List, [], ◌∷◌, ◌++◌, flat_map, Option, None, Some, Result, Ok, Err, refl, sym, ap, ap₂, subst, ◌∙◌, arith}
 use Rattle.std.specs.List.{All}
 use Rattle.std.proofs.lemmas.List.Elements.{All-nil, All-cons, All-head, All-tail, All-append}
 use Rattle.viz_base.specs.declared.call.Call.{Call}
@@ -10,7 +10,6 @@ use Rattle.viz_network.specs.declared.fault.Fault.{Fault}
 use Rattle.viz_network.specs.declared.node.Node.{Node}
 use Rattle.viz_network.specs.Network.{Network, named}
 use Rattle.viz_surface_law.specs.declared.audits.Counts.{Counts}
-use Rattle.viz_turn.specs.Tales.{has}
 use Rattle.viz_entries.specs.declared.entry.Entry.{Entry}
 use Rattle.viz_scratch.specs.Laws.{FilesAreOne}
 use Rattle.viz_scratch.specs.Written.{IsFileOf}

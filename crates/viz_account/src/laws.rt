@@ -20,8 +20,8 @@ pub fn entries_are_told_once<P: Port>()
     ensures once { EntriesAreToldOnce P.Port }
 {}
 
-/// Where one actor alone has commands, each of its lines shows how many entries were made so far, its
-/// own included.
+/// Where one actor alone has commands, each of its lines shows how many entries were made so far,
+/// its own included.
 pub fn lines_count_edits<P: Port>()
     ensures counts { LinesCountEdits P.Port }
 {}
