@@ -7,11 +7,14 @@
 #![tactic(auto)]
 
 mod draft;
+mod edits;
 mod entry;
 mod laws;
 mod ledger;
+mod line;
 mod part;
 mod reading;
+mod version;
 mod writing;
 
 pub use entry::JournalEntry;
