@@ -1,6 +1,6 @@
 -- Entries that a journal can have (docs/FORMATS.md, "Journals").
-use Rattle.std.specs.Prelude.{◌≡◌, ◌+◌, ◌^◌, ◌<◌, ◌≤◌, true, ◌&&◌, int_le, List, [], ◌∷◌, ◌++◌}
-use Rattle.std.specs.Prelude.{length, Some}
+use Rattle.std.specs.Prelude.{◌≡◌, ℕ, ◌+◌, ◌^◌, ◌<◌, ◌≤◌, true, ◌&&◌, int_le, List, [], ◌∷◌}
+use Rattle.std.specs.Prelude.{◌++◌, length, Some}
 use Rattle.std.specs.List.{list_all, AllByRecursion}
 use Rattle.viz_kinds.specs.declared.param.Param.{Param}
 use Rattle.viz_kinds.specs.declared.param.Param.TheVariants as param
@@ -15,6 +15,7 @@ use Rattle.viz_batches.specs.Batches.{IsBatch}
 use Rattle.viz_journal.specs.declared.entry.JournalEntry.{JournalEntry}
 use Rattle.viz_journal.specs.declared.version.Version.{Version}
 use Rattle.viz_journal.specs.declared.version.Version.TheVariants as version
+use Rattle.viz_journal.specs.Journal.{journal_in}
 use Rattle.viz_journal.specs.Entries.{edit_limit, edits_of, entries_by, accepts_all}
 
 -- a value of eight numbers of 64 bits, or a text; the array's is a name
@@ -59,3 +60,7 @@ AreEntries v before (e ∷ entries) = FitsEntry v before e × AreEntries v (befo
 pub record Fits (v : Version) (entries : List JournalEntry) : Type 0 where
   pub few : length (edits_of entries) ≤ edit_limit
   pub each : AreEntries v [] entries
+
+-- the bytes are the text of the entries in a version, whose journals can have them
+abbrev pub IsJournalOf : List ℕ → List JournalEntry → Type 0
+IsJournalOf bytes entries = (v : Version) × (bytes ≡ journal_in v entries) × Fits v entries

@@ -23,7 +23,7 @@ fn is_line(text: &mut Vec<u8>, edit: &Edit, line: &[u8]) -> Result<bool, AllocEr
     Ok(line == text.as_slice())
 }
 
-/// Adds the edit that was told to the open batch, or gives its first refusal. The text has what
+/// Adds the edit that was told to the batch, or gives its first refusal. The text has what
 /// stands in front of the edit on its line.
 #[tactic(auto, unfolding(crate::specs::Edits::edit_at))]
 pub(crate) fn add_told(
@@ -58,7 +58,7 @@ pub(crate) fn add_told(
     }
 }
 
-/// Adds the edit of the line in front, which has this number, to the open batch. Gives what stands
+/// Adds the edit of the line in front, which has this number, to the batch. Gives what stands
 /// behind it.
 fn add_line<'a>(
     alloc: Global,
@@ -92,7 +92,7 @@ fn add_line<'a>(
     }
 }
 
-/// Adds the edits of so many lines, the first of which has this number, to the open batch. Gives
+/// Adds the edits of so many lines, the first of which has this number, to the batch. Gives
 /// what stands behind them.
 pub(crate) fn add_lines<'a>(
     alloc: Global,
@@ -107,7 +107,7 @@ pub(crate) fn add_lines<'a>(
     requires within { first + count < 4294967296 }
     ensures { GoesThrough (λ x. x.now) result count first ledger.old bytes.now ledger.new }
 {
-    ledger.open.reserve_exact(count as usize)?;
+    ledger.batch.reserve_exact(count as usize)?;
     let mut rest = bytes;
     for i in 0..count {
         match add_line(alloc, ledger, text, first + i, rest) {

@@ -18,14 +18,15 @@ use viz_network::{ApplyStop, Edit, Net, networks_are_sound};
 /// The greatest number of edits.
 const LIMIT: u32 = 1_073_741_824;
 
-/// The entries so far, the edits of the batch that is open, the network that all of them make, and
-/// how many entries each actor has.
+/// The entries so far, the edits so far of the batch behind them, the network that all of these make,
+/// and how many entries each actor has.
 #[derive(Drop)]
 pub struct Ledger {
     pub entries: Vec<JournalEntry>,
-    pub open: Vec<Edit>,
+    /// Edits that are no entry yet.
+    pub batch: Vec<Edit>,
     pub net: Net,
-    /// How many edits there are, those of the open batch too.
+    /// How many edits there are, those that are no entry yet too.
     pub edits: u32,
     pub counts: BTreeMap<u32, u32>,
     /// The number of the line behind the entries.
@@ -40,7 +41,7 @@ pub(crate) fn empty_ledger(alloc: Global) -> Ledger
 {
     Ledger {
         entries: Vec::new(alloc),
-        open: Vec::new(alloc),
+        batch: Vec::new(alloc),
         net: Net::new(alloc),
         edits: 0,
         counts: BTreeMap::new(alloc),
@@ -54,7 +55,7 @@ pub(crate) fn entries_in(ledger: Ledger) -> Vec<JournalEntry>
 {
     let Ledger {
         entries,
-        open: _open,
+        batch: _batch,
         net: _net,
         counts: _counts,
         ..
@@ -90,7 +91,7 @@ fn raise(counts: &mut BTreeMap<u32, u32>, actor: u32, count: u32) -> Result<(), 
     }
 }
 
-/// Adds an edit to the open batch, where the network accepts it.
+/// Adds an edit to the batch, where the network accepts it.
 pub(crate) fn add(ledger: &mut Ledger, edit: Edit) -> Result<(), ApplyStop>
     requires kept { IsKept ledger.old }
     requires few { length (edits_in ledger.old) < edit_limit }
@@ -100,7 +101,7 @@ pub(crate) fn add(ledger: &mut Ledger, edit: Edit) -> Result<(), ApplyStop>
     networks_are_sound();
     let at = ledger.edits + 1;
     ledger.net.apply(at, &edit)?;
-    push_edit(&mut ledger.open, edit)?;
+    push_edit(&mut ledger.batch, edit)?;
     ledger.edits = at;
     Ok(())
 }
@@ -126,8 +127,7 @@ fn batch_of(alloc: Global, edits: &mut Vec<Edit>) -> Option<Batch>
     Batch::new(mem::replace(edits, Vec::new(alloc)))
 }
 
-/// Closes the open batch: makes it an entry of so many lines, whose count is the next one of its
-/// actor.
+/// Closes the batch: makes it an entry of so many lines, whose count is the next one of its actor.
 pub(crate) fn close(
     alloc: Global,
     ledger: &mut Ledger,
@@ -137,11 +137,11 @@ pub(crate) fn close(
 ) -> Result<(), AllocError>
     requires kept { IsKept ledger.old }
     requires counted { count ≡ entries_by actor ledger.old.entries.items + 1 }
-    requires lines { lines ≤ length ledger.old.open.items + 1 }
-    ensures { OnOk result (IsEntered ledger.old (entry actor count ledger.old.open.items)
+    requires lines { lines ≤ length ledger.old.batch.items + 1 }
+    ensures { OnOk result (IsEntered ledger.old (entry actor count ledger.old.batch.items)
         (ledger.old.line + lines) ledger.new) }
 {
-    let Some(batch) = batch_of(alloc, &mut ledger.open) else {
+    let Some(batch) = batch_of(alloc, &mut ledger.batch) else {
         return Err(AllocError);
     };
     raise(&mut ledger.counts, actor, count)?;

@@ -130,7 +130,8 @@ pub(crate) fn put_lead(text: &mut Vec<u8>, actor: u32, count: u32) -> Result<(),
     ensures { OnOk result (text.new.items ≡ text.old.items ++ lead actor count) }
 {
     put_two(text, actor, count)?;
-    text.push(b' ')
+    text.push(b' ')?;
+    Ok(())
 }
 
 /// Adds the line in front of a batch, without its newline.

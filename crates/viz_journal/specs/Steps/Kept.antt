@@ -21,9 +21,9 @@ use Rattle.viz_journal.specs.Entries.{edit_limit, edits_of, entries_by, is_accep
 use Rattle.viz_journal.specs.Edits.{edit_at, batch_from}
 use Rattle.viz_journal.specs.Reading.{single_at, head_at, with_head, Next, journal_from}
 
--- the edits so far: those of the entries and those of the open batch
+-- the edits so far: those of the entries and those of the batch behind them
 abbrev pub edits_in : Ledger → List Edit
-edits_in ledger = edits_of ledger.entries.items ++ ledger.open.items
+edits_in ledger = edits_of ledger.entries.items ++ ledger.batch.items
 
 -- the network is that of the edits, they are counted and not too many, each actor has as many
 -- entries as are counted, and the next line's number is small
@@ -35,10 +35,10 @@ pub record IsKept (ledger : Ledger) : Type 0 where
       ≡ entries_by q ledger.entries.items
   pub lines : ledger.line ≤ 2 * length (edits_of ledger.entries.items) + 2
 
--- the same, and no batch is open
+-- the same, and no batch is begun
 pub record IsClosed (ledger : Ledger) : Type 0 where
   pub kept : IsKept ledger
-  pub open : ledger.open.items ≡ []
+  pub none : ledger.batch.items ≡ []
 
 -- the edit is accepted behind these, or refused, unless memory ran out
 abbrev pub Took : Result (Unit {0}) ApplyStop → List Edit → Edit → Type 0
@@ -48,16 +48,16 @@ Took (Err apply.Memory) before e = Unit {0}
 
 -- ---- edits
 
--- only the open batch has more edits
+-- only the batch has more edits
 pub record IsGrown (old new : Ledger) : Type 0 where
   pub kept : IsKept new
   pub entries : new.entries.items ≡ old.entries.items
   pub line : new.line ≡ old.line
 
--- only the open batch has more edits, and it has this one more
+-- only the batch has more edits, and it has this one more
 pub record IsAdded (old : Ledger) (e : Edit) (new : Ledger) : Type 0 where
   pub grown : IsGrown old new
-  pub open : new.open.items ≡ old.open.items ++ e ∷ []
+  pub batch : new.batch.items ≡ old.batch.items ++ e ∷ []
 
 -- the edit of the line was added, or the line is refused so
 abbrev pub Adds : Result (Unit {0}) ScriptRefusal → Ledger → List ℕ → Part → Draft → Ledger → Type 0
@@ -68,7 +68,7 @@ Adds (Err r) old front part draft new = edit_at (edits_in old) front part draft 
 -- the edits of a batch and so many more are those of the lines
 abbrev pub batch_in : Ledger → ℕ → ℕ → List ℕ → Result (List Edit × List ℕ) (ℕ × ScriptRefusal)
 batch_in ledger k n bytes =
-    batch_from k n (edits_of ledger.entries.items) ledger.open.items bytes
+    batch_from k n (edits_of ledger.entries.items) ledger.batch.items bytes
 
 -- a line of a batch was read, whatever stands behind it: its edit was added, or it is refused
 abbrev pub GoesOn : {S : Type 0} → (S → List ℕ) → Result S ScriptStop → ℕ → Ledger → List ℕ
@@ -85,7 +85,7 @@ abbrev pub GoesThrough : {S : Type 0} → (S → List ℕ) → Result S ScriptSt
     → List ℕ → Ledger → Type 0
 GoesThrough view (Ok rest) k n old bytes new = IsGrown old new
     × (length (view rest) ≤ length bytes)
-    × (batch_in old k n bytes ≡ Ok (new.open.items, view rest))
+    × (batch_in old k n bytes ≡ Ok (new.batch.items, view rest))
 GoesThrough view (Err (Refused m r)) k n old bytes new = batch_in old k n bytes ≡ Err (m, r)
 GoesThrough view (Err Memory) k n old bytes new = Unit {0}
 
