@@ -1,5 +1,0 @@
-use Rattle.viz_journal.proofs.OnlyLemmas.{only}
-use Rattle.viz_journal.proofs.laws.nothing_else_is_read.Goals as goal
-
-pub returns : goal.returns
-returns c = record { only = only }
