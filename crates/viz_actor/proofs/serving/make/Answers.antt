@@ -1,4 +1,4 @@
-use Rattle.std.proofs.Common.{[], ◌∷◌, sym, subst, ap}
+use Rattle.std.proofs.Common.{sym, subst, ap}
 use Rattle.viz_hub.specs.Answers.{Answers}
 use Rattle.viz_actor.specs.Serving.{Edits}
 use Rattle.viz_actor.proofs.ServeLemmas.{edits_told}
