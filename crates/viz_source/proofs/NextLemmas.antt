@@ -1,19 +1,18 @@
 -- What the next answer of a reader says, where bytes of a line were kept since its start.
-use Rattle.std.proofs.Common.{◌≡◌, ◌≢◌, ◌<◌, ◌≤◌, ℕ, zero, suc, ◌+◌, ◌-◌, IsTrue, Bool, true, false, leb, cond, ◌⊎◌, inl, inr, List, [], ◌∷◌, ◌++◌, length, take, drop, map, Option, Some, None, Result, Ok, Err, refl, sym, ap, subst, ◌∙◌, arith, append_assoc}
-use Rattle.std.specs.Prelude.{Contains}
+use Rattle.std.proofs.Common.{◌≡◌, ◌≢◌, ◌<◌, ◌≤◌, ℕ, zero, suc, ◌+◌, ◌-◌, IsTrue, Bool, true, false, leb, cond, ◌⊎◌, inl, inr, List, [], ◌∷◌, ◌++◌, length, take, drop, map, Option, Some, None, Ok, Err, refl, sym, ap, subst, ◌∙◌, arith, append_assoc}
 use Rattle.std.proofs.Math.Seq.{take-append-add, drop-append-add}
-use Rattle.std.proofs.lemmas.Bool.{cases_lt, cond-true, cond-false, lt-leb, both_ways}
-use Rattle.std.proofs.lemmas.List.{append-nil, length-append, length-take, length-take-le, length-drop, take_at, take_all, take-take, take-append-le, take-append-drop, drop-drop}
+use Rattle.std.proofs.lemmas.Bool.{cases_Bool, cases_lt, cond-true, cond-false, lt-leb, both_ways}
+use Rattle.std.proofs.lemmas.List.{append-nil, length-append, length-take-le, length-drop, take_at, take_all, take-append-le, take-append-drop, drop-drop}
 use Rattle.std.proofs.lemmas.List.Elements.{All-contains}
-use Rattle.viz_lex.specs.Words.{HasNoNewline, IsNextLine}
+use Rattle.viz_lex.specs.Words.{HasNoNewline}
 use Rattle.viz_words.specs.Steps.Scans.{trimmed}
 use Rattle.viz_source.specs.declared.limits.TheConstants.{LINE_LIMIT, STREAM_LIMIT, KEPT}
 use Rattle.viz_source.specs.declared.next_line.NextLine.{NextLine}
 use Rattle.viz_source.specs.declared.next_line.NextLine.TheVariants.{Line, LongLine, End}
 use Rattle.viz_source.specs.declared.next_line.StreamStop.{StreamStop}
 use Rattle.viz_source.specs.declared.next_line.StreamStop.TheVariants.{TooLong, Failed}
-use Rattle.viz_source.specs.Streams.{Stream, told_line, told_lines, IsNext, IsPastLimit, IsOpenLine}
-use Rattle.viz_source.specs.Readers.{Reader, held, taken, bytes_of, stream_of, IsReady, IsPrompt, Answers}
+use Rattle.viz_source.specs.Streams.{Stream, told_line, IsNext, IsPastLimit, IsOpenLine}
+use Rattle.viz_source.specs.Readers.{Reader, held, bytes_of, stream_of, IsReady, IsPrompt, Answers}
 use Rattle.viz_source.specs.Steps.Reading.{measured, last_measured, EndsLine, GoesOn, IsPast, Looks, IsOpen}
 use Rattle.viz_source.proofs.StreamLemmas.{HasNoNewline-append, HasNoNewline-take, take-append, lines-first, lines-only}
 
@@ -138,7 +137,11 @@ last_answers tells start now before left o over within told =
         → Answers (Ok (last_measured (take KEPT line))) (take KEPT line) (stream_of start before) (stream_of now left) left
     by [] parts rest passed one =
         let same : now.passed ≡ start.passed = omega (arith, passed) in
-        (parts, ap (λ (n : ℕ). record { passed = n; bytes = bytes_of now left }) same ∙ ap (λ (l : List ℕ). record { passed = start.passed; bytes = l }) (rest ∙ sym parts))
+        let new : ℕ → List ℕ → Bool → Stream = λ (n : ℕ) (l : List ℕ) (t : Bool). record { passed = n; bytes = l; ended = t } in (
+          parts,
+          ap (λ n. new n (bytes_of now left) now.ended) same ∙ ap (λ l. new start.passed l now.ended) (rest ∙ sym parts)
+              ∙ ap (new start.passed (bytes_of start before)) over,
+        )
     by (b ∷ bs) parts rest passed one =
         let some : (b ∷ bs) ≢ [] = λ h. cc in
         told_measured (take KEPT (b ∷ bs)) (stream_of start before) (stream_of now left) left (record {
@@ -146,7 +149,7 @@ last_answers tells start now before left o over within told =
           parts = parts ∙ sym (append-nil (b ∷ bs)) ∙ ap (λ l. (b ∷ bs) ++ l) (sym rest);
           passed = passed;
           within = within;
-          ends = inr (record { some = some; last = rest; none = one });
+          ends = inr (record { some = some; none = one; last = rest; ended = over });
           told = ap (map told_line) (lines-only (b ∷ bs) one some) ∙ ap (λ (l : Option (List ℕ)). l ∷ []) (sym (kept_told (b ∷ bs)));
         })
 
@@ -181,6 +184,27 @@ failed_answers tells start now mid before left later o goes_on g same told =
       none = HasNoNewline-append o.line (held now) o.none g.none;
     }
 
+-- a reader whose input has ended pulls nothing
+pub began_open : (start now : Reader) → (IsReady start → now ≡ start) → now.ended ≡ false → start.ended ≡ false
+began_open start now same goes_on = elim (cases_Bool start.ended) [
+  | inl over ↦ absurd (both_ways now.ended goes_on (ap (λ (r : Reader). r.ended) (same (inl over)) ∙ over))
+  | inr open_still ↦ open_still
+]
+
+-- ---- how many bytes are passed
+
+pub line_passes : (tells : Bool) (start now new : Reader) (next : NextLine) (before left : List ℕ) → IsOpen tells start now before left → EndsLine now new next → start.passed < new.passed
+line_passes tells start now new next before left o e =
+    let after : new.passed ≡ now.passed + (length e.line + 1) = ap (λ (r : Reader). r.passed) e.after in
+    omega (arith, after, o.passed)
+
+pub last_passes : (tells : Bool) (start now : Reader) (before left : List ℕ) → IsOpen tells start now before left → (last_measured now.line ≡ End) ⊎ (start.passed < now.passed)
+last_passes tells start now before left o = by o.line o.kept o.passed
+  where
+    by : (line : List ℕ) → now.line ≡ take KEPT line → now.passed ≡ start.passed + length line → (last_measured now.line ≡ End) ⊎ (start.passed < now.passed)
+    by [] kept passed = inl (ap last_measured kept)
+    by (b ∷ bs) kept passed = inr (omega (arith, passed))
+
 -- ---- the next piece
 
 pub open_on : (tells : Bool) (start now mid new : Reader) (before left later : List ℕ) → IsOpen tells start now before left → now.ended ≡ false → GoesOn now mid
@@ -197,7 +221,7 @@ open_on tells start now mid new before left later o goes_on g bytes line passed 
       kept = kept;
       passed = omega (arith, passed, after, size, o.passed);
       bytes = λ told. o.bytes told ∙ ap (λ l. o.line ++ l) (cond-false _ _ _ goes_on ∙ ap (λ l. held now ++ l) (bytes told))
-      ∙ sym (append_assoc o.line (held now) (bytes_of new later));
+          ∙ sym (append_assoc o.line (held now) (bytes_of new later));
     }
 
 pub not_ready : (r : Reader) → r.ended ≡ false → HasNoNewline (held r) → IsReady r → ⊥

@@ -1,8 +1,7 @@
 -- The steps of a reader of lines.
-use Rattle.std.proofs.Common.{◌≡◌, ◌≢◌, ◌<◌, ◌≤◌, ℕ, zero, suc, ◌+◌, ◌-◌, List, [], ◌∷◌, ◌++◌, length, take, drop, min, Option, Some, None, refl, sym, ap, subst, ◌∙◌, inl, inr, arith, append_assoc}
-use Rattle.std.proofs.lemmas.List.{take_all, take-take, take-append-le, length-append, length-take, length-take-le, length-drop, take-append-drop, drop-take, take_min, append-nil}
+use Rattle.std.proofs.Common.{◌≡◌, ◌≤◌, ℕ, zero, suc, ◌+◌, ◌-◌, List, [], ◌∷◌, ◌++◌, length, take, drop, min, Option, Some, None, sym, ap, ◌∙◌, arith}
+use Rattle.std.proofs.lemmas.List.{take-take, length-take-le, drop-take, take_min}
 use Rattle.memchr.specs.Find.{IsFirstByte, is_byte}
-use Rattle.viz_lex.specs.Words.{line_len, HasNoNewline, IsNextLine}
 use Rattle.viz_lex.proofs.LineLemmas.{line_len_is, line_len-Some, line_len-None}
 use Rattle.viz_source.specs.Steps.Reading.{FindsNewline}
 
@@ -33,4 +32,3 @@ kept_behind (suc k) (x ∷ xs) ys h =
 pub part_taken : (xs : List ℕ) (place n count : ℕ) → place + n ≤ count → take n (drop place (take count xs)) ≡ take n (drop place xs)
 part_taken xs place n count h =
     ap (take n) (sym (part_is xs place count (omega (arith, h)))) ∙ take-take n (count - place) (drop place xs) (omega (arith, h))
-

@@ -1,18 +1,18 @@
 -- Lines of streams: the line in front, and what its answer says of those that are to come.
-use Rattle.std.proofs.Common.{◌≡◌, ◌≢◌, ◌<◌, ◌≤◌, ℕ, zero, suc, ◌+◌, ◌-◌, Bool, true, false, eqb, leb, ltb, cond, ◌⊎◌, inl, inr, List, [], ◌∷◌, ◌++◌, length, take, drop, map, Option, Some, None, Result, Ok, Err, refl, sym, ap, subst, ◌∙◌, arith, append_assoc}
-use Rattle.std.proofs.lemmas.Bool.{cases_lt, cases_Bool, lt-ltb, le-ltb, ne_eqb, cond-true, cond-false}
-use Rattle.std.proofs.lemmas.List.{append-nil, length-append, take_at, drop_at, take_all, take-append-le}
-use Rattle.viz_lex.specs.Words.{HasNoNewline, IsNextLine}
+use Rattle.std.proofs.Common.{◌≡◌, ◌≢◌, ◌↔◌, ◌≤◌, ℕ, zero, suc, ◌+◌, ◌-◌, true, false, ◌⊎◌, inl, inr, List, [], ◌∷◌, ◌++◌, length, take, drop, map, Option, Some, None, Result, Ok, Err, refl, sym, ap, ◌∙◌, arith, append_assoc}
+use Rattle.std.proofs.lemmas.Bool.{cases_lt, both_ways, lt-ltb, le-ltb, ne_eqb, cond-true, cond-false}
+use Rattle.std.proofs.lemmas.List.{append-nil, length-append, take_at, take_all}
+use Rattle.viz_lex.specs.Words.{HasNoNewline}
 use Rattle.viz_lex.proofs.LineLemmas.{HasNoNewline-nil, HasNoNewline-cons, HasNoNewline-head, HasNoNewline-tail}
 use Rattle.viz_words.specs.Lines.{line_len, lines_of}
 use Rattle.viz_words.specs.Steps.Scans.{trimmed}
 use Rattle.viz_words.proofs.ScanLemmas.{lines-ended, lines-last}
-use Rattle.viz_source.specs.declared.limits.TheConstants.{LINE_LIMIT, STREAM_LIMIT}
+use Rattle.viz_source.specs.declared.limits.TheConstants.{STREAM_LIMIT}
 use Rattle.viz_source.specs.declared.next_line.NextLine.{NextLine}
 use Rattle.viz_source.specs.declared.next_line.NextLine.TheVariants.{Line, LongLine, End}
 use Rattle.viz_source.specs.declared.next_line.StreamStop.{StreamStop}
 use Rattle.viz_source.specs.declared.next_line.StreamStop.TheVariants.{TooLong, Failed}
-use Rattle.viz_source.specs.Streams.{Stream, told_line, told_lines, before_ended, ended_part, whole_lines, lines_left, IsTooLong, IsEnded, IsUnended, IsNext, IsPastLimit, IsOpenLine, IsAnswered}
+use Rattle.viz_source.specs.Streams.{Stream, told_line, told_lines, before_ended, ended_part, whole_lines, lines_left, IsTooLong, IsEnded, IsUnended, IsNext, IsPastLimit, IsOpenLine, IsOver, AreAnswered}
 use Rattle.viz_source.specs.Readers.{Answers, Tells}
 
 -- ---- bytes without a newline
@@ -176,8 +176,58 @@ tells_of (Err Failed) line old new left h = tt
 
 -- ---- all answers
 
--- lines that are answered one after the other are those that are to come
-pub answered_all : (s : Stream) (lines : List (Option (List ℕ))) → IsAnswered s lines → lines ≡ lines_left s
-answered_all s [] (inl over) = sym (over-lines s over)
-answered_all s [] (inr past) = sym (past-lines s past)
-answered_all s (line ∷ lines) h = ap (λ l. line ∷ l) (answered_all h.0 lines h.2) ∙ sym (next-lines s h.0 line h.1)
+-- lines that are answered one after the other stand in front of those that are to come
+pub answered-lines : (old new : Stream) (lines : List (Option (List ℕ))) → AreAnswered old lines new → lines_left old ≡ lines ++ lines_left new
+answered-lines old new [] h = ap lines_left (sym h)
+answered-lines old new (line ∷ lines) h = next-lines old h.0 line h.1 ∙ ap (λ l. line ∷ l) (answered-lines h.0 new lines h.2)
+
+answered-length : (old new : Stream) (lines : List (Option (List ℕ))) → AreAnswered old lines new → new.passed + length new.bytes ≡ old.passed + length old.bytes
+answered-length old new [] h = ap (λ (s : Stream). s.passed + length s.bytes) h
+answered-length old new (line ∷ lines) h = answered-length h.0 new lines h.2 ∙ same_length old h.0 line h.1
+
+-- a stream is as long behind them
+pub answered-too_long : (old new : Stream) (lines : List (Option (List ℕ))) → AreAnswered old lines new → IsTooLong old ↔ IsTooLong new
+answered-too_long old new lines h =
+    let same = answered-length old new lines h in
+    (λ long. omega (arith, same, long), λ long. omega (arith, same, long))
+
+pub over-nothing : (s : Stream) → IsOver s → lines_left s ≡ []
+over-nothing s (inl over) = over-lines s over
+over-nothing s (inr past) = past-lines s past
+
+pub answered-all : (old new : Stream) (lines : List (Option (List ℕ))) → AreAnswered old lines new → IsOver new → lines ≡ lines_left old
+answered-all old new lines h over =
+    sym (append-nil lines) ∙ ap (λ l. lines ++ l) (sym (over-nothing new over)) ∙ sym (answered-lines old new lines h)
+
+-- ---- what was taken whole
+
+nothing_next : (old new : Stream) (line : Option (List ℕ)) → old.bytes ≡ [] → IsNext old new line → ⊥
+nothing_next old new line none h = by h.text (sym none ∙ h.parts) h.ends
+  where
+    by : (text : List ℕ) → [] ≡ text ++ new.bytes → IsEnded text ⊎ IsUnended text new → ⊥
+    by [] e (inl ends) = let size = ap length ends.parts in omega (arith, size, length-append ends.line (10 ∷ []))
+    by [] e (inr last) = last.some refl
+    by (b ∷ bs) e ends = let size : 0 ≡ length (b ∷ bs ++ new.bytes) = ap length e in omega (arith, size)
+
+ended_stays : (old new : Stream) (lines : List (Option (List ℕ))) → old.bytes ≡ [] → old.ended ≡ true → AreAnswered old lines new → new.ended ≡ true
+ended_stays old new [] none over h = ap (λ (s : Stream). s.ended) h ∙ over
+ended_stays old new (line ∷ lines) none over h = absurd (nothing_next old h.0 line none h.1)
+
+-- where a pull fails, the lines that were answered are those that were taken whole
+pub answered-whole : (old new : Stream) (lines : List (Option (List ℕ))) (left : List ℕ) → AreAnswered old lines new → new.ended ≡ false → IsOpenLine new.bytes left
+    → (front : List ℕ) × (old.bytes ≡ front ++ left) × (lines ≡ whole_lines front)
+answered-whole old new [] left h goes_on open_line =
+    (open_line.line, ap (λ (s : Stream). s.bytes) (sym h) ∙ open_line.parts, sym (ap told_lines (ended-none open_line.line open_line.none)))
+answered-whole old new (line ∷ lines) left h goes_on open_line =
+    let rest = answered-whole h.0 new lines left h.2 goes_on open_line in
+    by h.1.ends rest
+  where
+    by : IsEnded h.1.text ⊎ IsUnended h.1.text h.0
+        → (front : List ℕ) × (h.0.bytes ≡ front ++ left) × (lines ≡ whole_lines front)
+        → (front : List ℕ) × (old.bytes ≡ front ++ left) × (line ∷ lines ≡ whole_lines front)
+    by (inl ends) rest = (
+      h.1.text ++ rest.0,
+      h.1.parts ∙ ap (λ l. h.1.text ++ l) rest.1 ∙ sym (append_assoc h.1.text rest.0 left),
+      ap (λ l. line ∷ l) rest.2 ∙ sym (whole-ended h.1.text rest.0 line ends h.1.told),
+    )
+    by (inr last) rest = absurd (both_ways new.ended goes_on (ended_stays h.0 new lines last.last last.ended h.2))

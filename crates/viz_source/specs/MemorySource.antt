@@ -1,6 +1,6 @@
 -- What contracts see of a source in memory, and what its pulls give (docs/DEFINITIONS.md,
 -- "Streams").
-use Rattle.std.specs.Prelude.{ℕ, List, [], ◌∷◌, length, take, drop, min, max, Result, Ok, Err}
+use Rattle.std.specs.Prelude.{ℕ, List, [], ◌∷◌, take, drop, min, max, Result, Ok, Err}
 use Rattle.viz_base.specs.declared.refusal.Failed.{Failed}
 use Rattle.viz_base.specs.Faults.{one_more}
 use Rattle.viz_source.specs.declared.limits.TheConstants.{PIECE}

@@ -1,6 +1,6 @@
 -- What contracts see of a reader of lines, and what its answers say (docs/DEFINITIONS.md,
 -- "Streams").
-use Rattle.std.specs.Prelude.{◌≡◌, ℕ, ◌+◌, ◌⊎◌, Bool, false, IsTrue, List, [], ◌∷◌, ◌++◌, length}
+use Rattle.std.specs.Prelude.{◌≡◌, ℕ, ◌+◌, ◌⊎◌, Bool, true, false, IsTrue, List, [], ◌∷◌, ◌++◌, length}
 use Rattle.std.specs.Prelude.{take, drop, Contains, Some, None, Result, Ok, Err, if◌then◌else◌}
 use Rattle.viz_source.specs.declared.next_line.NextLine.{NextLine}
 use Rattle.viz_source.specs.declared.next_line.NextLine.TheVariants.{Line, LongLine, End}
@@ -31,7 +31,7 @@ bytes_of r left = if r.ended then [] else held r ++ left
 
 -- the stream that is to come, where the source has these bytes left
 abbrev pub stream_of : Reader → List ℕ → Stream
-stream_of r left = record { passed = r.passed; bytes = bytes_of r left }
+stream_of r left = record { passed = r.passed; bytes = bytes_of r left; ended = r.ended }
 
 -- a reader that hasn't taken a byte
 abbrev pub fresh : Reader
@@ -52,9 +52,9 @@ IsPrompt r = IsTrue r.ended
 abbrev pub Answers : Result NextLine StreamStop → List ℕ → Stream → Stream → List ℕ → Type 0
 Answers (Ok Line) line old new left = IsNext old new (Some line)
 Answers (Ok LongLine) line old new left = IsNext old new None
-Answers (Ok End) line old new left = (old.bytes ≡ []) × (new ≡ old)
+Answers (Ok End) line old new left = (old.bytes ≡ []) × (new ≡ record old { ended = true })
 Answers (Err TooLong) line old new left = IsPastLimit old
-Answers (Err Failed) line old new left = IsOpenLine old.bytes left
+Answers (Err Failed) line old new left = (old.ended ≡ false) × IsOpenLine old.bytes left
 
 -- what an answer says of the lines that are to come before it and behind it
 abbrev pub Tells : Result NextLine StreamStop → List ℕ → Stream → Stream → Type 0

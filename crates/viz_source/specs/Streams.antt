@@ -1,15 +1,17 @@
 -- The lines of a stream of bytes (docs/DEFINITIONS.md, "Streams").
 use Rattle.std.specs.Prelude.{◌≡◌, ◌≢◌, ℕ, ◌+◌, ◌-◌, ◌<◌, ◌≤◌, ◌==◌, nat_le, nat_lt, ◌⊎◌}
+use Rattle.std.specs.Prelude.{Bool, true, false}
 use Rattle.std.specs.Prelude.{List, [], ◌∷◌, ◌++◌, length, take, map, Option, Some, None}
 use Rattle.std.specs.Prelude.{if◌then◌else◌}
 use Rattle.viz_lex.specs.Words.{HasNoNewline}
 use Rattle.viz_words.specs.Lines.{lines_of}
 use Rattle.viz_source.specs.declared.limits.TheConstants.{LINE_LIMIT, STREAM_LIMIT}
 
--- the bytes of a stream that are to come, and how many stand before them
+-- the bytes of a stream that are to come, how many stand before them, and whether its end was taken
 pub record Stream : Type 0 where
   pub passed : ℕ
   pub bytes : List ℕ
+  pub ended : Bool
 
 -- a line, or None where it has more than 4,096 bytes
 abbrev pub told_line : List ℕ → Option (List ℕ)
@@ -49,11 +51,12 @@ pub record IsEnded (text : List ℕ) : Type 0 where
   pub parts : text ≡ line ++ 10 ∷ []
   pub one : HasNoNewline line
 
--- the last bytes of a stream, which no newline ends
-pub record IsUnended (text behind : List ℕ) : Type 0 where
+-- the last bytes of a stream, which no newline ends, and what is behind them
+pub record IsUnended (text : List ℕ) (behind : Stream) : Type 0 where
   pub some : text ≢ []
-  pub last : behind ≡ []
   pub none : HasNoNewline text
+  pub last : behind.bytes ≡ []
+  pub ended : behind.ended ≡ true
 
 -- this line is the next one: it ends within the first 1,073,741,824 bytes, and the new stream is
 -- what stands behind it
@@ -62,7 +65,7 @@ pub record IsNext (old new : Stream) (line : Option (List ℕ)) : Type 0 where
   pub parts : old.bytes ≡ text ++ new.bytes
   pub passed : new.passed ≡ old.passed + length text
   pub within : new.passed ≤ STREAM_LIMIT
-  pub ends : IsEnded text ⊎ IsUnended text new.bytes
+  pub ends : IsEnded text ⊎ IsUnended text new
   pub told : told_lines text ≡ line ∷ []
 
 -- no further line ends within the first 1,073,741,824 bytes, and the stream has more
@@ -76,7 +79,16 @@ pub record IsOpenLine (bytes behind : List ℕ) : Type 0 where
   pub parts : bytes ≡ line ++ behind
   pub none : HasNoNewline line
 
--- these lines are answered one after the other, and then that no line comes
-abbrev pub IsAnswered : Stream → List (Option (List ℕ)) → Type 0
-IsAnswered s [] = (s.bytes ≡ []) ⊎ IsPastLimit s
-IsAnswered s (line ∷ lines) = (next : Stream) × IsNext s next line × IsAnswered next lines
+-- these lines are answered one after the other, and this stream is to come behind them
+abbrev pub AreAnswered : Stream → List (Option (List ℕ)) → Stream → Type 0
+AreAnswered old [] new = new ≡ old
+AreAnswered old (line ∷ lines) new = (next : Stream) × IsNext old next line
+    × AreAnswered next lines new
+
+-- no further line is answered
+abbrev pub IsOver : Stream → Type 0
+IsOver s = (s.bytes ≡ []) ⊎ IsPastLimit s
+
+-- a stream of which nothing was taken
+abbrev pub whole_stream : List ℕ → Stream
+whole_stream bytes = record { passed = 0; bytes = bytes; ended = false }

@@ -6,12 +6,17 @@
 //! reader answers; what a source in memory gives stands in `specs/MemorySource.antt`.
 #![tactic(auto)]
 
+mod laws;
 mod limits;
 mod line_reader;
 mod memory_source;
 mod next_line;
 mod source;
 
+pub use laws::{
+    answers_the_lines_in_turn, answers_the_same_for_every_cut, answers_what_was_taken_whole,
+    has_the_lines_of_its_bytes,
+};
 pub use limits::{LINE_LIMIT, PIECE, STREAM_LIMIT};
 pub use line_reader::LineReader;
 pub use memory_source::MemorySource;

@@ -138,6 +138,8 @@ impl LineReader {
         // Of every source.
         ensures prompt { OnOk result (IsPrompt self.new) }
         ensures ready { IsReady self.old → source.new ≡ source.old }
+        ensures passes { IfOk result (λ next. (next ≡ NextLine.End)
+            ⊎ (self.old.passed < self.new.passed)) }
         ensures within { OnOk result (self.new.passed ≤ STREAM_LIMIT) }
         ensures too_long { result ≡ Err StreamStop.TooLong → STREAM_LIMIT < taken self.new }
         ensures failed { result ≡ Err StreamStop.Failed

@@ -1,4 +1,4 @@
-use Rattle.std.proofs.Common.{◌≡◌, ◌≢◌, ◌<◌, ℕ, suc, ◌-◌, ◌∙◌, vec_len, length, get_or, sym, ap, arith}
+use Rattle.std.proofs.Common.{◌≡◌, ◌-◌, ◌∙◌, vec_len, length, sym, arith}
 use Rattle.std.proofs.lemmas.List.{get_or_read}
 use Rattle.viz_words.proofs.ScanLemmas.{trimmed-last, trimmed-kept, trimmed-empty}
 use Rattle.viz_source.proofs.line_reader.drop_return.Goals as goal

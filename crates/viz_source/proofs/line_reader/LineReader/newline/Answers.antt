@@ -1,4 +1,4 @@
-use Rattle.std.proofs.Common.{ℕ, List, ◌≤◌, ◌∙◌, ap, subst, arith}
+use Rattle.std.proofs.Common.{ℕ, List, ◌∙◌, ap, subst}
 use Rattle.viz_source.specs.Readers.{held}
 use Rattle.viz_source.specs.Steps.Reading.{FindsNewline}
 use Rattle.viz_source.proofs.StepLemmas.{part_is}

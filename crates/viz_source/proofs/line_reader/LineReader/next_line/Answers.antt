@@ -1,4 +1,4 @@
-use Rattle.std.proofs.Common.{◌≡◌, ◌≤◌, Bool, true, false, ℕ, List, Ok, Err, Some, None, Result, Option, sym, ap, subst, ◌∙◌, arith}
+use Rattle.std.proofs.Common.{◌≡◌, true, false, Ok, Err, Result, Option, sym, ap, subst, ◌∙◌, arith}
 use Rattle.std.proofs.lemmas.Result.{err_from_is_err_and}
 use Rattle.viz_source.specs.declared.next_line.NextLine.{NextLine}
 use Rattle.viz_source.specs.declared.next_line.StreamStop.{StreamStop}
@@ -7,7 +7,7 @@ use Rattle.viz_source.specs.Streams.{Stream}
 use Rattle.viz_source.specs.Readers.{Reader, stream_of, IsReady, Answers}
 use Rattle.viz_source.specs.Steps.Reading.{Looks, last_measured}
 use Rattle.viz_source.proofs.StreamLemmas.{tells_of}
-use Rattle.viz_source.proofs.NextLemmas.{line_answers, line_is_prompt, last_answers, stop_answers, failed_answers, open_on, not_ready}
+use Rattle.viz_source.proofs.NextLemmas.{line_answers, line_is_prompt, last_answers, stop_answers, failed_answers, began_open, open_on, not_ready}
 use Rattle.viz_source.proofs.line_reader.LineReader.next_line.Goals as goal
 
 -- a line that was found among the bytes that are held
@@ -42,9 +42,9 @@ returns-in_err-next-clause-answers g c told =
     let new : Stream = stream_of c.held_line.new.self left in
     subst (λ (r : Result NextLine StreamStop). Answers r c.held_line.new.self.line old new left) (sym stop)
     (
-      subst (λ (s : Stream). Answers (Err c.in_err-next.field-0.0) c.held_line.new.self.line s new left)
-      (ap (λ (r : Reader). stream_of r (g.S.Source.left c.args.source.now)) c.self.view_is)
-      (stop_answers _ _ c.loop-self.self c.held_line.new.self _ _ c.in_err-next.field-0.0 c.loop-self.invariant.open_line goes_on c.in_err-next.ensures told c.held_line.new.self.line new)
+    subst (λ (s : Stream). Answers (Err c.in_err-next.field-0.0) c.held_line.new.self.line s new left)
+    (ap (λ (r : Reader). stream_of r (g.S.Source.left c.args.source.now)) c.self.view_is)
+    (stop_answers _ _ c.loop-self.self c.held_line.new.self _ _ c.in_err-next.field-0.0 c.loop-self.invariant.open_line goes_on c.in_err-next.ensures told c.held_line.new.self.line new)
     )
 
 pub returns-in_err-next-clause-lines : goal.returns-in_err-next-clause-lines
@@ -61,9 +61,9 @@ returns-clause-answers g c told =
     let new : Stream = stream_of c.loop-self.self left in
     subst (λ (n : NextLine). Answers (Ok n) c.loop-self.self.line old new left) (sym c.last_line.ensures)
     (
-      subst (λ (s : Stream). Answers (Ok (last_measured c.loop-self.self.line)) c.loop-self.self.line s new left)
-      (ap (λ (r : Reader). stream_of r (g.S.Source.left c.args.source.now)) c.self.view_is)
-      (last_answers _ _ c.loop-self.self _ _ c.loop-self.invariant.open_line over (c.loop-self.invariant.over over) told)
+    subst (λ (s : Stream). Answers (Ok (last_measured c.loop-self.self.line)) c.loop-self.self.line s new left)
+    (ap (λ (r : Reader). stream_of r (g.S.Source.left c.args.source.now)) c.self.view_is)
+    (last_answers _ _ c.loop-self.self _ _ c.loop-self.invariant.open_line over (c.loop-self.invariant.over over) told)
     )
 
 pub returns-clause-lines : goal.returns-clause-lines
@@ -84,9 +84,11 @@ returns-in_err-refill-clause-answers g c told =
     let new : Stream = stream_of c.refill.new.self left in
     subst (λ (r : Result NextLine StreamStop). Answers r c.refill.new.self.line old new left) (sym stop)
     (
-      subst (λ (s : Stream). Answers (Err Failed) c.refill.new.self.line s new left)
-      (ap (λ (r : Reader). stream_of r (g.S.Source.left c.args.source.now)) c.self.view_is)
-      (failed_answers _ _ c.loop-self.self c.held_line.new.self _ _ left c.loop-self.invariant.open_line goes_on none (c.in_err-refill.ensures.err told) told)
+    subst (λ (s : Stream). Answers (Err Failed) c.refill.new.self.line s new left)
+    (ap (λ (r : Reader). stream_of r (g.S.Source.left c.args.source.now)) c.self.view_is) (
+      began_open _ c.loop-self.self c.loop-self.invariant.same_reader goes_on,
+      failed_answers _ _ c.loop-self.self c.held_line.new.self _ _ left c.loop-self.invariant.open_line goes_on none (c.in_err-refill.ensures.err told) told,
+    )
     )
 
 pub loop-self-preserved : goal.loop-self-preserved

@@ -1,4 +1,4 @@
-use Rattle.std.proofs.Common.{◌≡◌, ◌≤◌, ◌+◌, ◌-◌, IsTrue, cond, length}
+use Rattle.std.proofs.Common.{◌≡◌, ◌≤◌, ◌+◌, ◌-◌, IsTrue, cond}
 use Rattle.viz_source.specs.declared.limits.TheConstants.{STREAM_LIMIT, PIECE}
 use Rattle.viz_source.specs.Readers.{taken, IsReady}
 use Rattle.viz_source.specs.Steps.Reading.{IsOpen}
