@@ -1,12 +1,12 @@
 -- A batch is accepted where its edits are one by one.
-use Rattle.std.proofs.Common.{◌≡◌, ℕ, ◌+◌, Bool, true, false, true≢false, List, [], ◌∷◌, ◌++◌, length, length-append, Result, Ok, Err, refl, sym, ap, ◌∙◌, arith}
+use Rattle.std.proofs.Common.{◌≡◌, ℕ, ◌+◌, true, false, true≢false, List, [], ◌∷◌, ◌++◌, length, length-append, Result, Ok, Err, refl, sym, ap, ◌∙◌, arith}
 use Rattle.std.specs.Prelude.{is_ok}
 use Rattle.viz_network.specs.declared.edit.Edit.{Edit}
 use Rattle.viz_network.specs.declared.refusal.Refusal.{Refusal}
 use Rattle.viz_network.specs.Network.{Network}
 use Rattle.viz_network.specs.Edits.{apply}
 use Rattle.viz_network.specs.History.{net_of}
-use Rattle.viz_batches.specs.Batches.{BatchRefusal, then_all, apply_from}
+use Rattle.viz_batches.specs.Batches.{then_all, apply_from}
 use Rattle.viz_journal.specs.Entries.{is_accepted, accepts_all}
 use Rattle.viz_journal.proofs.LedgerLemmas.{net-more}
 

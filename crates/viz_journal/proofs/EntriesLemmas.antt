@@ -1,5 +1,5 @@
 -- What is read as a journal is the text of entries that a journal can have.
-use Rattle.std.proofs.Common.{◌≡◌, ℕ, zero, suc, ◌+◌, ◌^◌, ◌<◌, ◌≤◌, Bool, true, false, cond, not, ◌&&◌, List, [], ◌∷◌, ◌++◌, length, length-append, take, drop, append_assoc, flat_map, Option, Some, None, Result, Ok, Err, refl, sym, ap, subst, ◌∙◌, eqb-true, arith}
+use Rattle.std.proofs.Common.{◌≡◌, ℕ, zero, suc, ◌+◌, ◌^◌, ◌<◌, ◌≤◌, Bool, true, false, cond, not, List, [], ◌∷◌, ◌++◌, length, length-append, take, drop, append_assoc, flat_map, Option, Some, None, Result, Ok, Err, refl, sym, ap, subst, ◌∙◌, eqb-true, arith}
 use Rattle.std.specs.Prelude.{◌==◌, codes, ok_or}
 use Rattle.std.specs.List.{AllByRecursion}
 use Rattle.std.proofs.lemmas.List.{append-nil, take-append-drop}
@@ -8,7 +8,7 @@ use Rattle.viz_network.specs.declared.edit.Edit.{Edit}
 use Rattle.viz_words.specs.declared.refusal.ScriptRefusal.{ScriptRefusal}
 use Rattle.viz_words.specs.declared.refusal.ScriptRefusal.TheVariants as refusal
 use Rattle.viz_words.specs.declared.command.Verb.{Verb}
-use Rattle.viz_words.specs.Gives.{◌>>=◌, guard}
+use Rattle.viz_words.specs.Gives.{◌>>=◌}
 use Rattle.viz_words.specs.Lines.{is_plain}
 use Rattle.viz_words.specs.Words.{words_of}
 use Rattle.viz_words.specs.Numbers.{number_of, natural_in}
@@ -24,13 +24,13 @@ use Rattle.viz_journal.specs.declared.version.Version.{Version}
 use Rattle.viz_journal.specs.declared.version.Version.TheVariants as version
 use Rattle.viz_journal.specs.Journal.{edit_line, file_text, edit_text, batch_line, lead, entry_text, first_line, last_line, journal_in}
 use Rattle.viz_journal.specs.Lines.{greatest, journal_verb, draft_in, commanded, draft_words, draft_of, behind_verb, told_in, head_in, last_in, entry_in, words_in, line_in}
-use Rattle.viz_journal.specs.Parts.{Part, part_of, rest_of, edit_of}
+use Rattle.viz_journal.specs.Parts.{Part, part_of, rest_of}
 use Rattle.viz_journal.specs.Entries.{edit_limit, edits_of, is_counted, entry}
 use Rattle.viz_journal.specs.Edits.{is_spelled, edit_at, edited, drafted, Stop, Batched, batch_from}
-use Rattle.viz_journal.specs.Reading.{single_at, head_at, Next, with_single, with_batch, with_head, ends, last_at, judged, journal_from, version_of, read_behind, journal_read}
-use Rattle.viz_journal.specs.Fits.{FitsEdit, FitsEntry, AreEntries, Fits, IsJournalOf}
+use Rattle.viz_journal.specs.Reading.{single_at, head_at, with_single, with_batch, with_head, ends, last_at, judged, journal_from, version_of, read_behind, journal_read}
+use Rattle.viz_journal.specs.Fits.{FitsEdit, FitsEntry, AreEntries, IsJournalOf}
 use Rattle.viz_journal.proofs.LedgerLemmas.{edits-more}
-use Rattle.viz_journal.proofs.OnlyLemmas.{same-text, both, guarded, bind-ok, part-is, spelled-is, IsRead, edit-is, counted-is, IsHead, head-is}
+use Rattle.viz_journal.proofs.OnlyLemmas.{same-text, guarded, bind-ok, part-is, spelled-is, IsRead, edit-is, counted-is, IsHead, head-is}
 use Rattle.viz_journal.proofs.BatchLemmas.{AreAccepted, all-accepted}
 use Rattle.viz_journal.proofs.FitLemmas.{natural-is, FitsDraft, draft-is, edit-fits}
 
@@ -350,6 +350,6 @@ only bytes entries h = by (version_of (take 17 bytes)) refl h
         let all : is.added ≡ entries = sym is.all in
         let text : bytes ≡ journal_in v entries =
         sym (take-append-drop 17 bytes) ∙ ap (λ l. l ++ rest) (version-is (take 17 bytes) v p)
-            ∙ ap (λ l. first_line v ++ l) (is.text ∙ ap (λ (es : List JournalEntry). flat_map (entry_text v) es ++ tail_of entries) all)
-            ∙ sym (append_assoc (first_line v) (flat_map (entry_text v) entries) (tail_of entries)) in
+        ∙ ap (λ l. first_line v ++ l) (is.text ∙ ap (λ (es : List JournalEntry). flat_map (entry_text v) es ++ tail_of entries) all)
+        ∙ sym (append_assoc (first_line v) (flat_map (entry_text v) entries) (tail_of entries)) in
         (v, text, record { few = is.few; each = subst (AreEntries v []) all is.fits })

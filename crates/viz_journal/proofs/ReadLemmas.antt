@@ -15,7 +15,6 @@ use Rattle.viz_journal.specs.declared.ledger.Ledger.{Ledger}
 use Rattle.viz_journal.specs.declared.version.Version.{Version}
 use Rattle.viz_journal.specs.Lines.{draft_of, line_in}
 use Rattle.viz_journal.specs.Parts.{Part, part_of, rest_of}
-use Rattle.viz_journal.specs.Entries.{edits_of}
 use Rattle.viz_journal.specs.Edits.{edit_at, edited, drafted, Stop, batch_from}
 use Rattle.viz_journal.specs.Reading.{single_at, with_single, judged, journal_from, Reads, Stops}
 use Rattle.viz_journal.specs.Steps.Kept.{batch_in, GoesOn, GoesThrough, EntersBatch, Goes}

@@ -22,10 +22,10 @@ use Rattle.viz_journal.specs.declared.version.Version.{Version}
 use Rattle.viz_journal.specs.declared.version.Version.TheVariants as version
 use Rattle.viz_journal.specs.Journal.{edit_line, file_text, edit_text, batch_line, lead, entry_text, first_line, last_line, journal, journal_in}
 use Rattle.viz_journal.specs.Parts.{is_there, is_closed, rest_of, edit_of}
-use Rattle.viz_journal.specs.Entries.{edit_limit, edits_of, entries_by, is_counted, is_accepted, accepts_all, entry}
+use Rattle.viz_journal.specs.Entries.{edit_limit, edits_of, entries_by, is_counted, is_accepted, entry}
 use Rattle.viz_journal.specs.Edits.{is_spelled, edit_at, Stop, Batched, batch_from}
 use Rattle.viz_journal.specs.Reading.{single_at, head_at, with_batch, with_head, journal_from, journal_read}
-use Rattle.viz_journal.specs.Fits.{FitsEdit, FitsVersion, FitsEntry, AreEntries, Fits, IsJournalOf}
+use Rattle.viz_journal.specs.Fits.{FitsEdit, FitsVersion, FitsEntry, AreEntries, Fits}
 use Rattle.viz_journal.proofs.PartLemmas.{part}
 use Rattle.viz_journal.proofs.ReadLemmas.{batch_from-edit, journal_from-line, journal_from-single}
 use Rattle.viz_journal.proofs.SolidLemmas.{part-plain}

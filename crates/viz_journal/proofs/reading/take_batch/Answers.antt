@@ -1,7 +1,6 @@
-use Rattle.std.proofs.Common.{◌≡◌, Bor, ℕ, ◌+◌, ◌++◌, ◌∙◌, ◌∷◌, [], List, length, Ok, Err, refl, sym, ap, arith}
+use Rattle.std.proofs.Common.{◌≡◌, ◌+◌, ◌∙◌, List, Ok, sym, ap, arith}
 use Rattle.viz_journal.specs.declared.entry.JournalEntry.{JournalEntry}
-use Rattle.viz_journal.specs.Entries.{edits_of, entries_by, entry}
-use Rattle.viz_journal.specs.Edits.{batch_from}
+use Rattle.viz_journal.specs.Entries.{edits_of, entries_by}
 use Rattle.viz_journal.specs.Reading.{head_at}
 use Rattle.viz_journal.proofs.PartLemmas.{part}
 use Rattle.viz_journal.proofs.LedgerLemmas.{length-closed}
