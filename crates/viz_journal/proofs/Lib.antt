@@ -1,3 +1,11 @@
 pub mod PartLemmas
 pub mod LedgerLemmas
 pub mod ReadLemmas
+pub mod OnlyLemmas
+pub mod SolidLemmas
+pub mod AgainLemmas
+pub mod BatchLemmas
+pub mod FitLemmas
+pub mod EntriesLemmas
+pub mod LineLemmas
+pub mod WholeLemmas

@@ -1,13 +1,10 @@
 -- One line of a journal, and the lines behind it.
-use Rattle.std.proofs.Common.{◌≡◌, ℕ, zero, suc, ◌+◌, ◌<◌, ◌≤◌, Bool, true, false, ◌&&◌, nat_le, List, [], ◌∷◌, ◌++◌, length, Result, Ok, Err, refl, sym, ap, subst, ◌∙◌, eqb-true, arith}
-use Rattle.std.specs.Prelude.{◌==◌}
-use Rattle.std.proofs.lemmas.Bool.{leb-true}
+use Rattle.std.proofs.Common.{◌≡◌, ℕ, zero, suc, ◌+◌, ◌<◌, ◌≤◌, List, [], ◌∷◌, ◌++◌, length, Result, Ok, Err, refl, sym, ap, ◌∙◌, arith}
 use Rattle.viz_network.specs.declared.edit.Edit.{Edit}
 use Rattle.viz_words.specs.declared.refusal.ScriptRefusal.{ScriptRefusal}
 use Rattle.viz_words.specs.declared.refusal.ScriptRefusal.TheVariants as refusal
 use Rattle.viz_words.specs.declared.refusal.ScriptStop.{ScriptStop}
 use Rattle.viz_words.specs.declared.refusal.ScriptStop.TheVariants.{Refused, Memory}
-use Rattle.viz_words.specs.Gives.{◌>>=◌, guard}
 use Rattle.viz_journal.specs.declared.draft.Draft.{Draft}
 use Rattle.viz_journal.specs.declared.line.Told.{Told}
 use Rattle.viz_journal.specs.declared.line.Head.{Head}
@@ -16,12 +13,10 @@ use Rattle.viz_journal.specs.declared.line.Line.TheVariants as line
 use Rattle.viz_journal.specs.declared.entry.JournalEntry.{JournalEntry}
 use Rattle.viz_journal.specs.declared.ledger.Ledger.{Ledger}
 use Rattle.viz_journal.specs.declared.version.Version.{Version}
-use Rattle.viz_journal.specs.Journal.{batch_line}
 use Rattle.viz_journal.specs.Lines.{draft_of, line_in}
 use Rattle.viz_journal.specs.Parts.{Part, part_of, rest_of}
-use Rattle.viz_journal.specs.Entries.{edit_limit, edits_of, entries_by, entry}
-use Rattle.viz_journal.specs.Edits.{is_spelled, edit_at, edited, drafted, Stop, Batched, batch_from}
-use Rattle.viz_journal.specs.Reading.{single_at, head_at, Next, with_single, with_batch, with_head, judged, journal_from, Reads, Stops}
+use Rattle.viz_journal.specs.Edits.{edit_at, edited, drafted, Stop, batch_from}
+use Rattle.viz_journal.specs.Reading.{single_at, with_single, judged, journal_from, Reads, Stops}
 use Rattle.viz_journal.specs.Steps.Kept.{batch_in, GoesOn, GoesThrough, EntersBatch, Goes}
 
 -- ---- lines of a batch
@@ -66,52 +61,6 @@ pub stopped-batch : {S : Type 0} (view : S → List ℕ) (stop : ScriptStop) (k 
     → GoesOn view (Err stop) m mid rest new → GoesThrough view (Err stop) k n old bytes last
 stopped-batch view (Refused l r) k n j m old mid new last bytes rest same h = same ∙ h j
 stopped-batch view Memory k n j m old mid new last bytes rest same h = tt
-
--- ---- the line in front of a batch
-
--- a batch whose line may stand behind the entries
-pub head-is : (entries : List JournalEntry) (part : Part) (head h : Head) → head_at entries part head ≡ Ok h
-    → (h.count ≡ entries_by h.actor entries + 1) × (length (edits_of entries) + h.edits ≤ edit_limit)
-unfolding head_at
-head-is entries part head h is = by (head.count == entries_by head.actor entries + 1) refl (nat_le (length (edits_of entries) + head.edits) edit_limit) refl
-    (is_spelled part (batch_line head.actor head.count head.edits)) is
-  where
-    by : (a : Bool) → (head.count == entries_by head.actor entries + 1) ≡ a → (b : Bool) → nat_le (length (edits_of entries) + head.edits) edit_limit ≡ b → (d : Bool)
-        → (guard (a && b) refusal.Number >>= λ counted. guard d refusal.Word >>= λ spelled. Ok head) ≡ Ok h
-        → (h.count ≡ entries_by h.actor entries + 1) × (length (edits_of entries) + h.edits ≤ edit_limit)
-    by true e true f true g =
-        let same : head ≡ h = cc g in
-        subst (λ (x : Head). (x.count ≡ entries_by x.actor entries + 1) × (length (edits_of entries) + x.edits ≤ edit_limit)) same
-        (eqb-true head.count (entries_by head.actor entries + 1) e, leb-true (length (edits_of entries) + head.edits) edit_limit f)
-    by true e true f false g = let bad : ⊥ = cc g in absurd bad
-    by true e false f d g = let bad : ⊥ = cc g in absurd bad
-    by false e b f d g = let bad : ⊥ = cc g in absurd bad
-
--- a batch that is entered
-pub with_head-batch : (n m : ℕ) (next : Next) (entries new : List JournalEntry) (part : Part) (head h : Head) (batch : List Edit) (left : List ℕ) → head_at entries part head ≡ Ok h
-    → batch_from h.edits (n + 1) (edits_of entries) [] part.rest ≡ Ok (batch, left) → new ≡ entries ++ entry h.actor h.count batch ∷ [] → m ≡ n + 1 + h.edits
-    → with_head n next entries (head_at entries part head) part.rest ≡ next m new left
-with_head-batch n m next entries new part head h batch left is read grown longer =
-    ap (λ (r : Result Head ScriptRefusal). with_head n next entries r part.rest) is
-    ∙ ap (λ (r : Result Batched Stop). with_batch n next entries h r) read
-    ∙ ap (λ j. next j (entries ++ entry h.actor h.count batch ∷ []) left) (sym longer)
-    ∙ ap (λ (l : List JournalEntry). next m l left) (sym grown)
-
--- a batch whose line is refused
-pub with_head-refused : (n : ℕ) (next : Next) (entries : List JournalEntry) (part : Part) (head : Head) (r : ScriptRefusal) → head_at entries part head ≡ Err r
-    → with_head n next entries (head_at entries part head) part.rest ≡ Err (n, r)
-with_head-refused n next entries part head r is = ap (λ (r : Result Head ScriptRefusal). with_head n next entries r part.rest) is
-
--- a batch of which an edit is refused
-pub with_head-stopped : {S : Type 0} (view : S → List ℕ) (stop : ScriptStop) (k n : ℕ) (old mid new : Ledger) (part : Part) (head h : Head) → old.batch.items ≡ [] → head_at old.entries.items part head ≡ Ok h
-    → k ≡ h.edits → n ≡ old.line + 1 → GoesThrough view (Err stop) k n old part.rest mid → EntersBatch view (Err stop) old part head new
-with_head-stopped view (Refused m r) k n old mid new part head h none is all first stops = λ next.
-    ap (λ (r : Result Head ScriptRefusal). with_head old.line next old.entries.items r part.rest) is
-    ∙ ap (λ (r : Result Batched Stop). with_batch old.line next old.entries.items h r)
-    (ap (λ j. batch_from j (old.line + 1) (edits_of old.entries.items) [] part.rest) (sym all)
-    ∙ ap (λ j. batch_from k j (edits_of old.entries.items) [] part.rest) (sym first)
-    ∙ ap (λ l. batch_from k n (edits_of old.entries.items) l part.rest) (sym none) ∙ stops)
-with_head-stopped view Memory k n old mid new part head h none is all first stops = tt
 
 -- ---- lines of entries
 

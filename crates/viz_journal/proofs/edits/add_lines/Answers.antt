@@ -1,7 +1,5 @@
-use Rattle.std.proofs.Common.{◌≡◌, Bor, ℕ, suc, ◌+◌, ◌++◌, ◌∷◌, [], ◌∙◌, List, length, length-append, Ok, refl, sym, ap, arith}
-use Rattle.viz_network.specs.declared.edit.Edit.{Edit}
+use Rattle.std.proofs.Common.{◌≡◌, Bor, ℕ, ◌+◌, ◌++◌, ◌∷◌, [], ◌∙◌, List, length, length-append, refl, sym, ap, arith}
 use Rattle.viz_network.specs.History.{net_of}
-use Rattle.viz_journal.specs.declared.entry.JournalEntry.{JournalEntry}
 use Rattle.viz_journal.specs.Entries.{edits_of}
 use Rattle.viz_journal.specs.Edits.{batch_from}
 use Rattle.viz_journal.specs.Steps.Kept.{batch_in}

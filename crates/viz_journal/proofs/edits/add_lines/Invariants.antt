@@ -1,4 +1,4 @@
-use Rattle.std.proofs.Common.{◌≡◌, ℕ, ◌+◌, ◌≤◌, ◌++◌, length}
+use Rattle.std.proofs.Common.{◌≡◌, ℕ, ◌+◌, ◌≤◌, length}
 use Rattle.viz_journal.specs.Steps.Kept.{IsGrown, batch_in}
 use Rattle.viz_journal.proofs.edits.add_lines.Given as goal
 

@@ -1,6 +1,5 @@
-use Rattle.std.proofs.Common.{◌≡◌, Bor, ℕ, ◌+◌, ◌<◌, ◌∙◌, List, length, Ok, Err, sym, ap, eqb-true, arith}
+use Rattle.std.proofs.Common.{Bor, ℕ, ◌<◌, ◌∙◌, List, length, Ok, sym, ap, eqb-true, arith}
 use Rattle.std.proofs.lemmas.Bool.{eqb-false}
-use Rattle.viz_words.specs.declared.refusal.ScriptRefusal.TheVariants as refusal
 use Rattle.viz_journal.specs.declared.entry.JournalEntry.{JournalEntry}
 use Rattle.viz_journal.specs.Reading.{journal_from}
 use Rattle.viz_journal.proofs.ReadLemmas.{journal_from-empty, fuelled, stopped-read}

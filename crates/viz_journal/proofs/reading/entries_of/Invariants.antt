@@ -1,4 +1,4 @@
-use Rattle.std.proofs.Common.{◌≡◌, ℕ, ◌+◌, ◌≤◌, length, []}
+use Rattle.std.proofs.Common.{◌≡◌, ℕ, ◌≤◌, length, []}
 use Rattle.viz_journal.specs.Reading.{journal_from}
 use Rattle.viz_journal.specs.Steps.Kept.{IsClosed}
 use Rattle.viz_journal.proofs.reading.entries_of.Given as goal

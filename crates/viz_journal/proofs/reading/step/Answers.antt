@@ -1,6 +1,5 @@
-use Rattle.std.proofs.Common.{◌≡◌, Bor, ℕ, ◌+◌, ◌∙◌, List, length, Ok, Err, refl, sym, ap, arith}
+use Rattle.std.proofs.Common.{Bor, ℕ, ◌∙◌, List, Ok, Err, refl, sym, arith}
 use Rattle.viz_journal.specs.declared.line.Line.TheVariants as line
-use Rattle.viz_journal.specs.declared.entry.JournalEntry.{JournalEntry}
 use Rattle.viz_journal.specs.Reading.{last_at, journal_from}
 use Rattle.viz_journal.proofs.PartLemmas.{part}
 use Rattle.viz_journal.proofs.ReadLemmas.{journal_from-line, journal_from-single, journal_from-refused, stopped, stopped-head}
