@@ -1,20 +1,20 @@
 -- What an account says still holds of a longer history, and of more commands.
-use Rattle.std.proofs.Common.{◌≡◌, ℕ, zero, suc, ◌+◌, ◌^◌, ◌<◌, ◌≤◌, ◌⊎◌, inl, inr, List, [], ◌∷◌, ◌++◌, length, length-append, slice_get, append_assoc, append-nil, flat_map, Some, Err, refl, sym, ap, subst, ◌∙◌, arith}
+use Rattle.std.proofs.Common.{◌≡◌, ℕ, zero, suc, ◌+◌, ◌^◌, ◌<◌, ◌≤◌, ◌⊎◌, inl, inr, List, [], ◌∷◌, ◌++◌, length, length-append, slice_get, append_assoc, append-nil, flat_map, Some, refl, sym, ap, subst, ◌∙◌, arith}
 use Rattle.std.proofs.lemmas.List.{take-append-le}
 use Rattle.std.proofs.lemmas.Grind.{flat_map-append}
 use Rattle.viz_base.specs.Faults.{most_faults, Rose}
 use Rattle.viz_base.specs.declared.call.Call.{Call}
 use Rattle.viz_base.specs.declared.port.Port as port
 use Rattle.viz_network.specs.declared.edit.Edit.{Edit}
-use Rattle.viz_network.specs.declared.edit.Edit.TheVariants as edits
-use Rattle.viz_network.specs.Edits.{apply}
+use Rattle.viz_network.specs.declared.edit.Edit.TheVariants.{Load}
+use Rattle.viz_network.specs.declared.refusal.Refusal.{Refusal}
 use Rattle.viz_entries.specs.declared.entry.Entry.{Entry}
-use Rattle.viz_entries.specs.History.{network_of}
-use Rattle.viz_script.specs.Orders.{Asked, edit, load, update, audit}
+use Rattle.viz_entries.specs.History.{network_of, apply_behind}
+use Rattle.viz_script.specs.Orders.{Asked, edit, edits, load, update, audit}
 use Rattle.viz_report.specs.declared.line.Line.{Line}
 use Rattle.viz_report.specs.declared.line.Line.TheVariants as line
 use Rattle.viz_report.specs.declared.line.Reason.TheVariants as reason
-use Rattle.viz_account.specs.Lines.{network_at, TellsEdit, TellsLoad, TellsUpdate, TellsAudit, Tells}
+use Rattle.viz_account.specs.Lines.{network_at, IsEntry, IsRefusedAt, TellsEdit, TellsBatch, TellsLoad, TellsUpdate, TellsAudit, Tells}
 use Rattle.viz_account.specs.Account.{edited, least, AreTold, places, faults_told, RoseBy}
 use Rattle.viz_account.specs.Served.{Serves, ServesAll}
 
@@ -32,12 +32,19 @@ longer h more n p = omega (arith, p, length-append h more)
 network_more : (h more : List Entry) (n : ℕ) → n ≤ length h → network_at h n ≡ network_at (h ++ more) n
 network_more h more n b = ap network_of (sym (take-append-le n h more b))
 
+entry_more : (h more : List Entry) (ps : List ℕ) (n : ℕ) (batch : List Edit) → IsEntry h ps n batch → IsEntry (h ++ more) ps n batch
+entry_more h more ps n batch t =
+    record { index = t.index; entry = t.entry; place = t.place; there = slice_get-more h more t.index t.entry t.there; own = t.own; asked = t.asked }
+
+refused_more : (h more : List Entry) (n : ℕ) (batch : List Edit) (index : ℕ) (r : Refusal) → n ≤ length h → IsRefusedAt h n batch index r → IsRefusedAt (h ++ more) n batch index r
+refused_more h more n batch index r b t = ap (λ g. apply_behind g batch) (take-append-le n h more b) ∙ t
+
 edit_more : (limit : ℕ) (h more : List Entry) (ps : List ℕ) (n : ℕ) (e : Edit) (l : Line) → n ≤ length h → TellsEdit limit h ps n e l → TellsEdit limit (h ++ more) ps n e l
-edit_more limit h more ps n e (line.Edit at) b t =
-    (t.0, record { index = t.1.index; entry = t.1.entry; place = t.1.place; there = slice_get-more h more t.1.index t.1.entry t.1.there; own = t.1.own; asked = t.1.asked })
-edit_more limit h more ps n e (line.Refused (reason.Edit r) at) b t = (t.0, subst (λ g. apply (n + 1) e g ≡ Err r) (network_more h more n b) t.1)
+edit_more limit h more ps n e (line.Edit at) b t = (t.0, entry_more h more ps n (e ∷ []) t.1)
+edit_more limit h more ps n e (line.Refused (reason.Edit r) at) b t = (t.0, refused_more h more n (e ∷ []) 1 r b t.1)
 edit_more limit h more ps n e (line.Refused reason.Full at) b t = t
 edit_more limit h more ps n e line.Memory b t = tt
+edit_more limit h more ps n e (line.Refused (reason.Batch index r) at) b t = absurd t
 edit_more limit h more ps n e (line.Refused reason.TooLong at) b t = absurd t
 edit_more limit h more ps n e (line.Refused reason.Unknown at) b t = absurd t
 edit_more limit h more ps n e (line.Refused (reason.Fault f node) at) b t = absurd t
@@ -46,14 +53,29 @@ edit_more limit h more ps n e (line.Audit at sides two lone border) b t = absurd
 edit_more limit h more ps n e line.ReadFault b t = absurd t
 edit_more limit h more ps n e line.WriteFault b t = absurd t
 
+batch_more : (limit : ℕ) (h more : List Entry) (ps : List ℕ) (n : ℕ) (batch : List Edit) (l : Line) → n ≤ length h → TellsBatch limit h ps n batch l → TellsBatch limit (h ++ more) ps n batch l
+batch_more limit h more ps n batch (line.Edit at) b t = (t.0, entry_more h more ps n batch t.1)
+batch_more limit h more ps n batch (line.Refused (reason.Batch index r) at) b t = (t.0, refused_more h more n batch index r b t.1)
+batch_more limit h more ps n batch (line.Refused reason.Full at) b t = t
+batch_more limit h more ps n batch line.Memory b t = tt
+batch_more limit h more ps n batch (line.Refused (reason.Edit r) at) b t = absurd t
+batch_more limit h more ps n batch (line.Refused reason.TooLong at) b t = absurd t
+batch_more limit h more ps n batch (line.Refused reason.Unknown at) b t = absurd t
+batch_more limit h more ps n batch (line.Refused (reason.Fault f node) at) b t = absurd t
+batch_more limit h more ps n batch (line.File at cells points ran) b t = absurd t
+batch_more limit h more ps n batch (line.Audit at sides two lone border) b t = absurd t
+batch_more limit h more ps n batch line.ReadFault b t = absurd t
+batch_more limit h more ps n batch line.WriteFault b t = absurd t
+
 load_more : (limit : ℕ) (h more : List Entry) (ps : List ℕ) (n : ℕ) (node file : List ℕ) (l : Line) (calls : List Call) → n ≤ length h
     → TellsLoad limit h ps n node file l calls → TellsLoad limit (h ++ more) ps n node file l calls
 load_more limit h more ps n node file (line.Refused reason.TooLong at) calls b t = t
 load_more limit h more ps n node file line.ReadFault calls b t = t
 load_more limit h more ps n node file line.Memory calls b t = t
-load_more limit h more ps n node file (line.Edit at) calls b t = (t.0, edit_more limit h more ps n (edits.Load node t.0) (line.Edit at) b t.1, t.2)
-load_more limit h more ps n node file (line.Refused (reason.Edit r) at) calls b t = (t.0, edit_more limit h more ps n (edits.Load node t.0) (line.Refused (reason.Edit r) at) b t.1, t.2)
-load_more limit h more ps n node file (line.Refused reason.Full at) calls b t = (t.0, edit_more limit h more ps n (edits.Load node t.0) (line.Refused reason.Full at) b t.1, t.2)
+load_more limit h more ps n node file (line.Edit at) calls b t = (t.0, edit_more limit h more ps n (Load node t.0) (line.Edit at) b t.1, t.2)
+load_more limit h more ps n node file (line.Refused (reason.Edit r) at) calls b t = (t.0, edit_more limit h more ps n (Load node t.0) (line.Refused (reason.Edit r) at) b t.1, t.2)
+load_more limit h more ps n node file (line.Refused reason.Full at) calls b t = (t.0, edit_more limit h more ps n (Load node t.0) (line.Refused reason.Full at) b t.1, t.2)
+load_more limit h more ps n node file (line.Refused (reason.Batch index r) at) calls b t = absurd t.1
 load_more limit h more ps n node file (line.Refused reason.Unknown at) calls b t = absurd t.1
 load_more limit h more ps n node file (line.Refused (reason.Fault f name) at) calls b t = absurd t.1
 load_more limit h more ps n node file (line.File at cells points ran) calls b t = absurd t.1
@@ -63,6 +85,7 @@ load_more limit h more ps n node file line.WriteFault calls b t = absurd t.1
 tells_more : (limit : ℕ) (h more : List Entry) (ps : List ℕ) (n : ℕ) (o : Asked) (l : Line) (calls : List Call) → n ≤ length h
     → Tells limit h ps n o l calls → Tells limit (h ++ more) ps n o l calls
 tells_more limit h more ps n (edit e) l calls b t = (edit_more limit h more ps n e l b t.0, t.1)
+tells_more limit h more ps n (edits batch) l calls b t = (batch_more limit h more ps n batch l b t.0, t.1)
 tells_more limit h more ps n (load node file) l calls b t = load_more limit h more ps n node file l calls b t
 tells_more limit h more ps n (update node file pieces workers) l calls b t =
     subst (λ g. TellsUpdate g n node file pieces l calls) (network_more h more n b) t

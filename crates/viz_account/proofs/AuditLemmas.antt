@@ -9,7 +9,7 @@ use Rattle.viz_network.specs.declared.fault.Stop.TheVariants as stop
 use Rattle.viz_network.specs.declared.node.Node.{Node}
 use Rattle.viz_network.specs.Network.{Network, named, name_of}
 use Rattle.viz_entries.specs.declared.entry.Entry.{Entry}
-use Rattle.viz_script.specs.Orders.{Asked, edit, load, update, audit}
+use Rattle.viz_script.specs.Orders.{Asked, edit, edits, load, update, audit}
 use Rattle.viz_node_meaning.specs.Scratch.{Answers}
 use Rattle.viz_account.specs.Audited.{IsAuditOf}
 use Rattle.viz_account.specs.SurfaceLaws.{AuditsAreClosed}
@@ -48,6 +48,7 @@ module _ (law : AuditsAreClosed) where
       let closed = law (network_at h n) t.0.1.0.id.0 (record { sides = sides; two = two; lone = lone; border = border }) t.0.1.2 in
       (closed.sides, closed.lone)
   tells_closed limit h ps n (edit e) (line.Audit at sides two lone border) calls t = absurd t.0
+  tells_closed limit h ps n (edits batch) (line.Audit at sides two lone border) calls t = absurd t.0
   tells_closed limit h ps n (load node file) (line.Audit at sides two lone border) calls t = absurd t.1
   tells_closed limit h ps n (update node file pieces workers) (line.Audit at sides two lone border) calls t = absurd t
   tells_closed limit h ps n o (line.Edit at) calls t = tt

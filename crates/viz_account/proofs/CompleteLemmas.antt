@@ -1,20 +1,19 @@
 -- All commands of an account came to what they asked for exactly where all lines tell so.
-use Rattle.std.proofs.Common.{◌≡◌, ℕ, ◌+◌, ◌<◌, ◌≤◌, ◌⊎◌, inl, inr, true, cond, List, [], ◌∷◌, ◌++◌, flat_map, nat_eq, Option, None, Some, Result, Ok, Err, refl, sym, ap, ap₂, subst, ◌∙◌, arith}
+use Rattle.std.proofs.Common.{◌≡◌, ℕ, ◌+◌, ◌<◌, ◌≤◌, ◌⊎◌, inl, inr, cond, List, [], ◌∷◌, ◌++◌, flat_map, Option, None, Some, Result, Ok, Err, refl, sym, ap, ap₂, subst, ◌∙◌, arith}
 use Rattle.std.specs.List.{All}
 use Rattle.std.proofs.lemmas.List.Elements.{All-nil, All-cons, All-head, All-tail, All-append}
 use Rattle.viz_base.specs.declared.call.Call.{Call}
 use Rattle.viz_base.specs.declared.port.Port as port
 use Rattle.viz_network.specs.declared.edit.Edit.{Edit}
-use Rattle.viz_network.specs.declared.edit.Edit.TheVariants as edits
+use Rattle.viz_network.specs.declared.edit.Edit.TheVariants.{Load}
 use Rattle.viz_network.specs.declared.fault.Fault.{Fault}
 use Rattle.viz_network.specs.declared.node.Node.{Node}
 use Rattle.viz_network.specs.Network.{Network, named}
 use Rattle.viz_surface_law.specs.declared.audits.Counts.{Counts}
-use Rattle.viz_turn.specs.Tales.{has}
 use Rattle.viz_entries.specs.declared.entry.Entry.{Entry}
 use Rattle.viz_scratch.specs.Laws.{FilesAreOne}
 use Rattle.viz_scratch.specs.Written.{IsFileOf}
-use Rattle.viz_script.specs.Orders.{Asked, edit, load, update, audit}
+use Rattle.viz_script.specs.Orders.{Asked, edit, edits, load, update, audit}
 use Rattle.viz_report.specs.declared.line.Line.{Line}
 use Rattle.viz_report.specs.declared.line.Line.TheVariants as line
 use Rattle.viz_report.specs.declared.line.Reason.TheVariants as reason
@@ -22,7 +21,7 @@ use Rattle.viz_account.specs.Account.{edited, least, AreTold, places, IsActor, A
 use Rattle.viz_account.specs.Audited.{IsAuditOf}
 use Rattle.viz_account.specs.Complete.{IsAccepted, HasFile, HasAudit, Came, shown, HaveCome, AllCame, TellsCame, AllCameAreTold, SaysOf, UpdatesSayOfFiles}
 use Rattle.viz_account.specs.Laws.{Shows, times}
-use Rattle.viz_account.specs.Lines.{network_at, IsEntry, TellsEdit, TellsLoad, TellsFile, TellsAudit, Tells}
+use Rattle.viz_account.specs.Lines.{network_at, IsEntry, TellsEdit, TellsBatch, TellsLoad, TellsFile, TellsAudit, Tells}
 use Rattle.viz_account.specs.SurfaceLaws.{AuditsAreOne}
 use Rattle.viz_account.proofs.NumberLemmas.{shows}
 use Rattle.viz_account.proofs.OnceLemmas.{times_append, not_first, places_here}
@@ -30,7 +29,7 @@ use Rattle.viz_account.proofs.ScriptLemmas.{least_low, phases_flat, edited_flat}
 
 -- ---- where a line tells that its command came to what it asked for
 
-edit_came : (limit : ℕ) (h : List Entry) (ps : List ℕ) (low n : ℕ) (e : Edit) (l : Line) → TellsCame l → TellsEdit limit h ps n e l → least low l ≤ n → (shown l ≡ Some n) × IsAccepted h ps low n e
+edit_came : (limit : ℕ) (h : List Entry) (ps : List ℕ) (low n : ℕ) (e : Edit) (l : Line) → TellsCame l → TellsEdit limit h ps n e l → least low l ≤ n → (shown l ≡ Some n) × IsAccepted h ps low n (e ∷ [])
 edit_came limit h ps low n e (line.Edit at) is t up = (ap Some t.0, record { past = omega (arith, up); entry = t.1 })
 edit_came limit h ps low n e (line.File at cells points ran) is t up = absurd t
 edit_came limit h ps low n e (line.Audit at sides two lone border) is t up = absurd t
@@ -39,8 +38,17 @@ edit_came limit h ps low n e line.ReadFault is t up = absurd is
 edit_came limit h ps low n e line.WriteFault is t up = absurd is
 edit_came limit h ps low n e line.Memory is t up = absurd is
 
+batch_came : (limit : ℕ) (h : List Entry) (ps : List ℕ) (low n : ℕ) (batch : List Edit) (l : Line) → TellsCame l → TellsBatch limit h ps n batch l → least low l ≤ n → (shown l ≡ Some n) × IsAccepted h ps low n batch
+batch_came limit h ps low n batch (line.Edit at) is t up = (ap Some t.0, record { past = omega (arith, up); entry = t.1 })
+batch_came limit h ps low n batch (line.File at cells points ran) is t up = absurd t
+batch_came limit h ps low n batch (line.Audit at sides two lone border) is t up = absurd t
+batch_came limit h ps low n batch (line.Refused r at) is t up = absurd is
+batch_came limit h ps low n batch line.ReadFault is t up = absurd is
+batch_came limit h ps low n batch line.WriteFault is t up = absurd is
+batch_came limit h ps low n batch line.Memory is t up = absurd is
+
 load_came : (limit : ℕ) (h : List Entry) (ps : List ℕ) (low n : ℕ) (node file : List ℕ) (l : Line) (calls : List Call) → TellsCame l → TellsLoad limit h ps n node file l calls → least low l ≤ n
-    → (shown l ≡ Some n) × ((bytes : List ℕ) × IsAccepted h ps low n (edits.Load node bytes))
+    → (shown l ≡ Some n) × ((bytes : List ℕ) × IsAccepted h ps low n (Load node bytes ∷ []))
 load_came limit h ps low n node file (line.Edit at) calls is t up = (ap Some t.1.0, (t.0, record { past = omega (arith, up); entry = t.1.1 }))
 load_came limit h ps low n node file (line.File at cells points ran) calls is t up = absurd t.1
 load_came limit h ps low n node file (line.Audit at sides two lone border) calls is t up = absurd t.1
@@ -69,6 +77,7 @@ audit_came net n node line.Memory is t = absurd is
 
 came : (limit : ℕ) (h : List Entry) (ps : List ℕ) (low n : ℕ) (o : Asked) (l : Line) (calls : List Call) → TellsCame l → Tells limit h ps n o l calls → least low l ≤ n → (shown l ≡ Some n) × Came h ps low n o
 came limit h ps low n (edit e) l calls is t up = edit_came limit h ps low n e l is t.0 up
+came limit h ps low n (edits batch) l calls is t up = batch_came limit h ps low n batch l is t.0 up
 came limit h ps low n (load node file) l calls is t up = load_came limit h ps low n node file l calls is t up
 came limit h ps low n (update node file pieces workers) l calls is t up = file_came _ (network_at h n) n node file l calls is t
 came limit h ps low n (audit node pieces workers) l calls is t up = audit_came (network_at h n) n node l is t.0
@@ -123,6 +132,7 @@ module _ (files : FilesAreOne) where
   updates_say Ran net n node file (line.Refused reason.Unknown at) calls t = λ f. no_node net node f.0 t.1 f.2
   updates_say Ran net n node file (line.Refused (reason.Fault fault name) at) calls t = λ f. no_file net node fault t.1.0 t.1.1 t.1.2 f
   updates_say Ran net n node file (line.Refused (reason.Edit r) at) calls t = absurd t
+  updates_say Ran net n node file (line.Refused (reason.Batch index r) at) calls t = absurd t
   updates_say Ran net n node file (line.Refused reason.Full at) calls t = absurd t
   updates_say Ran net n node file (line.Refused reason.TooLong at) calls t = absurd t
   updates_say Ran net n node file (line.Edit at) calls t = tt
@@ -153,6 +163,7 @@ module _ (files : FilesAreOne) where
     by_audit net n node (line.Refused reason.Unknown at) m t e f = absurd (no_node net node f.0 t.1 f.2)
     by_audit net n node (line.Refused (reason.Fault fault name) at) m t e f = absurd (no_counts net node fault t.1.0 t.1.1 t.1.2 f)
     by_audit net n node (line.Refused (reason.Edit r) at) m t e f = absurd t
+    by_audit net n node (line.Refused (reason.Batch index r) at) m t e f = absurd t
     by_audit net n node (line.Refused reason.Full at) m t e f = absurd t
     by_audit net n node (line.Refused reason.TooLong at) m t e f = absurd t
     by_audit net n node (line.Edit at) m t e f = tt
@@ -188,9 +199,9 @@ module _ (files : FilesAreOne) where
           ∙ ap₂ (λ (x y : ℕ). x + y) (none_told low t.0 o l t.1 k t.4 t.5 (inl le)) (none_later k t.0 os ls t.2 last t.7 (omega (arith, le, up)))
 
       -- an entry by one of these passes is told by the line at its number
-      is_told : (low n : ℕ) (os : List Asked) (l : Line) (ls : List Line) (calls : List Call) (last : ℕ) (e : Edit) → AreTold limit h ps n os ls calls last
-          → times n (places ps h) ≡ times n (edited l ++ flat_map edited ls) → IsEntry h ps n e → edited l ≡ [] → ⊥
-      is_told low n os l ls calls last e t own entry none =
+      is_told : (low n : ℕ) (os : List Asked) (l : Line) (ls : List Line) (calls : List Call) (last : ℕ) (batch : List Edit) → AreTold limit h ps n os ls calls last
+          → times n (places ps h) ≡ times n (edited l ++ flat_map edited ls) → IsEntry h ps n batch → edited l ≡ [] → ⊥
+      is_told low n os l ls calls last batch t own entry none =
           let later = none_later n n os ls calls last t (omega arith) in
           let here = places_here ps 1 entry.index h entry.entry entry.there in
           let at : n ≡ 1 + entry.index = entry.place ∙ omega arith in
@@ -200,8 +211,9 @@ module _ (files : FilesAreOne) where
 
       told_as_came : (low n m : ℕ) (o : Asked) (os : List Asked) (l : Line) (ls : List Line) (mine rest : List Call) (last : ℕ) → Tells limit h ps n o l mine → AreTold limit h ps n os ls rest last
           → (low < n → times n (places ps h) ≡ times n (edited l ++ flat_map edited ls)) → shown l ≡ Some m → Came h ps low n o → TellsCame l
-      told_as_came low n m (edit e) os l ls mine rest last t later own e_shown c = entry_told l (is_told low n os l ls rest last e later (own c.past) c.entry)
-      told_as_came low n m (load node file) os l ls mine rest last t later own e_shown c = entry_told l (is_told low n os l ls rest last (edits.Load node c.0) later (own c.1.past) c.1.entry)
+      told_as_came low n m (edit e) os l ls mine rest last t later own e_shown c = entry_told l (is_told low n os l ls rest last (e ∷ []) later (own c.past) c.entry)
+      told_as_came low n m (edits batch) os l ls mine rest last t later own e_shown c = entry_told l (is_told low n os l ls rest last batch later (own c.past) c.entry)
+      told_as_came low n m (load node file) os l ls mine rest last t later own e_shown c = entry_told l (is_told low n os l ls rest last (Load node c.0 ∷ []) later (own c.1.past) c.1.entry)
       told_as_came low n m (update node file pieces workers) os l ls mine rest last t later own e_shown c =
           by_file (HasFile (network_at h n) node) l m e_shown (updates_say _ (network_at h n) n node file l mine t) c
       told_as_came low n m (audit node pieces workers) os l ls mine rest last t later own e_shown c = by_audit (network_at h n) n node l m t.0 e_shown c

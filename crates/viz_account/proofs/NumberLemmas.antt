@@ -7,11 +7,11 @@ use Rattle.viz_network.specs.Network.{Network}
 use Rattle.viz_turn.specs.Tales.{has, entries_of}
 use Rattle.viz_entries.specs.declared.entry.Entry.{Entry}
 use Rattle.viz_entries.specs.History.{by_of}
-use Rattle.viz_script.specs.Orders.{Asked, edit, load, update, audit}
+use Rattle.viz_script.specs.Orders.{Asked, edit, edits, load, update, audit}
 use Rattle.viz_report.specs.declared.line.Line.{Line}
 use Rattle.viz_report.specs.declared.line.Line.TheVariants as line
 use Rattle.viz_report.specs.declared.line.Reason.TheVariants as reason
-use Rattle.viz_account.specs.Lines.{network_at, TellsEdit, TellsLoad, TellsAudit, Tells}
+use Rattle.viz_account.specs.Lines.{network_at, TellsEdit, TellsBatch, TellsLoad, TellsAudit, Tells}
 use Rattle.viz_account.specs.Account.{edited, AreTold, places_from, IsActor}
 use Rattle.viz_account.specs.Laws.{Shows, CountEdits}
 use Rattle.viz_account.proofs.OnceLemmas.{few}
@@ -23,6 +23,7 @@ edit_shows : (limit : ℕ) (h : List Entry) (ps : List ℕ) (n : ℕ) (e : Edit)
 edit_shows limit h ps n e (line.Edit at) t = t.0
 edit_shows limit h ps n e (line.Refused (reason.Edit r) at) t = t.0
 edit_shows limit h ps n e (line.Refused reason.Full at) t = t.0
+edit_shows limit h ps n e (line.Refused (reason.Batch index r) at) t = absurd t
 edit_shows limit h ps n e (line.Refused reason.TooLong at) t = absurd t
 edit_shows limit h ps n e (line.Refused reason.Unknown at) t = absurd t
 edit_shows limit h ps n e (line.Refused (reason.Fault f node) at) t = absurd t
@@ -32,11 +33,26 @@ edit_shows limit h ps n e line.ReadFault t = tt
 edit_shows limit h ps n e line.WriteFault t = tt
 edit_shows limit h ps n e line.Memory t = tt
 
+batch_shows : (limit : ℕ) (h : List Entry) (ps : List ℕ) (n : ℕ) (batch : List Edit) (l : Line) → TellsBatch limit h ps n batch l → Shows n l
+batch_shows limit h ps n batch (line.Edit at) t = t.0
+batch_shows limit h ps n batch (line.Refused (reason.Batch index r) at) t = t.0
+batch_shows limit h ps n batch (line.Refused reason.Full at) t = t.0
+batch_shows limit h ps n batch (line.Refused (reason.Edit r) at) t = absurd t
+batch_shows limit h ps n batch (line.Refused reason.TooLong at) t = absurd t
+batch_shows limit h ps n batch (line.Refused reason.Unknown at) t = absurd t
+batch_shows limit h ps n batch (line.Refused (reason.Fault f node) at) t = absurd t
+batch_shows limit h ps n batch (line.File at cells points ran) t = absurd t
+batch_shows limit h ps n batch (line.Audit at sides two lone border) t = absurd t
+batch_shows limit h ps n batch line.ReadFault t = tt
+batch_shows limit h ps n batch line.WriteFault t = tt
+batch_shows limit h ps n batch line.Memory t = tt
+
 load_shows : (limit : ℕ) (h : List Entry) (ps : List ℕ) (n : ℕ) (node file : List ℕ) (l : Line) (calls : List Call) → TellsLoad limit h ps n node file l calls → Shows n l
 load_shows limit h ps n node file (line.Refused reason.TooLong at) calls t = t.0
 load_shows limit h ps n node file (line.Edit at) calls t = t.1.0
 load_shows limit h ps n node file (line.Refused (reason.Edit r) at) calls t = t.1.0
 load_shows limit h ps n node file (line.Refused reason.Full at) calls t = t.1.0
+load_shows limit h ps n node file (line.Refused (reason.Batch index r) at) calls t = absurd t.1
 load_shows limit h ps n node file (line.Refused reason.Unknown at) calls t = absurd t.1
 load_shows limit h ps n node file (line.Refused (reason.Fault f name) at) calls t = absurd t.1
 load_shows limit h ps n node file (line.File at cells points ran) calls t = absurd t.1
@@ -51,6 +67,7 @@ update_shows limit h ps n node file pieces workers (line.Audit at sides two lone
 update_shows limit h ps n node file pieces workers (line.Refused reason.Unknown at) calls t = t.0
 update_shows limit h ps n node file pieces workers (line.Refused (reason.Fault f name) at) calls t = t.0
 update_shows limit h ps n node file pieces workers (line.Refused (reason.Edit r) at) calls t = absurd t
+update_shows limit h ps n node file pieces workers (line.Refused (reason.Batch index r) at) calls t = absurd t
 update_shows limit h ps n node file pieces workers (line.Refused reason.Full at) calls t = absurd t
 update_shows limit h ps n node file pieces workers (line.Refused reason.TooLong at) calls t = absurd t
 update_shows limit h ps n node file pieces workers (line.Edit at) calls t = absurd t
@@ -63,6 +80,7 @@ audit_shows net n node (line.Audit at sides two lone border) t = t.0
 audit_shows net n node (line.Refused reason.Unknown at) t = t.0
 audit_shows net n node (line.Refused (reason.Fault f name) at) t = t.0
 audit_shows net n node (line.Refused (reason.Edit r) at) t = absurd t
+audit_shows net n node (line.Refused (reason.Batch index r) at) t = absurd t
 audit_shows net n node (line.Refused reason.Full at) t = absurd t
 audit_shows net n node (line.Refused reason.TooLong at) t = absurd t
 audit_shows net n node (line.Edit at) t = absurd t
@@ -73,6 +91,7 @@ audit_shows net n node line.Memory t = tt
 
 pub shows : (limit : ℕ) (h : List Entry) (ps : List ℕ) (n : ℕ) (o : Asked) (l : Line) (calls : List Call) → Tells limit h ps n o l calls → Shows n l
 shows limit h ps n (edit e) l calls t = edit_shows limit h ps n e l t.0
+shows limit h ps n (edits batch) l calls t = batch_shows limit h ps n batch l t.0
 shows limit h ps n (load node file) l calls t = load_shows limit h ps n node file l calls t
 shows limit h ps n (update node file pieces workers) l calls t = update_shows limit h ps n node file pieces workers l calls t
 shows limit h ps n (audit node pieces workers) l calls t = audit_shows (network_at h n) n node l t.0

@@ -15,12 +15,12 @@ use Rattle.viz_account.specs.Lines.{Tells}
 
 -- ---- the lines of one actor
 
--- the number of a line that tells of an accepted edit
+-- the number of a line that tells of an accepted command, which is an entry
 abbrev pub edited : Line → List ℕ
 edited (line.Edit at) = at ∷ []
 edited l = []
 
--- the least number of a line behind one of this number: an accepted edit is a new entry
+-- the least number of a line behind one of this number: an accepted command is a new entry
 abbrev pub least : ℕ → Line → ℕ
 least n (line.Edit at) = n + 1
 least n l = n

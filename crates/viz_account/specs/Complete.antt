@@ -35,9 +35,9 @@ abbrev pub HasAudit : Network → List ℕ → Type 0
 HasAudit net node = (x : Node) × (c : Counts) × (named net node ≡ Some x)
     × IsAuditOf net x.id.0 (Ok c)
 
--- a command came to what it asked for at number n, behind a line of number low: its edit was
--- accepted; the file that it loads was within the limit, and the edit with some bytes was accepted;
--- or its node has a file, or counts, in the network of the first n entries
+-- a command came to what it asked for at number n, behind a line of number low: its edit or its
+-- batch was accepted; the file that it loads was within the limit, and the load of some bytes was
+-- accepted; or its node has a file, or counts, in the network of the first n entries
 abbrev pub Came : List Entry → List ℕ → ℕ → ℕ → Asked → Type 0
 Came h passes low n (edit e) = IsAccepted h passes low n (e ∷ [])
 Came h passes low n (edits batch) = IsAccepted h passes low n batch

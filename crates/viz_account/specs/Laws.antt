@@ -40,7 +40,7 @@ Shows n (line.Audit at sides two lone border) = at ≡ n
 Shows n (line.Refused reason at) = at ≡ n
 Shows n l = Unit {0}
 
--- each line shows how many edits were accepted up to it, its own included; n of them were before
+-- each line shows how many entries were made up to it, its own included; n of them were before
 abbrev pub CountEdits : ℕ → List Line → Type 0
 CountEdits n [] = Unit {0}
 CountEdits n (l ∷ ls) = Shows (n + length (edited l)) l × CountEdits (n + length (edited l)) ls
@@ -50,8 +50,7 @@ abbrev pub AsksAlone : ℕ → List (List (List Asked)) → Type 0
 AsksAlone i script = (j : ℕ) (phases : List (List Asked)) → slice_get script j ≡ Some phases → j ≢ i
     → flat_map (λ os. os) phases ≡ []
 
--- where one actor alone has commands, whatever other actors there are, its lines count the
--- accepted edits
+-- where one actor alone has commands, whatever other actors there are, its lines count the entries
 abbrev pub LinesCountEdits : {P : Type 0} → port.Ghosts P → Type 0
 LinesCountEdits {P} m = (limit : ℕ) (script : List (List (List Asked))) (h : List Entry)
     (lines : List (List (List Line)))

@@ -15,12 +15,12 @@ pub fn accounts_hold_later()
     ensures later { HoldLater }
 {}
 
-/// Each entry of an account's history is told by just one line, that of its edit.
+/// Each entry of an account's history is told by just one line, that of its command.
 pub fn entries_are_told_once<P: Port>()
     ensures once { EntriesAreToldOnce P.Port }
 {}
 
-/// Where one actor alone has commands, each of its lines shows how many edits were accepted so far,
+/// Where one actor alone has commands, each of its lines shows how many entries were made so far,
 /// its own included.
 pub fn lines_count_edits<P: Port>()
     ensures counts { LinesCountEdits P.Port }

@@ -145,6 +145,6 @@ module _ (passes : List (List ℕ)) (apart : once (all_of passes) ≡ true) wher
   as_numbered before [] each all = refl
   as_numbered before (e ∷ es) each all =
       ap₂ (λ (x : JournalEntry) (xs : List JournalEntry). x ∷ xs)
-      (ap (λ (n : ℕ). let x : JournalEntry = record { actor = actor_with 1 passes e.pass; count = n + 1; edit = e.edit } in x) (sym (counted e.pass before all.0 each)))
+      (ap (λ (n : ℕ). let x : JournalEntry = record { actor = actor_with 1 passes e.pass; count = n + 1; batch = e.batch } in x) (sym (counted e.pass before all.0 each)))
       (ap (λ (actors : List ℕ). with_numbers es (actors_of passes es) (running actors (actors_of passes es))) (sym (map-append (λ (x : Entry). actor_with 1 passes x.pass) before (e ∷ [])))
       ∙ as_numbered (before ++ e ∷ []) es (each_more (all_of passes) before e each all.0) all.1)

@@ -1,5 +1,5 @@
 -- Lines of commands, between the entries that a pass had seen and has seen then.
-use Rattle.std.proofs.Common.{◌≡◌, ℕ, suc, ◌+◌, ◌%◌, ◌^◌, ◌≤◌, Option, None, Some, IfSome, ⊎_elim, Bool, IsTrue, eq-eqb, true, false, true≢false, not, cond, List, [], ◌∷◌, ◌++◌, length, length-append, take, drop, slice_get, append_assoc, append-nil, Err, refl, sym, ap, subst, ◌∙◌, arith, ◌==◌}
+use Rattle.std.proofs.Common.{◌≡◌, ℕ, suc, ◌+◌, ◌%◌, ◌^◌, ◌≤◌, Option, None, Some, IfSome, ⊎_elim, Bool, IsTrue, eq-eqb, true, false, true≢false, not, cond, List, [], ◌∷◌, ◌++◌, length, length-append, take, drop, slice_get, append_assoc, append-nil, Result, Ok, Err, refl, sym, ap, subst, ◌∙◌, arith, ◌==◌}
 use Rattle.std.proofs.lemmas.Bool.{and_parts, not-true, ne_eqb}
 use Rattle.std.proofs.lemmas.List.{take-append-drop, take-append-le}
 use Rattle.std.proofs.lemmas.List.Elements.{All-nil}
@@ -17,11 +17,13 @@ use Rattle.viz_turn.proofs.ListLemmas.{has_head, has_cons}
 use Rattle.viz_turn.proofs.TaleLemmas.{clear_sub, all_of_it}
 use Rattle.viz_network.specs.declared.edit.Edit.{Edit}
 use Rattle.viz_network.specs.Network.{Network}
+use Rattle.viz_network.specs.declared.refusal.Refusal.{Refusal}
+use Rattle.viz_batches.specs.Batches.{BatchRefusal, then_all, apply_all}
 use Rattle.viz_network.specs.Edits.{apply}
 use Rattle.viz_entries.specs.declared.entry.Entry.{Entry}
 use Rattle.viz_history.specs.declared.answer.EditAnswer.{EditAnswer}
 use Rattle.viz_history.specs.declared.answer.EditAnswer.TheVariants as answer
-use Rattle.viz_entries.specs.History.{by_of, network_of}
+use Rattle.viz_entries.specs.History.{by_of, edits_of, network_of, apply_behind}
 use Rattle.viz_plan.specs.Published.{AreOfPlan}
 use Rattle.viz_kept.specs.True.{IsTrueIn}
 use Rattle.viz_parts.specs.declared.stored.Stored.{Stored}
@@ -32,7 +34,7 @@ use Rattle.viz_report.specs.declared.line.Line.{Line}
 use Rattle.viz_report.specs.declared.line.Line.TheVariants as line
 use Rattle.viz_report.specs.declared.line.Reason.TheVariants as reason
 use Rattle.viz_account.specs.Answers.{audit_line_of, line_of, HandsOut}
-use Rattle.viz_account.specs.Lines.{TellsUpdate, TellsAudit}
+use Rattle.viz_account.specs.Lines.{IsRefusedAt, TellsUpdate, TellsAudit}
 use Rattle.viz_account.specs.Account.{edited, least, places_from, places, AreTold, faults_told, RoseBy}
 use Rattle.viz_account.specs.Served.{Extends, Serves, ServesAll}
 use Rattle.viz_account.specs.declared.answer.Answer.{Answer}
@@ -43,7 +45,7 @@ use Rattle.viz_account.specs.declared.answer.Missing.{Missing}
 use Rattle.viz_account.specs.declared.parts.UpdateParts.{UpdateParts}
 use Rattle.viz_account.proofs.AccountLemmas.{rose_none, served_none, served_one, served_append}
 use Rattle.viz_account.proofs.HistoryLemmas.{take-all, slice_get-end, places_append_from, places_grow}
-use Rattle.viz_actor.specs.Serving.{commands_of, edit_line, AddsLines, Edits}
+use Rattle.viz_actor.specs.Serving.{commands_of, edit_line, batch_line, AddsLines, Edits, Batches}
 use Rattle.viz_actor.specs.Updating.{IsAudit, IsSamePass, IsUpdate, Publishes}
 
 -- ---- what others add
@@ -85,11 +87,11 @@ looked p new g =
 pub whole_network : (h : List Entry) → network_of (take (length h) h) ≡ network_of h
 whole_network h = ap network_of (take-all h)
 
--- the line of an edit's answer tells it
-pub edits_told : (p : PassKnown) (e : Edit) (new : List Entry) (a : EditAnswer) → Answers p e a new → Edits p.turn.mark p.number e (edit_line a) p.seen new
-edits_told p e new (answer.Done n) h =
+-- the line of a batch's answer tells it
+pub batch_told : (p : PassKnown) (batch : List Edit) (new : List Entry) (a : EditAnswer) → Answers p batch a new → Batches p.turn.mark p.number batch (batch_line a) p.seen new
+batch_told p batch new (answer.Done n) h =
     let others = h.0 in
-    let x : Entry = next_entry p e in
+    let x : Entry = next_entry p batch in
     let on = own_further p others h.1 in
     let len : length new ≡ length others + 1 = ap length h.2 ∙ length-append others (x ∷ []) in
     let up : length p.seen ≤ length others = longer (p.number ∷ []) p.seen others on in
@@ -115,24 +117,53 @@ edits_told p e new (answer.Done n) h =
         omega (arith, h.3),
       );
     }
-edits_told p e new (answer.Refused w n) h =
+batch_told p batch new (answer.Refused index w n) h =
     let t = looked p new h.0 in
     record {
       further = t.0;
       own = t.1;
       told = (
         n,
-        (refl, subst (λ (m : ℕ). apply (m + 1) e (network_of (take m new)) ≡ Err w) (sym h.1) (subst (λ g. apply (length new + 1) e g ≡ Err w) (sym (whole_network new)) h.3)),
+        (refl, ap (λ g. apply_behind g batch) (ap (λ m. take m new) h.1 ∙ take-all new) ∙ h.3),
         omega (arith, h.1, t.2),
         omega (arith, h.1),
       );
     }
-edits_told p e new (answer.Full n) h =
+batch_told p batch new (answer.Full n) h =
     let t = looked p new h.0 in
     record { further = t.0; own = t.1; told = (n, (refl, h.2), omega (arith, h.1, t.2), omega (arith, h.1)) }
-edits_told p e new answer.Memory h =
+batch_told p batch new answer.Memory h =
     let t = looked p new h.0 in
     record { further = t.0; own = t.1; told = (length new, tt, t.2, omega arith) }
+
+-- a batch of one is refused at its one place
+one_refused : (made : Result Network Refusal) (index : ℕ) (r : Refusal) → then_all (λ net. Ok net) 1 made ≡ Err (index, r) → then_all (λ net. Ok net) 1 made ≡ Err (1, r)
+one_refused (Ok net) index r e = let bad : ⊥ = cc in absurd bad
+one_refused (Err s) index r e =
+    let same : (let x : BatchRefusal = (1, s) in x) ≡ (index, r) = cc in
+    ap (λ (x : BatchRefusal). let y : Result Network BatchRefusal = Err (1, x.1) in y) same
+
+one_refused_at : (h : List Entry) (n : ℕ) (e : Edit) (index : ℕ) (r : Refusal) → IsRefusedAt h n (e ∷ []) index r → IsRefusedAt h n (e ∷ []) 1 r
+one_refused_at h n e index r = one_refused (apply (length (edits_of (take n h)) + 1) e (network_of (take n h))) index r
+
+-- the line of an edit's answer tells it
+pub edits_told : (p : PassKnown) (e : Edit) (new : List Entry) (a : EditAnswer) → Answers p (e ∷ []) a new → Edits p.turn.mark p.number e (edit_line a) p.seen new
+edits_told p e new (answer.Done n) h =
+    let t = batch_told p (e ∷ []) new (answer.Done n) h in
+    record { further = t.further; own = t.own; told = t.told }
+edits_told p e new (answer.Refused index w n) h =
+    let t = batch_told p (e ∷ []) new (answer.Refused index w n) h in
+    record {
+      further = t.further;
+      own = t.own;
+      told = (t.told.0, (t.told.1.0, one_refused_at new t.told.0 e index w t.told.1.1), t.told.2, t.told.3);
+    }
+edits_told p e new (answer.Full n) h =
+    let t = batch_told p (e ∷ []) new (answer.Full n) h in
+    record { further = t.further; own = t.own; told = t.told }
+edits_told p e new answer.Memory h =
+    let t = batch_told p (e ∷ []) new answer.Memory h in
+    record { further = t.further; own = t.own; told = t.told }
 
 -- ---- updates and audits
 

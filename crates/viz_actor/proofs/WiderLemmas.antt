@@ -3,22 +3,26 @@ use Rattle.std.proofs.Common.{◌≡◌, ℕ, ◌+◌, Bool, true, false, not, c
 use Rattle.std.proofs.lemmas.Bool.{and_parts, not-true}
 use Rattle.viz_base.specs.declared.call.Call.{Call}
 use Rattle.viz_network.specs.declared.edit.Edit.{Edit}
-use Rattle.viz_network.specs.declared.edit.Edit.TheVariants as edits
+use Rattle.viz_network.specs.declared.edit.Edit.TheVariants.{Load}
 use Rattle.viz_turn.specs.Tales.{has, clear}
 use Rattle.viz_entries.specs.declared.entry.Entry.{Entry}
 use Rattle.viz_entries.specs.History.{by_of}
-use Rattle.viz_script.specs.Orders.{Asked, edit, load, update, audit}
+use Rattle.viz_script.specs.Orders.{Asked, edit, edits, load, update, audit}
 use Rattle.viz_report.specs.declared.line.Line.{Line}
 use Rattle.viz_report.specs.declared.line.Line.TheVariants as line
 use Rattle.viz_report.specs.declared.line.Reason.TheVariants as reason
-use Rattle.viz_account.specs.Lines.{TellsEdit, TellsLoad, Tells}
+use Rattle.viz_account.specs.Lines.{IsEntry, TellsEdit, TellsBatch, TellsLoad, Tells}
 use Rattle.viz_account.specs.Account.{AreTold, ArePhases, places_from}
 
 module _ (limit : ℕ) (h : List Entry) (ps qs : List ℕ) (sub : (x : ℕ) → has x ps ≡ true → has x qs ≡ true) where
+  entry_wider : (n : ℕ) (batch : List Edit) → IsEntry h ps n batch → IsEntry h qs n batch
+  entry_wider n batch t = record { index = t.index; entry = t.entry; place = t.place; there = t.there; own = sub t.entry.pass t.own; asked = t.asked }
+
   edit_wider : (n : ℕ) (e : Edit) (l : Line) → TellsEdit limit h ps n e l → TellsEdit limit h qs n e l
-  edit_wider n e (line.Edit at) t = (t.0, record { index = t.1.index; entry = t.1.entry; place = t.1.place; there = t.1.there; own = sub t.1.entry.pass t.1.own; asked = t.1.asked })
+  edit_wider n e (line.Edit at) t = (t.0, entry_wider n (e ∷ []) t.1)
   edit_wider n e (line.Refused (reason.Edit r) at) t = t
   edit_wider n e (line.Refused reason.Full at) t = t
+  edit_wider n e (line.Refused (reason.Batch index r) at) t = absurd t
   edit_wider n e (line.Refused reason.TooLong at) t = absurd t
   edit_wider n e (line.Refused reason.Unknown at) t = absurd t
   edit_wider n e (line.Refused (reason.Fault f name) at) t = absurd t
@@ -28,13 +32,28 @@ module _ (limit : ℕ) (h : List Entry) (ps qs : List ℕ) (sub : (x : ℕ) → 
   edit_wider n e line.WriteFault t = absurd t
   edit_wider n e line.Memory t = t
 
+  batch_wider : (n : ℕ) (batch : List Edit) (l : Line) → TellsBatch limit h ps n batch l → TellsBatch limit h qs n batch l
+  batch_wider n batch (line.Edit at) t = (t.0, entry_wider n batch t.1)
+  batch_wider n batch (line.Refused (reason.Batch index r) at) t = t
+  batch_wider n batch (line.Refused reason.Full at) t = t
+  batch_wider n batch (line.Refused (reason.Edit r) at) t = absurd t
+  batch_wider n batch (line.Refused reason.TooLong at) t = absurd t
+  batch_wider n batch (line.Refused reason.Unknown at) t = absurd t
+  batch_wider n batch (line.Refused (reason.Fault f name) at) t = absurd t
+  batch_wider n batch (line.File at cells points ran) t = absurd t
+  batch_wider n batch (line.Audit at sides two lone border) t = absurd t
+  batch_wider n batch line.ReadFault t = absurd t
+  batch_wider n batch line.WriteFault t = absurd t
+  batch_wider n batch line.Memory t = t
+
   load_wider : (n : ℕ) (node file : List ℕ) (l : Line) (calls : List Call) → TellsLoad limit h ps n node file l calls → TellsLoad limit h qs n node file l calls
   load_wider n node file (line.Refused reason.TooLong at) calls t = t
   load_wider n node file line.ReadFault calls t = t
   load_wider n node file line.Memory calls t = t
-  load_wider n node file (line.Edit at) calls t = (t.0, edit_wider n (edits.Load node t.0) (line.Edit at) t.1, t.2)
+  load_wider n node file (line.Edit at) calls t = (t.0, edit_wider n (Load node t.0) (line.Edit at) t.1, t.2)
   load_wider n node file (line.Refused (reason.Edit r) at) calls t = t
   load_wider n node file (line.Refused reason.Full at) calls t = t
+  load_wider n node file (line.Refused (reason.Batch index r) at) calls t = absurd t.1
   load_wider n node file (line.Refused reason.Unknown at) calls t = absurd t.1
   load_wider n node file (line.Refused (reason.Fault f name) at) calls t = absurd t.1
   load_wider n node file (line.File at cells points ran) calls t = absurd t.1
@@ -43,6 +62,7 @@ module _ (limit : ℕ) (h : List Entry) (ps qs : List ℕ) (sub : (x : ℕ) → 
 
   tells_wider : (n : ℕ) (o : Asked) (l : Line) (calls : List Call) → Tells limit h ps n o l calls → Tells limit h qs n o l calls
   tells_wider n (edit e) l calls t = (edit_wider n e l t.0, t.1)
+  tells_wider n (edits batch) l calls t = (batch_wider n batch l t.0, t.1)
   tells_wider n (load node file) l calls t = load_wider n node file l calls t
   tells_wider n (update node file pieces workers) l calls t = t
   tells_wider n (audit node pieces workers) l calls t = t

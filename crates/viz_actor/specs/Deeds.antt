@@ -49,8 +49,8 @@ bytes_of deed = None
 
 -- the account of the script of these bytes: a history, whose journal is this text, and a line for
 -- each command, of which these are the rows; what their audits counted is closed up to the
--- boundary, and where all commands are of one actor, each row shows how many edits were accepted
--- up to it
+-- boundary, and where all commands are of one actor, each row shows how many entries were made up
+-- to it
 pub record IsAccounted {P : Type 0} (m : port.Ghosts P) (bytes : List ℕ) (rows : List Row)
     (text : List ℕ)
     (old new : List P) : Type 0 where

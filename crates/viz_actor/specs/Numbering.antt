@@ -23,7 +23,8 @@ running before (a ∷ actors) = (times a before + 1) ∷ running (before ++ a �
 
 -- entries with their actors and numbers
 abbrev pub with_numbers : List Entry → List ℕ → List ℕ → List JournalEntry
-with_numbers h actors numbers = map (λ p. record { actor = p.0.1; count = p.1; edit = p.0.0.edit })
+with_numbers h actors numbers =
+    map (λ p. record { actor = p.0.1; count = p.1; batch = p.0.0.batch })
     (zip (zip h actors) numbers)
 
 -- each actor that is found is that of its entry
@@ -39,7 +40,7 @@ pub record IsCounted (actor count : ℕ) (old new : List ℕ) : Type 0 where
   pub more : count ≡ slice_index old actor + 1
   pub kept : new ≡ slice_set old actor count
 
--- where the row tells an accepted edit, the edit's entry is of the row's actor
+-- where the row tells of an entry, it is of the row's actor
 abbrev pub TellsActor : List ℕ → Row → Type 0
 TellsActor actors r = All (λ at. (k : ℕ) → at ≡ k + 1 → k < length actors
     → slice_get actors k ≡ Some r.actor) (edited r.line)

@@ -11,7 +11,7 @@ use Rattle.viz_script.specs.Orders.{Asked, seen}
 use Rattle.viz_report.specs.declared.line.Line.{Line}
 use Rattle.viz_report.specs.declared.line.Line.TheVariants as line
 use Rattle.viz_report.specs.declared.line.Reason.TheVariants as reason
-use Rattle.viz_account.specs.Lines.{TellsEdit}
+use Rattle.viz_account.specs.Lines.{TellsEdit, TellsBatch}
 use Rattle.viz_account.specs.Account.{edited, least, places}
 use Rattle.viz_account.specs.Served.{Extends, ServesAll}
 
@@ -32,9 +32,14 @@ pub record AddsLines {P : Type 0} (m : port.Ghosts P) (limit pass : ℕ) (os : L
 -- the line of an edit's answer
 abbrev pub edit_line : EditAnswer → Line
 edit_line (answer.Done at) = line.Edit at
-edit_line (answer.Refused r at) = line.Refused (reason.Edit r) at
+edit_line (answer.Refused index r at) = line.Refused (reason.Edit r) at
 edit_line (answer.Full at) = line.Refused reason.Full at
 edit_line answer.Memory = line.Memory
+
+-- the line of a batch's answer: a refusal has its place in the batch
+abbrev pub batch_line : EditAnswer → Line
+batch_line (answer.Refused index r at) = line.Refused (reason.Batch index r) at
+batch_line a = edit_line a
 
 -- an edit of a pass, and its line
 pub record Edits (limit pass : ℕ) (e : Edit) (l : Line) (old new : List Entry) : Type 0 where
@@ -42,3 +47,11 @@ pub record Edits (limit pass : ℕ) (e : Edit) (l : Line) (old new : List Entry)
   pub own : places (pass ∷ []) new ≡ places (pass ∷ []) old ++ edited l
   pub told : (n : ℕ) × TellsEdit limit new (pass ∷ []) n e l × (least (length old) l ≤ n)
       × (n ≤ length new)
+
+-- a batch of a pass, and its line
+pub record Batches (limit pass : ℕ) (batch : List Edit) (l : Line) (old new : List Entry) : Type 0
+  where
+    pub further : Extends old new
+    pub own : places (pass ∷ []) new ≡ places (pass ∷ []) old ++ edited l
+    pub told : (n : ℕ) × TellsBatch limit new (pass ∷ []) n batch l × (least (length old) l ≤ n)
+        × (n ≤ length new)

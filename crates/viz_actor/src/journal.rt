@@ -93,7 +93,7 @@ fn entries_with(
         entries.push(JournalEntry {
             actor: *actor,
             count: *count,
-            edit: entry.edit,
+            batch: entry.batch,
         })?;
     }
     Ok(entries)

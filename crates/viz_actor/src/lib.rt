@@ -12,6 +12,7 @@
 //! docs/FORMATS.md, "Scripts" and "Report".
 #![tactic(auto)]
 
+mod copies;
 mod desk;
 mod joining;
 mod journal;

@@ -20,7 +20,7 @@ use viz_base::{Gate, Out, Port};
 use viz_told::{Status, tell};
 
 /// Runs the script of this name: reads it from the desk, serves its commands by the ports, writes
-/// the journal of all accepted edits to the desk, and puts the report.
+/// the journal of the history to the desk, and puts the report.
 ///
 /// `ports` are the actors' ports, the first one's first, and `gate` is what tasks pass. The
 /// statuses and texts are those of docs/FORMATS.md, "Report".

@@ -5,14 +5,17 @@ ghost use Rattle.viz_hub.specs.Passes.{at_seen};
 ghost use Rattle.viz_network.specs.declared.edit.Edit.TheVariants as edits;
 ghost use Rattle.viz_script.specs.Orders.{seen};
 ghost use Rattle.viz_account.specs.Served.{Serves};
-ghost use Rattle.viz_actor.specs.Serving.{commands_of, edit_line, AddsLines, Edits};
+ghost use Rattle.viz_actor.specs.Serving.{commands_of, edit_line, batch_line, AddsLines};
+ghost use Rattle.viz_actor.specs.Serving.{Edits, Batches};
 ghost use Rattle.viz_actor.specs.Updating.{IsSamePass};
 
+use crate::copies::{copy_all, copy_of};
 use crate::updating::{audit_node, update};
-use std::alloc::{AllocError, Global};
+use std::alloc::Global;
 use std::sync::Wait;
 use std::thread::Threads;
 use viz_base::{Bytes, Gate, Port, ReadRefusal, Shape, Shared, Word};
+use viz_batches::Batch;
 use viz_history::EditAnswer;
 use viz_hub::{Hub, Pass};
 use viz_network::Edit;
@@ -26,7 +29,7 @@ fn edit_line(answer: EditAnswer) -> Line
 {
     match answer {
         EditAnswer::Done { at } => Line::Edit { at },
-        EditAnswer::Refused { refusal, at } => Line::Refused {
+        EditAnswer::Refused { refusal, at, .. } => Line::Refused {
             reason: Reason::Edit(refusal),
             at,
         },
@@ -38,45 +41,38 @@ fn edit_line(answer: EditAnswer) -> Line
     }
 }
 
-// Makes an edit.
+// The line of a batch's answer: a refusal has its place in the batch.
+fn batch_line(answer: EditAnswer) -> Line
+    ensures { result ≡ batch_line answer }
+{
+    match answer {
+        EditAnswer::Refused { index, refusal, at } => Line::Refused {
+            reason: Reason::Batch { index, refusal },
+            at,
+        },
+        other => edit_line(other),
+    }
+}
+
+// Makes an edit, as a batch of one.
 fn make<R: Wait>(rt: &R, hub: &Hub, pass: &mut Pass, edit: Edit) -> Line
     requires belongs { pass.old.turn ≡ hub.now }
     ensures same { pass.new ≡ at_seen pass.old pass.new.seen }
     ensures edits { Edits hub.now.mark pass.old.number edit result pass.old.seen pass.new.seen }
 {
-    let answer = hub.edit(rt, pass, edit);
+    let answer = hub.edit(rt, pass, Batch::one(edit));
     edit_line(answer)
 }
 
-// The same edit.
-fn copy_of(edit: &Edit) -> Result<Edit, AllocError>
-    ensures { IfOk result (λ copy. copy ≡ edit.now) }
+// Makes a batch.
+fn make_all<R: Wait>(rt: &R, hub: &Hub, pass: &mut Pass, batch: Batch) -> Line
+    requires belongs { pass.old.turn ≡ hub.now }
+    ensures same { pass.new ≡ at_seen pass.old pass.new.seen }
+    ensures edits { Batches hub.now.mark pass.old.number batch result pass.old.seen
+        pass.new.seen }
 {
-    match edit {
-        Edit::Add { kind, node } => Ok(Edit::Add {
-            kind: *kind,
-            node: *node,
-        }),
-        Edit::Remove { node } => Ok(Edit::Remove { node: *node }),
-        Edit::Connect { from, to, port } => Ok(Edit::Connect {
-            from: *from,
-            to: *to,
-            port: *port,
-        }),
-        Edit::Disconnect { to, port } => Ok(Edit::Disconnect {
-            to: *to,
-            port: *port,
-        }),
-        Edit::Set { node, param, value } => Ok(Edit::Set {
-            node: *node,
-            param: *param,
-            value: *value,
-        }),
-        Edit::Load { node, file } => Ok(Edit::Load {
-            node: *node,
-            file: file.copy()?,
-        }),
-    }
+    let answer = hub.edit(rt, pass, batch);
+    batch_line(answer)
 }
 
 // Makes a copy of the edit.
@@ -88,6 +84,19 @@ fn make_copy<R: Wait>(rt: &R, hub: &Hub, pass: &mut Pass, edit: &Edit) -> Line
 {
     match copy_of(edit) {
         Ok(edit) => make(rt, hub, pass, edit),
+        Err(_) => Line::Memory,
+    }
+}
+
+// Makes a copy of the batch.
+fn make_copies<R: Wait>(rt: &R, alloc: Global, hub: &Hub, pass: &mut Pass, batch: &Batch) -> Line
+    requires belongs { pass.old.turn ≡ hub.now }
+    ensures same { pass.new ≡ at_seen pass.old pass.new.seen }
+    ensures edits { Batches hub.now.mark pass.old.number batch.now result
+        pass.old.seen pass.new.seen }
+{
+    match copy_all(alloc, batch) {
+        Ok(batch) => make_all(rt, hub, pass, batch),
         Err(_) => Line::Memory,
     }
 }
@@ -183,8 +192,8 @@ fn count<R: Threads + Wait + Sync, P: Port, G: Gate + Sync>(
     (pass, answer.line())
 }
 
-// Serves one command: an edit is an entry of the history, or is refused; a load reads its file
-// first; an update writes once; an audit calls nothing.
+// Serves one command: an edit, and a batch, is an entry of the history, or is refused; a load reads
+// its file first; an update writes once; an audit calls nothing.
 fn serve<R: Threads + Wait + Sync, P: Port, G: Gate + Sync>(
     rt: &R,
     alloc: Global,
@@ -203,6 +212,10 @@ fn serve<R: Threads + Wait + Sync, P: Port, G: Gate + Sync>(
     match order {
         Order::Do(edit) => {
             let line = make_copy(rt, hub, &mut pass, edit);
+            (pass, line)
+        }
+        Order::DoAll(batch) => {
+            let line = make_copies(rt, alloc, hub, &mut pass, batch);
             (pass, line)
         }
         Order::Load { node, file } => {

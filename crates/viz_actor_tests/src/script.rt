@@ -78,6 +78,25 @@ fn a_second_phase_begins_behind_the_first(rt: HostRuntime) -> Result<(), Fail> {
 }
 
 #[test]
+fn a_batch_is_one_entry_or_none(rt: HostRuntime) -> Result<(), Fail> {
+    // The contour of the corner has a triangle in each of the cube's six tetrahedra. The second
+    // batch is refused at its second edit, so the level stays, and the file of 5 is written.
+    let alloc = rt.alloc();
+    let mut ports = Vec::new(alloc);
+    ports.push(port(alloc, None)?)?;
+    let script = "1 add file src\n1 begin\n1 add contour iso\n1 connect src iso 1\n\
+        1 set iso levels 5\n1 end\n1 begin\n1 set iso levels 7\n1 remove src\n1 end\n\
+        1 load src a.vtk\n1 update iso o.vtk 1 1\n1 begin\n1 add crop iso\n1 end\n";
+    let served = serve(&rt, alloc, script, &mut ports)?;
+    let told = report_text(alloc, &served.rows)?;
+    let want = "edit 1 1 at 1\nedit 1 2 at 2\nrefused 1 3 2:InUse at 2\nedit 1 4 at 3\n\
+        file 1 5 at 3 cells 6 points 7 ran 2\nrefused 1 6 1:Exists at 3\n";
+    assert!(rt; told.list() == want.as_bytes(), "{told:?}");
+    assert_eq!(rt; served.history.len(), 3);
+    Ok(())
+}
+
+#[test]
 fn every_accepted_edit_stands_once(rt: HostRuntime) -> Result<(), Fail> {
     let alloc = rt.alloc();
     let mut ports = Vec::new(alloc);

@@ -1,6 +1,6 @@
 //! Updates and audits over a hub, on one thread.
 
-ghost use Rattle.std.specs.Prelude.{◌≡◌, ◌<◌, IfOk};
+ghost use Rattle.std.specs.Prelude.{◌≡◌, ◌≤◌, IfOk};
 
 use std::alloc::{AllocError, Global};
 use std::process::Abort;
@@ -9,6 +9,7 @@ use std::test::Fail;
 use std::thread::Threads;
 use viz_actor::{Answer, AuditAnswer, audit_node, update};
 use viz_base::{Bytes, FILE_LIMIT, FailAt, MemoryPort, OpenGate, Shape, Shared, Word};
+use viz_batches::Batch;
 use viz_history::EditAnswer;
 use viz_hub::{Hub, Pass, Sent};
 use viz_network::{Cause, Edit, Kind, Param, Value};
@@ -29,7 +30,7 @@ fn word(text: &str) -> Result<Word, Fail> {
 }
 
 fn begin(alloc: Global, limit: u32) -> Result<(Hub, Pass), AllocError>
-    requires { limit < 4294967295 }
+    requires { limit ≤ 67108863 }
     ensures pass { IfOk result (λ r. r.1.turn ≡ r.0) }
 {
     Hub::start(alloc, limit, 16)
@@ -40,7 +41,7 @@ fn edit<R: Wait>(rt: &R, hub: &Hub, pass: Pass, edit: Edit) -> (Pass, EditAnswer
     ensures pass { result.0.turn ≡ hub.now }
 {
     let mut pass = pass;
-    let answer = hub.edit(rt, &mut pass, edit);
+    let answer = hub.edit(rt, &mut pass, Batch::one(edit));
     (pass, answer)
 }
 

@@ -1,12 +1,19 @@
 -- What a call of apply_all answers.
-use Rattle.std.specs.Prelude.{◌≡◌, List, [], ◌∷◌, All, Result, Ok, Err}
+use Rattle.std.specs.Prelude.{◌≡◌, ℕ, ◌<◌, List, [], ◌∷◌, All, Result, Ok, Err}
 use Rattle.viz_network.specs.declared.edit.Edit.{Edit}
 use Rattle.viz_network.specs.declared.edit.Edit.TheVariants.{Set}
 use Rattle.viz_network.specs.Network.{Network}
 use Rattle.viz_network.specs.Applies.{MayTakeMemory}
+use Rattle.viz_network.specs.EqualStamps.{IsSound}
 use Rattle.viz_batches.specs.declared.stop.BatchStop.{BatchStop}
 use Rattle.viz_batches.specs.declared.stop.BatchStop.TheVariants.{Refused, Memory}
 use Rattle.viz_batches.specs.Batches.{BatchRefusal}
+
+-- the network is one of a history, whose positions are all before this one
+pub record IsSoundBefore (at : ℕ) (net : Network) : Type 0 where
+  pub last : ℕ
+  pub past : last < at
+  pub sound : IsSound last net
 
 -- the network is the one that the batch makes; or the batch is refused so, or memory ran out, and
 -- nothing changed

@@ -1,1 +1,3 @@
 pub mod Listed
+pub mod Making
+pub mod Checking

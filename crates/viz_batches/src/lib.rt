@@ -8,6 +8,7 @@
 mod apply;
 mod batch;
 mod laws;
+mod sets;
 mod stop;
 
 pub use apply::apply_all;

@@ -6,7 +6,7 @@ ghost use Rattle.viz_cache.specs.Keys.{same_key};
 ghost use Rattle.viz_kept.specs.True.{AreTrueIn, AreTrueOf};
 ghost use Rattle.viz_entries.specs.History.{edits_of, network_of, next, IsLegal};
 ghost use Rattle.viz_history.specs.Machine.{IsFirst, IsPinOf, Stays, Replies, Publishes};
-ghost use Rattle.viz_network.specs.Applies.{MayTakeMemory};
+ghost use Rattle.viz_batches.specs.AppliesAll.{MayTakeMemoryAll};
 
 use crate::answer::EditAnswer;
 use crate::pinned::Pinned;
@@ -14,10 +14,11 @@ use crate::publishing::{Kept, bring_all, give_overtaken_up, take_in};
 use std::alloc::{AllocError, Global};
 use std::marker::Model;
 use viz_base::Items;
+use viz_batches::{Batch, BatchStop, apply_all};
 use viz_cache::Cache;
 use viz_entries::Entry;
 use viz_kept::true_of_longer;
-use viz_network::{ApplyStop, Edit, Net};
+use viz_network::Net;
 use viz_parts::{Key, Stored};
 use viz_turn::Story;
 
@@ -49,7 +50,8 @@ impl Model for Core {
       spare = vec_capacity core.history - vec_len core.history;
     } };
 
-    ghost invariant = { λ core. IsKept core.history.items core.limit core.net core.cache.entries };
+    ghost invariant = { λ core. IsKept core.history.items core.edits core.limit core.net
+        core.cache.entries };
 }
 
 impl Story for Core {
@@ -75,6 +77,7 @@ impl Core {
         Ok(Core {
             history: Vec::new(alloc),
             net: Net::new(alloc),
+            edits: 0,
             limit,
             cache: Cache::new(alloc, capacity)?,
         })
@@ -105,13 +108,18 @@ impl Core {
         if self.history.reserve(1).is_err() {
             return EditAnswer::Memory;
         }
-        match self.net.apply(at + 1, &edit) {
+        match apply_all(&mut self.net, self.edits + 1, &batch) {
             Ok(()) => {
-                self.history.push_reserved(Entry { pass, count, edit });
+                self.edits += batch.edits().len() as u32;
+                self.history.push_reserved(Entry { pass, count, batch });
                 EditAnswer::Done { at: at + 1 }
             }
-            Err(ApplyStop::Refused(refusal)) => EditAnswer::Refused { refusal, at },
-            Err(ApplyStop::Memory) => EditAnswer::Memory,
+            Err(BatchStop::Refused { index, refusal }) => EditAnswer::Refused {
+                index,
+                refusal,
+                at,
+            },
+            Err(BatchStop::Memory) => EditAnswer::Memory,
         }
     }
 
@@ -155,7 +163,7 @@ impl Core {
         // One sweep of the network serves all parts.
         let stamps = self.net.stamps();
         let kept = take_in(&mut self.cache, &stamps, made);
-        give_overtaken_up(&mut self.cache, &stamps, self.history.len() as u32);
+        give_overtaken_up(&mut self.cache, &stamps, self.edits);
         kept
     }
 
@@ -177,6 +185,7 @@ impl Core {
         let Core {
             history,
             net: _,
+            edits: _,
             limit: _,
             cache: _,
         } = self;

@@ -82,22 +82,22 @@ made_goes_on p h made on are =
     (subst (λ edits. AreTrueOf edits made) (sym (map-append (λ e. e.edit) p.seen on.0)) (all_made_true (edits_of p.seen) (edits_of on.0) made are))
 
 -- an answer's entries of the pass's number
-pub answers_own : (p : PassKnown) (edit : Edit) (answer : EditAnswer) (seen : List Entry) → Answers p edit answer seen → own_of p.number seen ≡ own_of p.number p.seen ++ gained p edit answer
-answers_own p edit (Done at) seen a = one_grows by_of p.number p.ended p.seen a.0 seen (next_entry p edit) a.2 refl a.1
-answers_own p edit (Refused r at) seen a = own_stays (as_known p) seen a.0 ∙ sym (append-nil (own_of p.number p.seen))
-answers_own p edit (Full at) seen a = own_stays (as_known p) seen a.0 ∙ sym (append-nil (own_of p.number p.seen))
-answers_own p edit Memory seen a = own_stays (as_known p) seen a.0 ∙ sym (append-nil (own_of p.number p.seen))
+pub answers_own : (p : PassKnown) (batch : List Edit) (answer : EditAnswer) (seen : List Entry) → Answers p batch answer seen → own_of p.number seen ≡ own_of p.number p.seen ++ gained p batch answer
+answers_own p batch (Done at) seen a = one_grows by_of p.number p.ended p.seen a.0 seen (next_entry p batch) a.2 refl a.1
+answers_own p batch (Refused index r at) seen a = own_stays (as_known p) seen a.0 ∙ sym (append-nil (own_of p.number p.seen))
+answers_own p batch (Full at) seen a = own_stays (as_known p) seen a.0 ∙ sym (append-nil (own_of p.number p.seen))
+answers_own p batch Memory seen a = own_stays (as_known p) seen a.0 ∙ sym (append-nil (own_of p.number p.seen))
 
 ended_same : (p : PassKnown) (h : List Entry) (n : ℕ) → has n p.ended ≡ true → GoesFurther p h → own_of n h ≡ own_of n p.seen
 ended_same p h n old on = one_stays by_of n (numbers p) p.seen h (has_tail n p.number p.ended old) on
 
 -- and of its ended numbers
-pub answers_ended : (p : PassKnown) (edit : Edit) (answer : EditAnswer) (seen : List Entry) (n : ℕ) → once (numbers p) ≡ true → has n p.ended ≡ true → Answers p edit answer seen
+pub answers_ended : (p : PassKnown) (batch : List Edit) (answer : EditAnswer) (seen : List Entry) (n : ℕ) → once (numbers p) ≡ true → has n p.ended ≡ true → Answers p batch answer seen
     → own_of n seen ≡ own_of n p.seen
-answers_ended p edit (Done at) seen n differ old a = ended_stays by_of p.number n p.ended p.seen a.0 seen (next_entry p edit) differ old a.2 refl a.1
-answers_ended p edit (Refused r at) seen n differ old a = ended_same p seen n old a.0
-answers_ended p edit (Full at) seen n differ old a = ended_same p seen n old a.0
-answers_ended p edit Memory seen n differ old a = ended_same p seen n old a.0
+answers_ended p batch (Done at) seen n differ old a = ended_stays by_of p.number n p.ended p.seen a.0 seen (next_entry p batch) differ old a.2 refl a.1
+answers_ended p batch (Refused index r at) seen n differ old a = ended_same p seen n old a.0
+answers_ended p batch (Full at) seen n differ old a = ended_same p seen n old a.0
+answers_ended p batch Memory seen n differ old a = ended_same p seen n old a.0
 
 -- a whole pass has seen the journal
 pub journal_is_seen : (p : PassKnown) (journal : List Entry) → GoesFurther p journal → HasNoOther by_of (numbers p) journal → journal ≡ p.seen

@@ -19,8 +19,8 @@ use crate::turns::{edit_by, front_by, join_by, pin_by, publish_by, split_by};
 use std::alloc::{AllocError, Global};
 use std::sync::Wait;
 use viz_base::{Items, NodeId, Shape};
+use viz_batches::Batch;
 use viz_history::{Core, EditAnswer, Kept, Pinned};
-use viz_network::Edit;
 use viz_parts::{Key, Stored};
 use viz_turn::Turn;
 

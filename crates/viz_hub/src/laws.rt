@@ -10,14 +10,14 @@ ghost use Rattle.viz_entries.specs.History.{by_of, own_of};
 ghost use Rattle.viz_hub.specs.Answers.{Answers, gained};
 ghost use Rattle.viz_hub.specs.Passes.{PassKnown, numbers, GoesFurther};
 
-/// After an edit the entries of the pass's number are those that it had seen and, where the edit
+/// After a batch the entries of the pass's number are those that it had seen and, where the batch
 /// was accepted, this one; those of an ended number stay as they were.
 pub fn own_gains_this_entry()
-    ensures own { (p : PassKnown) (edit : Edit) (answer : EditAnswer) (seen : List Entry)
-        → Answers p edit answer seen
-        → own_of p.number seen ≡ own_of p.number p.seen ++ gained p edit answer }
-    ensures ended { (p : PassKnown) (edit : Edit) (answer : EditAnswer) (seen : List Entry)
-        (n : ℕ) → once (numbers p) ≡ true → has n p.ended ≡ true → Answers p edit answer seen
+    ensures own { (p : PassKnown) (batch : List Edit) (answer : EditAnswer) (seen : List Entry)
+        → Answers p batch answer seen
+        → own_of p.number seen ≡ own_of p.number p.seen ++ gained p batch answer }
+    ensures ended { (p : PassKnown) (batch : List Edit) (answer : EditAnswer) (seen : List Entry)
+        (n : ℕ) → once (numbers p) ≡ true → has n p.ended ≡ true → Answers p batch answer seen
         → own_of n seen ≡ own_of n p.seen }
 {}
 

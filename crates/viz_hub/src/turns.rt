@@ -16,8 +16,8 @@ use crate::place::{NONE, Place, Told};
 use crate::sent::Sent;
 use std::alloc::{AllocError, Global};
 use std::sync::Wait;
+use viz_batches::Batch;
 use viz_history::{Core, EditAnswer, Kept, Pinned};
-use viz_network::Edit;
 use viz_parts::{Key, Stored};
 use viz_turn::Turn;
 
@@ -81,11 +81,11 @@ pub(crate) fn edit_by<R: Wait>(
     turn: &Turn<Core>,
     rt: &R,
     place: Place,
-    edit: Edit,
+    batch: Batch,
 ) -> (Place, EditAnswer)
     requires belongs { (shown place).turn ≡ hub_of turn.now }
     ensures same { shown result.0 ≡ at_seen (shown place) (shown result.0).seen }
-    ensures answers { Answers (shown place) edit result.1 (shown result.0).seen }
+    ensures answers { Answers (shown place) batch result.1 (shown result.0).seen }
     ensures distinct { once (numbers (shown place)) ≡ true }
 {
     let Place { pass, count, told } = place;
@@ -94,7 +94,7 @@ pub(crate) fn edit_by<R: Wait>(
     // The count of a pass is at most the number of entries, so the next one fits.
     let _at = held.state().front();
     let next = count + 1;
-    let answer = held.state().edit(number, next, edit);
+    let answer = held.state().edit(number, next, batch);
     if let EditAnswer::Done { at: _ } = answer {
         turn.append(&mut held);
         let pass = turn.give(held);

@@ -34,6 +34,7 @@ no_came files filter (read.Given bytes) (reason.Fault fault name) is c =
     let bad : (let r : Result (List ℕ) Fault = Ok c.0 in r) ≡ Err fault = files filter bytes (Ok c.0) (Err fault) c.1 is.file in
     cc
 no_came files filter (read.Given bytes) (reason.Edit r) is c = is
+no_came files filter (read.Given bytes) (reason.Batch index r) is c = is
 no_came files filter (read.Given bytes) reason.Full is c = is
 no_came files filter (read.Given bytes) reason.TooLong is c = is
 no_came files filter (read.Given bytes) reason.Unknown is c = is

@@ -1,11 +1,14 @@
 -- The network of the fixed history, and what lies upstream of its filter.
-use Rattle.std.proofs.Common.{◌≡◌, ◌⊎◌, ℕ, Bool, true, false, not, List, Some, Ok, refl, sym, ap, subst, ◌∙◌, inl, inr}
+use Rattle.std.proofs.Common.{◌≡◌, ◌⊎◌, ℕ, Bool, true, false, not, List, [], ◌∷◌, Some, Ok, IsOk, refl, sym, ap, subst, ◌∙◌, inl, inr, arith}
 use Rattle.viz_kinds.specs.Values.{is_value}
 use Rattle.viz_network.specs.declared.refusal.Refusal.TheVariants.{BadValue}
-use Rattle.viz_network.specs.Applies.{IsAccepted}
+use Rattle.viz_network.specs.declared.edit.Edit.{Edit}
 use Rattle.viz_network.specs.Cone.{cone_of}
 use Rattle.viz_network.specs.Edits.{unless}
 use Rattle.viz_network.specs.Network.{Network, name_of}
+use Rattle.viz_batches.specs.Batches.{then_all}
+use Rattle.viz_entries.specs.declared.entry.Entry.{Entry}
+use Rattle.viz_entries.specs.History.{entry, next, apply_behind, IsNext}
 use Rattle.viz_once.specs.declared.command.NodeFilter.{NodeFilter}
 use Rattle.viz_once.specs.declared.command.NodeFilter.TheVariants.{Threshold, Contour}
 use Rattle.viz_once.specs.FixedHistory.{param_of, value_of, HasNumbers, network_for, source_id, op_id, name_at}
@@ -35,33 +38,38 @@ name_is filter bytes h id either = ap (λ (net : Network). name_of net id) (netw
 -- ---- its history
 
 -- an edit whose value the parameter takes is accepted
-taken : (net : Network) (b : Bool) → b ≡ true → IsAccepted (unless (not b) BadValue (Ok net))
-taken net true e = tt
+taken : (net : Network) (b : Bool) → b ≡ true → IsOk (then_all (λ made. Ok made) 1 (unless (not b) BadValue (Ok net)))
+taken net true e = refl
 taken net false e = absurd (let bad : false ≡ true = e in cc)
+
+-- an edit that is accepted is a next entry, as a batch of one
+next_one : (before : List Entry) (count : ℕ) (e : Edit) → IsOk (apply_behind before (e ∷ [])) → count ≡ next 0 before → IsNext before (entry 0 count (e ∷ []))
+next_one before count e accepted counted =
+    record { batch = record { some = omega arith; few = omega arith }; accepted = accepted; counted = counted }
 
 pub histories_are_legal : HistoriesAreLegal
 histories_are_legal (Threshold lo hi) bytes h = (
-  record { accepted = tt; counted = refl },
+  next_one _ 1 _ refl refl,
   (
-    record { accepted = tt; counted = refl },
+    next_one _ 2 _ refl refl,
     (
-      record { accepted = tt; counted = refl },
+      next_one _ 3 _ refl refl,
       (
-        record { accepted = tt; counted = refl },
-        (record { accepted = taken (made_network (Threshold lo hi) bytes) (is_value (param_of (Threshold lo hi)) (value_of (Threshold lo hi))) (fits (Threshold lo hi) h); counted = refl }, tt),
+        next_one _ 4 _ refl refl,
+        (next_one _ 5 _ (taken (made_network (Threshold lo hi) bytes) (is_value (param_of (Threshold lo hi)) (value_of (Threshold lo hi))) (fits (Threshold lo hi) h)) refl, tt),
       ),
     ),
   ),
 )
 histories_are_legal (Contour level) bytes h = (
-  record { accepted = tt; counted = refl },
+  next_one _ 1 _ refl refl,
   (
-    record { accepted = tt; counted = refl },
+    next_one _ 2 _ refl refl,
     (
-      record { accepted = tt; counted = refl },
+      next_one _ 3 _ refl refl,
       (
-        record { accepted = tt; counted = refl },
-        (record { accepted = taken (made_network (Contour level) bytes) (is_value (param_of (Contour level)) (value_of (Contour level))) (fits (Contour level) h); counted = refl }, tt),
+        next_one _ 4 _ refl refl,
+        (next_one _ 5 _ (taken (made_network (Contour level) bytes) (is_value (param_of (Contour level)) (value_of (Contour level))) (fits (Contour level) h)) refl, tt),
       ),
     ),
   ),

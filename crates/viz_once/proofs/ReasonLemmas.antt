@@ -20,6 +20,7 @@ use Rattle.viz_once.specs.Reasons.{IsFaultFor, IsReason}
 pub failed_none : (filter : Filter) (x : Reason) → IsReason filter read.Failed x → ⊥
 failed_none filter (reason.Fault f n) a = a
 failed_none filter (reason.Edit r) a = a
+failed_none filter (reason.Batch index r) a = a
 failed_none filter reason.Full a = a
 failed_none filter reason.TooLong a = a
 failed_none filter reason.Unknown a = a
@@ -74,10 +75,12 @@ module _ (files : FiltersAreOne) where
   of_bytes : (filter : Filter) (bytes : List ℕ) (x y : Reason) → IsReason filter (read.Given bytes) x → IsReason filter (read.Given bytes) y → x ≡ y
   of_bytes filter bytes (reason.Fault f n) (reason.Fault g m) a b = fault_one filter bytes f g n m a b
   of_bytes filter bytes (reason.Fault f n) (reason.Edit r) a b = absurd b
+  of_bytes filter bytes (reason.Fault f n) (reason.Batch index r) a b = absurd b
   of_bytes filter bytes (reason.Fault f n) reason.Full a b = absurd b
   of_bytes filter bytes (reason.Fault f n) reason.TooLong a b = absurd b
   of_bytes filter bytes (reason.Fault f n) reason.Unknown a b = absurd b
   of_bytes filter bytes (reason.Edit r) y a b = absurd a
+  of_bytes filter bytes (reason.Batch index r) y a b = absurd a
   of_bytes filter bytes reason.Full y a b = absurd a
   of_bytes filter bytes reason.TooLong y a b = absurd a
   of_bytes filter bytes reason.Unknown y a b = absurd a

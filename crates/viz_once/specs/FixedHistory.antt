@@ -50,12 +50,13 @@ abbrev pub HasNumbers : NodeFilter → Type 0
 HasNumbers (Threshold lo hi) = (fits_i64 lo ≡ true) × (fits_i64 hi ≡ true)
 HasNumbers (Contour level) = fits_i64 level ≡ true
 
--- the source and its file, the filter's node behind it, and the filter's numbers, by the first pass
+-- the source and its file, the filter's node behind it, and the filter's numbers, each a batch of
+-- one by the first pass
 abbrev pub history_of : NodeFilter → List ℕ → List Entry
 history_of filter bytes =
-    entry 0 1 (Add kind.File source) ∷ entry 0 2 (Load source bytes) ∷ entry 0 3
-    (Add (kind_of filter) op)
-    ∷ entry 0 4 (Connect source op 1) ∷ entry 0 5 (Set op (param_of filter) (value_of filter)) ∷ []
+    entry 0 1 (Add kind.File source ∷ []) ∷ entry 0 2 (Load source bytes ∷ [])
+    ∷ entry 0 3 (Add (kind_of filter) op ∷ []) ∷ entry 0 4 (Connect source op 1 ∷ [])
+    ∷ entry 0 5 (Set op (param_of filter) (value_of filter) ∷ []) ∷ []
 
 -- the network of the fixed history
 abbrev pub network_for : NodeFilter → List ℕ → Network

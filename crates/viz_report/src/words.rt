@@ -135,12 +135,24 @@ fn put_fault(text: &mut Vec<u8>, node: &Word, cause: &Cause) -> Result<(), Alloc
     Ok(())
 }
 
+// Puts a place in a batch and the word of the refusal there.
+fn put_refusal_at(text: &mut Vec<u8>, index: u32, refusal: Refusal) -> Result<(), AllocError>
+    ensures { OnOk result (text.new.items
+        ≡ text.old.items ++ (decimal index ++ codes ":" ++ refusal_text refusal)) }
+{
+    put_whole(text, i128::from(index))?;
+    text.push(b':')?;
+    text.extend_from_slice(refusal_word(refusal).as_bytes())?;
+    Ok(())
+}
+
 /// Puts the words of a reason.
 pub fn put_reason(text: &mut Vec<u8>, reason: &Reason) -> Result<(), AllocError>
     ensures { OnOk result (text.new.items ≡ text.old.items ++ reason_text reason.now) }
 {
     match reason {
         Reason::Edit(refusal) => text.extend_from_slice(refusal_word(*refusal).as_bytes()),
+        Reason::Batch { index, refusal } => put_refusal_at(text, *index, *refusal),
         Reason::Full => text.extend_from_slice(b"Full"),
         Reason::TooLong => text.extend_from_slice(b"TooLong"),
         Reason::Unknown => text.extend_from_slice(b"Unknown"),

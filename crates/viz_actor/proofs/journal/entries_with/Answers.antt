@@ -13,5 +13,5 @@ returns c =
     YieldsList-end (YieldsList-from_zip (YieldsList-from_zip (YieldsList-from_vec c.args.history.items (search rules) (search rules)) (YieldsList-from_slice c.args.actors.now (search rules))) (YieldsList-from_slice c.args.numbers.now (search rules)))
     c.loop-entry.yielded c.loop-entry.entry-iterator c.loop-entry.yielded_by c.next.result c.next.new.self c.in-None.is c.next.ensures.steps
     in
-    let entry : (Entry × ℕ) × ℕ → JournalEntry = λ p. record { actor = p.0.1; count = p.1; edit = p.0.0.edit } in
+    let entry : (Entry × ℕ) × ℕ → JournalEntry = λ p. record { actor = p.0.1; count = p.1; batch = p.0.0.batch } in
     c.loop-entry.invariant ∙ sym (map-map entry _ c.loop-entry.yielded) ∙ ap (map entry) all.0
