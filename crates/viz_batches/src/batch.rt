@@ -25,6 +25,7 @@ pub struct Batch {
 impl Model for Batch {
     ghost use Rattle.std.specs.Prelude.{List};
     ghost use Rattle.viz_network.specs.declared.edit.Edit.{Edit as Item};
+    ghost use Rattle.viz_batches.specs.Batches.{IsBatch};
     ghost use Rattle.viz_batches.specs.Steps.Listed.{listed};
 
     ghost Value = { List Item };

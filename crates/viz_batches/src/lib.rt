@@ -13,5 +13,5 @@ mod stop;
 
 pub use apply::apply_all;
 pub use batch::Batch;
-pub use laws::accepted_batches_are_their_edits;
+pub use laws::{accepted_batches_are_their_edits, histories_are_sound};
 pub use stop::BatchStop;

@@ -1,6 +1,6 @@
 //! Whether a network refuses a Set, before any is made.
 
-ghost use Rattle.std.specs.Prelude.{◌≡◌, ◌↔◌, All, IsTrue};
+ghost use Rattle.std.specs.Prelude.{◌≡◌, ◌<◌, ◌↔◌, All, IsTrue, length};
 ghost use Rattle.std.specs.Option.{option_map};
 ghost use Rattle.viz_network.specs.EqualStamps.{IsAscending};
 ghost use Rattle.viz_network.specs.Network.{named};
@@ -63,7 +63,8 @@ fn check(net: &Net, edit: &Edit) -> Result<(), Refusal>
 
 /// The first of the edits that the network refuses; all are Sets.
 pub fn check_all(net: &Net, edits: &[Edit]) -> Result<(), BatchStop>
-    requires { IsAscending net.now }
+    requires ascending { IsAscending net.now }
+    requires few { length edits.now < 4294967296 }
     ensures { AnswersCheck result (check_each 1 edits.now net.now) }
 {
     for (i, edit) in edits.iter().enumerate() {

@@ -1,5 +1,7 @@
 //! Why a batch isn't made.
 
+ghost use Rattle.std.specs.Prelude.{◌≡◌};
+
 use std::alloc::AllocError;
 use thiserror::Error;
 use viz_network::Refusal;

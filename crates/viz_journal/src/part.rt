@@ -3,8 +3,8 @@
 ghost use Rattle.std.specs.Prelude.{◌≡◌, ◌≤◌, ◌<◌, IfOk, ◌^◌, length, take, drop};
 ghost use Rattle.viz_words.specs.Lines.{begins_newline};
 ghost use Rattle.viz_journal.specs.Lines.{size};
-ghost use Rattle.viz_journal.specs.Reading.{Part, part_of, is_there, has_bytes, is_closed};
-ghost use Rattle.viz_journal.specs.Reading.{rest_of, edit_of};
+ghost use Rattle.viz_journal.specs.Parts.{Part, part_of, is_there, has_bytes, is_closed};
+ghost use Rattle.viz_journal.specs.Parts.{rest_of, edit_of};
 
 use crate::draft::Draft;
 use std::alloc::{AllocError, Global};

@@ -1,6 +1,6 @@
 -- Whether a network refuses Sets, before any is made: a Set changes no kind, so none depends on
 -- another.
-use Rattle.std.specs.Prelude.{◌≡◌, ℕ, ◌+◌, Bool, not, if◌then◌else◌, List, [], ◌∷◌, Option, Result}
+use Rattle.std.specs.Prelude.{◌≡◌, ℕ, ◌+◌, not, if◌then◌else◌, List, [], ◌∷◌, Result}
 use Rattle.std.specs.Prelude.{Ok, Err}
 use Rattle.std.specs.Option.{option_map, option_map_or}
 use Rattle.viz_kinds.specs.declared.kind.Kind.{Kind}
