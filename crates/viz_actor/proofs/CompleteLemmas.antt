@@ -1,7 +1,7 @@
 -- A run of a script without faults answers Done exactly where all its commands came to what they asked for.
-use Rattle.std.proofs.Common.{◌≡◌, ℕ, zero, suc, ◌+◌, Bool, true, false, not, ◌||◌, List, [], ◌∷◌, ◌++◌, length, map, Ok, refl, sym, ap, ap₂, subst, ◌∙◌, inl, inr, true≢false, arith}
-use Rattle.std.specs.Prelude.{◌⊎◌, flat_map}
-use Rattle.std.specs.List.{All, list_any}
+use Rattle.std.proofs.Common.{◌≡◌, ℕ, zero, suc, ◌+◌, Bool, true, false, ◌||◌, List, [], ◌∷◌, length, map, refl, sym, ap, subst, ◌∙◌, inl, inr, true≢false, arith}
+use Rattle.std.specs.Prelude.{flat_map}
+use Rattle.std.specs.List.{All}
 use Rattle.std.proofs.lemmas.List.{length-map}
 use Rattle.std.proofs.lemmas.List.Elements.{All-nil, All-cons, All-head, All-tail, All-append}
 use Rattle.std.proofs.lemmas.List.Folds.{list_any_none}
@@ -10,7 +10,6 @@ use Rattle.viz_base.specs.declared.port.Port as port
 use Rattle.viz_base.specs.declared.out.Out as out
 use Rattle.viz_base.specs.declared.call.Call.{Call}
 use Rattle.viz_base.specs.declared.call.ReadAnswer.TheVariants as read
-use Rattle.viz_base.specs.declared.call.WriteAnswer.{WriteAnswer}
 use Rattle.viz_base.specs.declared.call.WriteAnswer.TheVariants as write
 use Rattle.viz_entries.specs.declared.entry.Entry.{Entry}
 use Rattle.viz_script.specs.Orders.{Asked as Command}
@@ -24,15 +23,14 @@ use Rattle.viz_account.specs.Complete.{AllCame, TellsCame, AllCameAreTold}
 use Rattle.viz_told.specs.declared.status.Status.{Status}
 use Rattle.viz_told.specs.declared.status.Status.TheVariants as status
 use Rattle.viz_told.specs.Calls.{IsCalled}
-use Rattle.viz_told.specs.Complete.{EndsComplete}
 use Rattle.viz_told.specs.Puts.{GainsLine}
 use Rattle.viz_told.specs.Told.{IsTold}
 use Rattle.viz_told.proofs.ToldLemmas.{is_no_done, is_no_refused, gains, ends_in_memory, ends_whole, told_at}
 use Rattle.viz_actor.specs.declared.ran.Ran.{Ran}
 use Rattle.viz_actor.specs.declared.ran.Ran.TheVariants as ran
 use Rattle.viz_actor.specs.Groups.{by_actor, by_phase, commands_in, numbers, actors_over, history_limit}
-use Rattle.viz_actor.specs.Deeds.{Deed, Nothing, Asked, Kept, calls_of, IsAccounted, IsEndOfScript, IsScriptRun, is_written}
-use Rattle.viz_actor.specs.Told.{ran_text, is_memory, is_fault, is_refused, has_memory, has_fault, has_refused, served_status, status_of, telling_of}
+use Rattle.viz_actor.specs.Deeds.{Deed, Nothing, Asked, Kept, calls_of, IsAccounted, IsEndOfScript, IsScriptRun}
+use Rattle.viz_actor.specs.Told.{is_memory, is_fault, is_refused, has_memory, has_fault, has_refused, served_status, telling_of}
 use Rattle.viz_actor.specs.Promises.{SomeRose}
 use Rattle.viz_actor.specs.Complete.{EndsServed, EndsBy, IsComplete}
 use Rattle.viz_actor.proofs.ReportRowLemmas.{front_all, behind_all, AllAt, AllBy, all_lines, none_of, rows_pass}

@@ -18,7 +18,7 @@ use Rattle.viz_turn.proofs.TaleLemmas.{clear_sub, all_of_it}
 use Rattle.viz_network.specs.declared.edit.Edit.{Edit}
 use Rattle.viz_network.specs.Network.{Network}
 use Rattle.viz_network.specs.declared.refusal.Refusal.{Refusal}
-use Rattle.viz_batches.specs.Batches.{BatchRefusal, then_all, apply_all}
+use Rattle.viz_batches.specs.Batches.{BatchRefusal, then_all}
 use Rattle.viz_network.specs.Edits.{apply}
 use Rattle.viz_entries.specs.declared.entry.Entry.{Entry}
 use Rattle.viz_history.specs.declared.answer.EditAnswer.{EditAnswer}

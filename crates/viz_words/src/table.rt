@@ -8,7 +8,7 @@ use crate::command::Command;
 use viz_kinds::{Kind, Param};
 
 /// The commands.
-const COMMANDS: [Command; 8] = [
+const COMMANDS: [Command; 10] = [
     Command::Add,
     Command::Remove,
     Command::Connect,
