@@ -1,6 +1,6 @@
 -- The edits of a batch as the lines of a journal say them, or the first refusal of the first line
 -- that has one (docs/FORMATS.md, "Journals").
-use Rattle.std.specs.Prelude.{◌≡◌, ℕ, zero, suc, ◌+◌, Bool, ◌&&◌, List, [], ◌∷◌, ◌++◌, Result}
+use Rattle.std.specs.Prelude.{ℕ, zero, suc, ◌+◌, Bool, ◌&&◌, List, [], ◌∷◌, ◌++◌, Result}
 use Rattle.std.specs.Prelude.{Ok, Err}
 use Rattle.viz_kinds.specs.Values.{is_text}
 use Rattle.viz_network.specs.declared.edit.Edit.{Edit}

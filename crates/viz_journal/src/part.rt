@@ -17,6 +17,7 @@ pub(crate) fn part_of(text: &[u8]) -> (&[u8], bool, &[u8])
     ensures value { part_of text.now
         ≡ record { line = result.0.now; ended = result.1; rest = result.2.now } }
     ensures shorter { 0 < length text.now → length result.2.now < length text.now }
+    ensures within { length result.2.now ≤ length text.now }
 {
     match line_len(text) {
         Some(len) => (&text[..len], true, &text[len + 1..]),

@@ -84,6 +84,7 @@ GoesOn view (Err Memory) n old bytes new = Unit {0}
 abbrev pub GoesThrough : {S : Type 0} → (S → List ℕ) → Result S ScriptStop → ℕ → ℕ → Ledger
     → List ℕ → Ledger → Type 0
 GoesThrough view (Ok rest) k n old bytes new = IsGrown old new
+    × (length new.batch.items ≡ length old.batch.items + k)
     × (length (view rest) ≤ length bytes)
     × (batch_in old k n bytes ≡ Ok (new.batch.items, view rest))
 GoesThrough view (Err (Refused m r)) k n old bytes new = batch_in old k n bytes ≡ Err (m, r)
@@ -92,10 +93,10 @@ GoesThrough view (Err Memory) k n old bytes new = Unit {0}
 -- ---- entries
 
 -- the entry was added, behind whose line or lines the next one has this number
-pub record IsEntered (old : Ledger) (e : JournalEntry) (line : ℕ) (new : Ledger) : Type 0 where
+pub record IsEntered (old : Ledger) (e : JournalEntry) (number : ℕ) (new : Ledger) : Type 0 where
   pub closed : IsClosed new
   pub entries : new.entries.items ≡ old.entries.items ++ e ∷ []
-  pub line : new.line ≡ line
+  pub line : new.line ≡ number
 
 -- the entry of version 1 was added, or its line is refused so
 abbrev pub Enters : Result (Unit {0}) ScriptRefusal → Ledger → Part → Told → Ledger → Type 0
