@@ -14,7 +14,8 @@ WORDS are one of:
   clip IN OUT A B C R          keep what of an image's or a grid's tetrahedra lies
                                where A x + B y + C z is at least R
   run SCRIPT JOURNAL           serve a script, keep its edits and put a report
-  scratch JOURNAL N SINK OUT   write the file of SINK after the first N edits
+  scratch JOURNAL N SINK OUT   write the file of SINK after the first N entries
+  migrate JOURNAL OUT          write a journal anew in version 2
   make NUMBER NX NY NZ OUT     write a volume made of a number, and audit it
 
 All files lie in DIR; their names have no slash.

@@ -8,14 +8,16 @@ use Rattle.viz_words.specs.Names.{named_in, is_node_name, is_file_name}
 use Rattle.viz_words.specs.Numbers.{natural_in}
 use Rattle.viz_make.specs.Make.{Make as Making}
 use Rattle.viz_make.specs.Size.{volume_extent}
+use Rattle.viz_migrate.specs.Migrate.{Migrate as Migration}
 use Rattle.viz_replay.specs.Replay.{Replay}
 
 -- a command: one file to be read, filtered and written; a script with the name of its journal; the
--- prefix of a journal; or a volume to be made
+-- prefix of a journal; a journal to be written anew; or a volume to be made
 pub data Command : Type 0 where
   Once : OneFile → Command
   Script : List ℕ → List ℕ → Command
   Scratch : Replay → Command
+  Migrate : Migration → Command
   Make : Making → Command
 
 -- what was read, where it was
@@ -40,6 +42,13 @@ scratch_of (journal ∷ count ∷ sink ∷ output ∷ []) =
     (file_name_of journal)
 scratch_of words = None
 
+-- JOURNAL OUT
+unfoldable pub migrate_of : List (List ℕ) → Option Command
+migrate_of (journal ∷ output ∷ []) = option_and_then
+    (λ j. option_map (λ o. Migrate (record { journal = j; output = o })) (file_name_of output))
+    (file_name_of journal)
+migrate_of words = None
+
 -- a size of a volume along an axis, before the product of all three is known
 abbrev pub size_in : List ℕ → Option ℕ
 size_in word = given (natural_in 1 262144 word)
@@ -62,4 +71,5 @@ command_of (verb ∷ words) =
     else if bytes_eq verb (codes "clip") then option_map (λ c. Once c) (clip_of words)
     else if bytes_eq verb (codes "run") then script_of words
     else if bytes_eq verb (codes "scratch") then scratch_of words
+    else if bytes_eq verb (codes "migrate") then migrate_of words
     else if bytes_eq verb (codes "make") then make_of words else None

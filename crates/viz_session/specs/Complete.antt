@@ -5,10 +5,11 @@ use Rattle.viz_base.specs.declared.port.Port as port
 use Rattle.viz_base.specs.declared.out.Out as out
 use Rattle.viz_once.specs.Complete as once
 use Rattle.viz_make.specs.Complete as make
+use Rattle.viz_migrate.specs.Complete as migrate
 use Rattle.viz_replay.specs.Complete as replay
 use Rattle.viz_actor.specs.Complete as script
 use Rattle.viz_told.specs.declared.status.Status.{Status}
-use Rattle.viz_session.specs.Command.{Command, Once, Script, Scratch, Make}
+use Rattle.viz_session.specs.Command.{Command, Once, Script, Scratch, Migrate, Make}
 
 module _ {P O : Type 0} (m : port.Ghosts P) (o : out.Ghosts O) (desk new_desk : P)
     (old new : List P) (before after : O) where
@@ -21,6 +22,8 @@ module _ {P O : Type 0} (m : port.Ghosts P) (o : out.Ghosts O) (desk new_desk : 
       script.IsComplete m o script_name journal desk new_desk old new before after ended
   IsComplete (Some (Scratch c)) ended =
       replay.IsComplete m o c desk new_desk old new before after ended
+  IsComplete (Some (Migrate c)) ended =
+      migrate.IsComplete m o c desk new_desk old new before after ended
   IsComplete (Some (Make c)) ended = make.IsComplete m o old new before after ended
   IsComplete None ended = Unit {0}
 

@@ -10,6 +10,11 @@ use Rattle.viz_make.specs.Make as make
 use Rattle.viz_make.specs.Promises as make_promises
 use Rattle.viz_make.specs.Told as make_told
 use Rattle.viz_make.specs.Views.{make_of}
+use Rattle.viz_migrate.specs.Migrate as migrate
+use Rattle.viz_migrate.specs.Promises as migrate_promises
+use Rattle.viz_migrate.specs.Told as migrate_told
+use Rattle.viz_migrate.specs.Views.{migrate_view}
+use Rattle.viz_migrate.specs.declared.came.Came.{Came as MigrateCame}
 use Rattle.viz_replay.specs.Promises as replay_promises
 use Rattle.viz_replay.specs.Replay as replay
 use Rattle.viz_replay.specs.Served.{replay_of}
@@ -24,7 +29,7 @@ use Rattle.viz_told.specs.declared.status.Status.TheVariants as status
 use Rattle.viz_told.specs.Lines.{usage_line}
 use Rattle.viz_told.specs.Ports as ports
 use Rattle.viz_told.specs.Told.{Telling, IsTold}
-use Rattle.viz_session.specs.Command.{Command, Once, Script, Scratch, Make}
+use Rattle.viz_session.specs.Command.{Command, Once, Script, Scratch, Migrate, Make}
 use Rattle.viz_session.specs.declared.command.Command.{Command as Words}
 use Rattle.viz_session.specs.declared.command.Command.TheVariants as words
 
@@ -33,6 +38,7 @@ abbrev pub command_view : Words → Command
 command_view (words.Once c) = Once (once.command_view c)
 command_view (words.Script script journal) = Script script.now journal.now
 command_view (words.Scratch replay) = Scratch (replay_of replay)
+command_view (words.Migrate migration) = Migrate (migrate_view migration)
 command_view (words.Make made) = Make (make_of made)
 
 -- what is told where the words are no command
@@ -52,6 +58,9 @@ module _ {P O : Type 0} (m : port.Ghosts P) (o : out.Ghosts O) (desk new_desk : 
   IsRun (Some (Scratch c)) ended =
       (came : Came) × replay.IsReplayRun m c came desk new_desk old new
       × IsTold o (replay_told.telling_of came) ended before after
+  IsRun (Some (Migrate c)) ended =
+      (came : MigrateCame) × migrate.IsMigrateRun m c came desk new_desk old new
+      × IsTold o (migrate_told.telling_of came) ended before after
   IsRun (Some (Make c)) ended =
       (came : MakeCame) × make.IsMakeRun m c came old new
       × IsTold o (make_told.telling_of came) ended before after × (new_desk ≡ desk)
@@ -63,6 +72,7 @@ module _ {P O : Type 0} (m : port.Ghosts P) (o : out.Ghosts O) (desk new_desk : 
   IsDone (Some (Script script journal)) =
       script_promises.IsReported m o script journal status.Done desk new_desk old new before after
   IsDone (Some (Scratch c)) = replay_promises.IsDone m o c desk new_desk old new before after
+  IsDone (Some (Migrate c)) = migrate_promises.IsDone m o c desk new_desk old new before after
   IsDone (Some (Make c)) = make_promises.IsDone m o c old new before after
   IsDone None = ⊥
 
@@ -73,6 +83,7 @@ module _ {P O : Type 0} (m : port.Ghosts P) (o : out.Ghosts O) (desk new_desk : 
       script_promises.IsReported m o script journal status.Refused desk new_desk old new before
       after
   IsRefused (Some (Scratch c)) = replay_promises.IsRefused m o c desk new_desk old new before after
+  IsRefused (Some (Migrate c)) = ⊥
   IsRefused (Some (Make c)) = ⊥
   IsRefused None = ⊥
 
@@ -85,6 +96,9 @@ module _ {P O : Type 0} (m : port.Ghosts P) (o : out.Ghosts O) (desk new_desk : 
   Refuses (Some
       (Scratch c)) ended = replay_promises.TellsRefusals m o c desk new_desk old new before after
       ended
+  Refuses (Some
+      (Migrate c)) ended = migrate_promises.TellsRefusals m o c desk new_desk old new before after
+      ended
   Refuses (Some (Make c)) ended = make_promises.TellsRefusals o old before after ended
   Refuses None ended = Unit {0}
 
@@ -95,6 +109,7 @@ module _ {P O : Type 0} (m : port.Ghosts P) (o : out.Ghosts O) (desk new_desk : 
       (Script script journal)) = script_promises.IsScriptRefused m o script journal desk new_desk
       old new before after
   IsScript (Some (Scratch c)) = replay_promises.IsScript m o c desk new_desk old new before after
+  IsScript (Some (Migrate c)) = migrate_promises.IsScript m o c desk new_desk old new before after
   IsScript (Some (Make c)) = make_promises.IsScript m o old new before after
   IsScript None = ⊥
 
@@ -105,6 +120,7 @@ module _ {P O : Type 0} (m : port.Ghosts P) (o : out.Ghosts O) (desk new_desk : 
       script_promises.IsServedWithFault m o script journal desk new_desk old new before after
       ⊎ script_promises.IsUnread m o script journal desk new_desk old new before after
   IsFault (Some (Scratch c)) = replay_promises.IsFault m o c desk new_desk old new before after
+  IsFault (Some (Migrate c)) = migrate_promises.IsFault m o c desk new_desk old new before after
   IsFault (Some (Make c)) = make_promises.IsFault m o c old new before after
   IsFault None = ⊥
 
@@ -122,5 +138,6 @@ module _ {P O : Type 0} (m : port.Ghosts P) (o : out.Ghosts O) (desk new_desk : 
   OthersStay (Some
       (Script script journal)) = script_promises.IdleStay m script journal desk new_desk old new
   OthersStay (Some (Scratch c)) = ports.OthersStay old new
+  OthersStay (Some (Migrate c)) = ports.OthersStay old new
   OthersStay (Some (Make c)) = ports.OthersStay old new × (new_desk ≡ desk)
   OthersStay None = (new ≡ old) × (new_desk ≡ desk)

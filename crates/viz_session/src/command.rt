@@ -1,11 +1,13 @@
 //! Commands, read from their words (docs/FORMATS.md, "Words of a command").
 
 ghost use Rattle.std.specs.Prelude.{◌≡◌, option_map};
-ghost use Rattle.viz_session.specs.Command.{script_of, scratch_of, size_in, make_of, command_of};
+ghost use Rattle.viz_session.specs.Command.{script_of, scratch_of, migrate_of, size_in, make_of};
+ghost use Rattle.viz_session.specs.Command.{command_of};
 ghost use Rattle.viz_session.specs.Runs.{command_view};
 
 use viz_base::Bytes;
 use viz_make::{Make, volume_extent};
+use viz_migrate::Migrate;
 use viz_once::{Once, file_name_text, read_clip, read_once, read_strip};
 use viz_replay::Replay;
 use viz_words::{file_name, natural, node_name};
@@ -19,6 +21,8 @@ pub enum Command<'a> {
     Script { script: &'a str, journal: &'a str },
     /// The words `scratch JOURNAL N SINK OUT`.
     Scratch(Replay<'a>),
+    /// The words `migrate JOURNAL OUT`.
+    Migrate(Migrate<'a>),
     /// The words `make NUMBER NX NY NZ OUT`.
     Make(Make<'a>),
 }
@@ -52,6 +56,18 @@ fn scratch(words: &[Bytes]) -> Option<Command<'_>>
         sink,
         output,
     }))
+}
+
+#[tactic(auto, unfolding(crate::specs::Command::migrate_of))]
+fn migrate(words: &[Bytes]) -> Option<Command<'_>>
+    ensures { option_map command_view result ≡ migrate_of words.now }
+{
+    let [journal, output] = words else {
+        return None;
+    };
+    let journal = file_name_text(journal.list())?;
+    let output = file_name_text(output.list())?;
+    Some(Command::Migrate(Migrate { journal, output }))
 }
 
 /// A size along an axis.
@@ -103,6 +119,9 @@ pub fn read_command(words: &[Bytes]) -> Option<Command<'_>>
     }
     if verb.list() == b"scratch".as_slice() {
         return scratch(rest);
+    }
+    if verb.list() == b"migrate".as_slice() {
+        return migrate(rest);
     }
     if verb.list() == b"make".as_slice() {
         return make(rest);

@@ -18,6 +18,7 @@ use std::thread::Threads;
 use viz_actor::run_script;
 use viz_base::{Bytes, Gate, Out, Port};
 use viz_make::run_make;
+use viz_migrate::run_migrate;
 use viz_once::run_once;
 use viz_replay::run_scratch;
 use viz_told::{Status, tell};
@@ -77,6 +78,7 @@ pub fn run<R: Threads + Wait + Sync, P: Port + Send + Drop, O: Out, G: Gate + Sy
             run_script(rt, alloc, script, journal, desk, ports, out, gate)
         }
         Some(Command::Scratch(replay)) => run_scratch(alloc, &replay, desk, ports, out),
+        Some(Command::Migrate(migrate)) => run_migrate(alloc, &migrate, desk, ports, out),
         Some(Command::Make(make)) => run_make(rt, alloc, &make, ports, out, gate),
         None => tell(alloc, out, &NoCommand),
     }

@@ -227,6 +227,8 @@ fn a_text_past_the_limit_is_refused_at_line_0(rt: HostRuntime) -> Result<(), Fai
             Status::Script,
             "script line 1 Word\n",
         ),
+        ("migrate s o", 14, Status::Script, too_long),
+        ("migrate s o", 15, Status::Script, "script line 1 Word\n"),
     ] {
         let desk = port(alloc, "s", b"1 add file src\n", limit, Vec::new(alloc))?;
         let first = corner(alloc, Vec::new(alloc))?;

@@ -1,19 +1,61 @@
-//! Journals served again whose calls fail, and runs over no port.
+//! Journals served again or written anew, whose calls fail, and runs over no port.
 
 use super::failing::{BEGUN, JOURNAL, ONE};
 use super::*;
 
 const EMPTY_JOURNAL: &str = "vizrun journal 2\nend 0\n";
 
+/// The journal of the two levels in version 1.
+const OLD_JOURNAL: &str = "vizrun journal 1
+1 1 add file src
+1 2 load src 214
+# vtk DataFile Version 5.1
+vtk output
+ASCII
+DATASET STRUCTURED_POINTS
+DIMENSIONS 2 2 2
+SPACING 1 1 1
+ORIGIN 0 0 0
+POINT_DATA 8
+SCALARS ImageScalars int
+LOOKUP_TABLE default
+0 0 0 0 0 0 0 9 
+METADATA
+INFORMATION 0
+
+
+1 3 add contour iso
+1 4 connect src iso 1
+1 5 set iso levels 5
+1 6 set iso levels 10
+end 6
+";
+
+/// Three entries of two actors; the first one has two edits, and the load ten bytes.
+const BATCHES: &str = "vizrun journal 2
+1 1 2
+add file src
+set src unit 2
+2 1 1
+load src 10
+two
+lines
+
+1 2 1
+set src unit 3
+end 3
+";
+
 /// What `scratch` puts of the first five entries.
 const AGAIN: &str = "file at 5 cells 6 points 7\n";
 
-// Runs the line over a desk with the journal. Of the calls of the port, of the desk and of the
+// Runs the line over a desk with the journal as `s`. Of the calls of the port, of the desk and of the
 // output those with these numbers fail, none where it is 0. A failing write keeps the first bytes.
 fn run_failing<R: Threads + Wait + Sync>(
     rt: &R,
     alloc: Global,
     line: &str,
+    journal: &str,
     calls: [u64; 3],
     kept: u64,
 ) -> Result<Left, Fail> {
@@ -25,7 +67,7 @@ fn run_failing<R: Threads + Wait + Sync>(
             kept
         },
     ]?;
-    let desk = port(alloc, "s", JOURNAL.as_bytes(), FILE_LIMIT, fails)?;
+    let desk = port(alloc, "s", journal.as_bytes(), FILE_LIMIT, fails)?;
     let out = MemoryOut::new(alloc, vec![in alloc; put]?);
     run_with(rt, alloc, line, desk, first, out)
 }
@@ -41,7 +83,7 @@ fn comes_to<R: Threads + Wait + Sync + Abort>(
     text: &str,
     made: Option<&str>,
 ) -> Result<(), Fail> {
-    let left = run_failing(rt, alloc, line, calls, kept)?;
+    let left = run_failing(rt, alloc, line, JOURNAL, calls, kept)?;
     assert_eq!(rt; left.text.as_str(), text, "{line} {calls:?}");
     assert!(rt; left.status == status, "{line} {calls:?}");
     assert!(rt;
@@ -87,6 +129,97 @@ fn each_failing_call_of_scratch_is_a_fault(rt: HostRuntime) -> Result<(), Fail> 
         ("run s j", [0, 0, 1], 0, Status::Script, "", None),
     ] {
         comes_to(&rt, alloc, line, calls, kept, status, text, made)?;
+    }
+    Ok(())
+}
+
+// Writes the journal anew so, and compares the status, the text put and the file.
+fn migrates<R: Threads + Wait + Sync + Abort>(
+    rt: &R,
+    alloc: Global,
+    journal: &str,
+    calls: [u64; 3],
+    kept: u64,
+    status: Status,
+    text: &str,
+    made: Option<&str>,
+) -> Result<(), Fail> {
+    let left = run_failing(rt, alloc, "migrate s n", journal, calls, kept)?;
+    assert_eq!(rt; left.text.as_str(), text, "{journal} {calls:?}");
+    assert!(rt; left.status == status, "{journal} {calls:?}");
+    assert!(rt;
+        file(&left.ports, "n") == made.map(|m| m.as_bytes()),
+        "{journal} {calls:?}"
+    );
+    assert!(rt; left.desk.file("n").is_none(), "{journal} {calls:?}");
+    Ok(())
+}
+
+#[test]
+fn each_failing_call_of_migrate_is_a_fault(rt: HostRuntime) -> Result<(), Fail> {
+    // journal-migrated
+    let alloc = rt.alloc();
+    let (old, fault) = (OLD_JOURNAL, Status::Fault);
+    for (journal, calls, kept, status, text, made) in [
+        (
+            old,
+            [0, 0, 0],
+            0,
+            Status::Done,
+            "migrated 6\n",
+            Some(JOURNAL),
+        ),
+        // the write of the port, the read of the desk, the put
+        (old, [1, 0, 0], 0, fault, "fault write\n", Some("")),
+        (
+            old,
+            [1, 0, 0],
+            20,
+            fault,
+            "fault write\n",
+            Some("vizrun journal 2\n1 1"),
+        ),
+        (old, [0, 1, 0], 0, fault, "fault read\n", None),
+        (old, [0, 0, 1], 0, fault, "", Some(JOURNAL)),
+    ] {
+        migrates(&rt, alloc, journal, calls, kept, status, text, made)?;
+    }
+    Ok(())
+}
+
+#[test]
+fn a_journal_is_written_anew_entry_by_entry(rt: HostRuntime) -> Result<(), Fail> {
+    let alloc = rt.alloc();
+    let none = "script line 1 Word\n";
+    for (journal, calls, status, text, made) in [
+        // version 2 is written as it stands
+        (
+            JOURNAL,
+            [0, 0, 0],
+            Status::Done,
+            "migrated 6\n",
+            Some(JOURNAL),
+        ),
+        (
+            BATCHES,
+            [0, 0, 0],
+            Status::Done,
+            "migrated 3\n",
+            Some(BATCHES),
+        ),
+        (
+            "vizrun journal 1\nend 0\n",
+            [0, 0, 0],
+            Status::Done,
+            "migrated 0\n",
+            Some(EMPTY_JOURNAL),
+        ),
+        // no journal, and its put fails; the call of the port that fails isn't made
+        (LEVELS, [0, 0, 0], Status::Script, none, None),
+        (LEVELS, [0, 0, 1], Status::Script, "", None),
+        (LEVELS, [1, 0, 0], Status::Script, none, None),
+    ] {
+        migrates(&rt, alloc, journal, calls, 0, status, text, made)?;
     }
     Ok(())
 }
@@ -139,6 +272,7 @@ fn no_port_is_an_actor_out_of_range(rt: HostRuntime) -> Result<(), Fail> {
     let none = "script line 0 ActorRange\n";
     for (line, script, status, text, journal) in [
         ("scratch s 5 iso o.vtk", JOURNAL, Status::Script, none, None),
+        ("migrate s n", JOURNAL, Status::Script, none, None),
         ("make 7 2 2 1 v.vtk", "", Status::Script, none, None),
         ("once s o.vtk contour 5", CORNER, Status::Script, none, None),
         // a script without a command has no actor

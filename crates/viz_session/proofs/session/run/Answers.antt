@@ -22,6 +22,15 @@ returns-in-Some-Scratch-clause-cause g c = λ is. elim (c.run_scratch.ensures.ca
   ]
 ]
 
+pub returns-in-Some-Migrate-clause-cause : goal.returns-in-Some-Migrate-clause-cause
+returns-in-Some-Migrate-clause-cause g c = λ is. elim (c.run_migrate.ensures.cause is) [
+  | inl desk ↦ inl desk
+  | inr t ↦ elim t [
+    | inl first ↦ inr (inl (some_of_first g.P.Port c.args.ports.now.items c.run_migrate.new.ports.items first))
+    | inr put ↦ inr (inr put)
+  ]
+]
+
 pub returns-in-Some-Make-clause-cause : goal.returns-in-Some-Make-clause-cause
 returns-in-Some-Make-clause-cause g c = λ is. elim (c.run_make.ensures.cause is) [
   | inl first ↦ inr (inl (some_of_first g.P.Port c.args.ports.now.items c.run_make.new.ports.items first))
@@ -39,6 +48,9 @@ returns-in-Some-Script-clause-never g c = λ never quiet is. none_of_all g.P.Por
 
 pub returns-in-Some-Scratch-clause-never : goal.returns-in-Some-Scratch-clause-never
 returns-in-Some-Scratch-clause-never g c = λ never quiet is. none_of_three g.P.Port never _ quiet _ _ _ _ (c.run_scratch.ensures.cause is)
+
+pub returns-in-Some-Migrate-clause-never : goal.returns-in-Some-Migrate-clause-never
+returns-in-Some-Migrate-clause-never g c = λ never quiet is. none_of_three g.P.Port never _ quiet _ _ _ _ (c.run_migrate.ensures.cause is)
 
 pub returns-in-Some-Make-clause-never : goal.returns-in-Some-Make-clause-never
 returns-in-Some-Make-clause-never g c = λ never quiet is. none_of_two g.P.Port never _ quiet _ _ (c.run_make.ensures.cause is)
@@ -73,3 +85,10 @@ returns-in-Some-Scratch-clause-complete g c =
     c.in-Some-Scratch.ensures
     (subst (λ (w : Words). IsComplete g.P.Port g.O.Out c.args.desk.now c.run_scratch.new.desk c.args.ports.now.items c.run_scratch.new.ports.items c.args.out.now c.run_scratch.new.out (Some (command_view w)) c.run_scratch.result)
     (sym c.in-Some-Scratch.field-0-is) (c.run_scratch.ensures.complete))
+
+pub returns-in-Some-Migrate-clause-complete : goal.returns-in-Some-Migrate-clause-complete
+returns-in-Some-Migrate-clause-complete g c =
+    subst (λ (x : Option Command). IsComplete g.P.Port g.O.Out c.args.desk.now c.run_migrate.new.desk c.args.ports.now.items c.run_migrate.new.ports.items c.args.out.now c.run_migrate.new.out x c.run_migrate.result)
+    c.in-Some-Migrate.ensures
+    (subst (λ (w : Words). IsComplete g.P.Port g.O.Out c.args.desk.now c.run_migrate.new.desk c.args.ports.now.items c.run_migrate.new.ports.items c.args.out.now c.run_migrate.new.out (Some (command_view w)) c.run_migrate.result)
+    (sym c.in-Some-Migrate.field-0-is) (c.run_migrate.ensures.complete))

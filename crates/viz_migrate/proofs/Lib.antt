@@ -1,0 +1,3 @@
+pub mod ServeLemmas
+pub mod RunLemmas
+pub mod CompleteLemmas

@@ -1,0 +1,5 @@
+pub mod Migrate
+pub mod Told
+pub mod Promises
+pub mod Complete
+pub mod Views
