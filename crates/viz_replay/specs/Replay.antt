@@ -7,7 +7,8 @@ use Rattle.viz_base.specs.declared.call.Call.TheVariants.{Read}
 use Rattle.viz_base.specs.declared.call.ReadAnswer.{ReadAnswer}
 use Rattle.viz_base.specs.declared.call.ReadAnswer.TheVariants as read
 use Rattle.viz_journal.specs.declared.entry.JournalEntry.{JournalEntry}
-use Rattle.viz_journal.specs.Reading.{edits_of, journal_read}
+use Rattle.viz_journal.specs.Entries.{edits_of}
+use Rattle.viz_journal.specs.Reading.{journal_read}
 use Rattle.viz_network.specs.Network.{Network}
 use Rattle.viz_network.specs.History.{net_of}
 use Rattle.viz_report.specs.declared.line.Line.{Line}

@@ -1,6 +1,7 @@
 //! A journal read, and its sink updated.
 
-ghost use Rattle.std.specs.Prelude.{◌≡◌, min, length, [], Ok};
+ghost use Rattle.std.specs.Prelude.{◌≡◌, ◌≤◌, min, length, [], Ok};
+ghost use Rattle.viz_journal.specs.Entries.{edit_limit, edits_of};
 ghost use Rattle.viz_journal.specs.Reading.{journal_read};
 ghost use Rattle.viz_replay.specs.Replay.{IsEndOfReplay, IsReplayRun, IsUpdated, entries_at};
 ghost use Rattle.viz_replay.specs.Served.{replay_of, IsServed};
@@ -10,7 +11,7 @@ use crate::network::network_of;
 use std::alloc::Global;
 use viz_account::update_from_scratch;
 use viz_base::{Port, ReadRefusal, Word};
-use viz_journal::{JournalEntry, read_journal};
+use viz_journal::{JournalEntry, nothing_else_is_read, read_journal};
 use viz_words::{FileName, ScriptRefusal, ScriptStop};
 
 /// The words of the command.
@@ -43,6 +44,7 @@ fn serve_entries<P: Port>(
     entries: &[JournalEntry],
     ports: &mut [P],
 ) -> Came
+    requires few { length (edits_of entries.now) ≤ edit_limit }
     ensures { IsServed P.Port (replay_of command.now) entries.now result ports.old ports.new }
 {
     let [port, ..] = ports else {
@@ -74,6 +76,7 @@ fn serve_over<P: Port>(alloc: Global, command: &Replay<'_>, desk: &mut P, ports:
     };
     match read_journal(alloc, bytes.list()) {
         Ok(entries) => {
+            nothing_else_is_read();
             drop(bytes);
             serve_entries(alloc, command, &entries, ports)
         }

@@ -1,5 +1,7 @@
-use Rattle.std.proofs.Common.{rules, refl, Some}
+use Rattle.std.proofs.Common.{rules, List, length, refl, ap, Some, arith}
 use Rattle.viz_base.specs.declared.call.ReadAnswer.TheVariants as read
+use Rattle.viz_journal.specs.declared.entry.JournalEntry.{JournalEntry}
+use Rattle.viz_journal.specs.Entries.{edits_of}
 use Rattle.viz_replay.specs.Served.{replay_of}
 use Rattle.viz_replay.proofs.ServeLemmas.{asked_after, ends_after}
 use Rattle.viz_replay.proofs.serving.serve_over.Goals as goal
@@ -27,3 +29,8 @@ pub returns : goal.returns
 returns g c =
     let r = c.in-Ok.ensures in
     (Some (read.Given c.in-Ok.bytes), refl, asked_after g.P.Port _ _ _ _ r.told r.bytes r.kept r.later r.same_limit)
+
+pub serve_entries-requires : goal.serve_entries-requires
+serve_entries-requires g c =
+    let is = c.nothing_else_is_read.ensures.only c.list.result.now c.in-Ok-read_journal.entries.items c.in-Ok-read_journal.ensures.reads in
+    record { few = omega (arith, ap (λ (es : List JournalEntry). length (edits_of es)) c.deref.ensures.value, is.2.few) }
