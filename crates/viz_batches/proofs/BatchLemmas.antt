@@ -9,7 +9,7 @@ use Rattle.viz_network.specs.Edits.{apply}
 use Rattle.viz_network.specs.History.{pick, after, net_after, net_of}
 use Rattle.viz_batches.specs.declared.stop.BatchStop.{BatchStop}
 use Rattle.viz_batches.specs.declared.stop.BatchStop.TheVariants.{Refused, Memory}
-use Rattle.viz_batches.specs.Batches.{then_all, apply_from}
+use Rattle.viz_batches.specs.Batches.{then_all, apply_from, apply_all}
 use Rattle.viz_batches.specs.AppliesAll.{AppliesAll, IsSet, MayTakeMemoryAll}
 use Rattle.viz_batches.specs.Steps.Making.{MakesOne}
 
@@ -29,8 +29,12 @@ net_after-append at (edit ∷ edits) more net =
     net_after-append (at + 1) edits more (after at edit net)
     ∙ ap (λ k. net_after k more (net_after (at + 1) edits (after at edit net))) (let e : (at + 1) + length edits ≡ at + suc (length edits) = omega arith in e)
 
-pub net_of-append : (edits more : List Edit) → net_of (edits ++ more) ≡ net_after (length edits + 1) more (net_of edits)
+net_of-append : (edits more : List Edit) → net_of (edits ++ more) ≡ net_after (length edits + 1) more (net_of edits)
 net_of-append edits more = net_after-append 1 edits more [] ∙ ap (λ k. net_after k more (net_of edits)) (let e : 1 + length edits ≡ length edits + 1 = omega arith in e)
+
+-- behind a history they make the network of the longer one
+pub made_behind : (edits more : List Edit) (made : Network) → apply_all (length edits + 1) more (net_of edits) ≡ Ok made → made ≡ net_of (edits ++ more)
+made_behind edits more made p = accepted_all 1 (length edits + 1) more (net_of edits) made p ∙ sym (net_of-append edits more)
 
 -- one edit is a batch of one
 pub one_all : (at : ℕ) (result : Result (Unit {0}) BatchStop) (old new : Network) (made : Result Network Refusal) → MakesOne 1 result old new made → AppliesAll result old new (then_all (apply_from 2 (at + 1) []) 1 made)

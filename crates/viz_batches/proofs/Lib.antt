@@ -1,2 +1,3 @@
 pub mod BatchLemmas
 pub mod SetLemmas
+pub mod SoundLemmas

@@ -1,4 +1,4 @@
-//! Entries of a history: accepted edits, each with the pass that made it and its number there.
+//! Entries of a history: accepted batches, each with the pass that made it and its number there.
 //!
 //! Contract: what a legal history is, the network that it makes, and the entries of each pass,
 //! which are counted from 1. Definitions: `specs/History.antt`.

@@ -7,6 +7,7 @@ ghost use Rattle.viz_plan_law.specs.Ports.{HaveOwnPorts};
 
 use std::alloc::{AllocError, Global};
 use std::marker::Model;
+use viz_batches::Batch;
 use viz_history::{Core, EditAnswer, Pinned};
 use viz_kept::made_is_true;
 use viz_network::{Edit, Net};
@@ -40,7 +41,7 @@ impl Story {
     /// Whether the edit was made.
     pub(crate) fn apply(&mut self, edit: Edit) -> bool {
         let count = self.core.front() + 1;
-        let answer = self.core.edit(1, count, edit);
+        let answer = self.core.edit(1, count, Batch::one(edit));
         matches!(answer, EditAnswer::Done { .. })
     }
 

@@ -1,5 +1,5 @@
 -- What a core keeps. Only its type and proofs speak of it.
-use Rattle.std.specs.Prelude.{◌≡◌, ℕ, ◌<◌, ◌≤◌, List, length}
+use Rattle.std.specs.Prelude.{◌≡◌, ℕ, ◌≤◌, List, length}
 use Rattle.viz_parts.specs.declared.stored.Stored.{Stored}
 use Rattle.viz_kept.specs.True.{AreTrueOf}
 use Rattle.viz_network.specs.Network.{Network}

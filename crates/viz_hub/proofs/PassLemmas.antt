@@ -3,7 +3,7 @@ use Rattle.std.proofs.Common.{◌≡◌, ℕ, ◌+◌, ◌%◌, ◌^◌, ◌≤�
 use mathlib.Core.Option.{some}
 use lib.ListN.{get_elem?}
 use Rattle.std.proofs.lemmas.Bool.{and_parts, not-true}
-use Rattle.std.proofs.lemmas.List.{map-append}
+use Rattle.std.proofs.lemmas.Grind.{flat_map-append}
 use Rattle.viz_turn.specs.Tales.{has, once, clear, HasNoOther}
 use Rattle.viz_turn.specs.Known.{Known}
 use Rattle.viz_turn.specs.Known as turn
@@ -79,7 +79,7 @@ sends_more sent often last next p q h counts is on = record {
 pub made_goes_on : (p : Known Entry) (h : List Entry) (made : List Stored) → turn.GoesFurther by_of p h → AreMadeIn (network_of p.seen) made → AreTrueOf (edits_of h) made
 made_goes_on p h made on are =
     subst (λ l. AreTrueOf (edits_of l) made) (sym on.1)
-    (subst (λ edits. AreTrueOf edits made) (sym (map-append (λ e. e.edit) p.seen on.0)) (all_made_true (edits_of p.seen) (edits_of on.0) made are))
+    (subst (λ edits. AreTrueOf edits made) (sym (flat_map-append (λ e. e.batch) p.seen on.0)) (all_made_true (edits_of p.seen) (edits_of on.0) made are))
 
 -- an answer's entries of the pass's number
 pub answers_own : (p : PassKnown) (batch : List Edit) (answer : EditAnswer) (seen : List Entry) → Answers p batch answer seen → own_of p.number seen ≡ own_of p.number p.seen ++ gained p batch answer

@@ -1,12 +1,13 @@
 //! One pass that edits: what each edit comes to, and what a pin keeps.
 
-ghost use Rattle.std.specs.Prelude.{◌<◌};
+ghost use Rattle.std.specs.Prelude.{◌≤◌};
 
 use std::alloc::{AllocError, Global};
 use std::marker::Model;
 use std::process::Abort;
 use std::test::Fail;
 use viz_base::Word;
+use viz_batches::Batch;
 use viz_entries::Entry;
 use viz_history::{Core, EditAnswer, Pinned};
 use viz_kinds::{Kind, Param, Value};
@@ -32,7 +33,7 @@ impl Model for Actor {
 
 impl Actor {
     fn new(alloc: Global, limit: u32) -> Result<Actor, Fail>
-        requires { limit < 4294967295 }
+        requires { limit ≤ 67108863 }
     {
         let core = Core::new(alloc, limit, 1)?;
         Ok(Actor { core })
@@ -40,7 +41,7 @@ impl Actor {
 
     fn edit(&mut self, edit: Edit) -> EditAnswer {
         let count = self.core.front() + 1;
-        let answer = self.core.edit(1, count, edit);
+        let answer = self.core.edit(1, count, Batch::one(edit));
         answer
     }
 
@@ -86,7 +87,7 @@ fn radius(node: Word, radius: i64) -> Edit {
 }
 
 fn refused(refusal: Refusal, at: u32) -> EditAnswer {
-    EditAnswer::Refused { refusal, at }
+    EditAnswer::Refused { index: 1, refusal, at }
 }
 
 fn wants(rt: &impl Abort, actor: &mut Actor, edit: Edit, want: EditAnswer) {

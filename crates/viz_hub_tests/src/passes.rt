@@ -1,7 +1,7 @@
 //! Passes that edit one network, on one thread and on several. Each test ends by itself, whatever
 //! the schedule.
 
-ghost use Rattle.std.specs.Prelude.{◌≡◌, ◌<◌, All, IfOk, IfSome};
+ghost use Rattle.std.specs.Prelude.{◌≡◌, ◌≤◌, All, IfOk, IfSome};
 
 use std::alloc::{AllocError, Global};
 use std::process::Abort;
@@ -10,6 +10,7 @@ use std::test::Fail;
 use std::thread;
 use std::thread::Threads;
 use viz_base::{HISTORY, Word};
+use viz_batches::Batch;
 use viz_entries::Entry;
 use viz_history::EditAnswer;
 use viz_hub::{Hub, Journal, Pass, Pin};
@@ -52,7 +53,7 @@ fn radius_at(step: u32, index: u32) -> i64 {
 }
 
 pub(crate) fn begin(alloc: Global, limit: u32) -> Result<(Hub, Pass), AllocError>
-    requires { limit < 4294967295 }
+    requires { limit ≤ 67108863 }
     ensures pass { IfOk result (λ r. r.1.turn ≡ r.0) }
 {
     Hub::start(alloc, limit, 1)
@@ -63,7 +64,7 @@ fn edit<R: Wait>(rt: &R, hub: &Hub, pass: Pass, edit: Edit) -> (Pass, EditAnswer
     ensures pass { result.0.turn ≡ hub.now }
 {
     let mut pass = pass;
-    let answer = hub.edit(rt, &mut pass, edit);
+    let answer = hub.edit(rt, &mut pass, Batch::one(edit));
     (pass, answer)
 }
 
@@ -183,7 +184,11 @@ fn gather(hub: &Hub, writers: &mut [Writer]) -> Option<Pass>
     }
 }
 
-fn radius_of(edit: &Edit) -> Option<i64> {
+// The radius that a batch of one Set gives.
+fn radius_of(batch: &Batch) -> Option<i64> {
+    let [edit] = batch.edits() else {
+        return None;
+    };
     match edit {
         Edit::Set {
             node: _,
@@ -218,7 +223,7 @@ fn tally(entries: &[Entry], first: u32, second: u32) -> Option<(u32, u32)> {
 // Whether the entry is the next behind so many, the first of which a writer of this step made.
 fn is_edit_of(entry: &Entry, count: u32, first: u32, step: u32) -> bool {
     let index = count.wrapping_sub(first);
-    entry.count == count.wrapping_add(1) && radius_of(&entry.edit) == Some(radius_at(step, index))
+    entry.count == count.wrapping_add(1) && radius_of(&entry.batch) == Some(radius_at(step, index))
 }
 
 // The numbers of the entries' passes, as digits.
@@ -320,6 +325,7 @@ fn a_full_history_answers_so_before_it_refuses(rt: HostRuntime) -> Result<(), Fa
     let (s, t) = (word("s")?, word("t")?);
     let (hub, pass) = begin(rt.alloc(), 3)?;
     let exists = EditAnswer::Refused {
+        index: 1,
         refusal: Refusal::Exists,
         at: 1,
     };

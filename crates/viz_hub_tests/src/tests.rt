@@ -9,6 +9,7 @@ use std::sync::Wait;
 use std::test::Fail;
 use std::thread::Threads;
 use viz_base::{Bytes, NodeId, Shape, Shared, Word};
+use viz_batches::Batch;
 use viz_history::EditAnswer;
 use viz_hub::{Hub, Pass};
 use viz_kinds::Kind;
@@ -66,7 +67,7 @@ fn done<R: Wait + Abort>(rt: &R, hub: &Hub, pass: Pass, edit: Edit) -> Pass
     ensures pass { result.turn ≡ hub.now }
 {
     let mut pass = pass;
-    let answer = hub.edit(rt, &mut pass, edit);
+    let answer = hub.edit(rt, &mut pass, Batch::one(edit));
     assert!(rt; matches!(answer, EditAnswer::Done { .. }), "{answer:?}");
     pass
 }

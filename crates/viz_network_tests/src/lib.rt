@@ -1,5 +1,7 @@
-//! Networks built by hand, edit by edit, against rows by hand: tests alone.
+//! Networks built by hand, edit by edit and batch by batch, against rows by hand: tests alone.
 #![tactic(auto)]
 
+#[cfg(test)]
+mod batches;
 #[cfg(test)]
 mod tests;

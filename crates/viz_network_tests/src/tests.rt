@@ -47,7 +47,7 @@ impl Story {
 
 // An edit in plain words.
 #[derive(Clone, Copy, Debug)]
-enum Plan<'a> {
+pub(crate) enum Plan<'a> {
     Add(Kind, &'a str),
     Remove(&'a str),
     Connect(&'a str, &'a str, u8),
@@ -61,7 +61,7 @@ use Plan::{Add, Connect, Disconnect, Load, Remove, Set, SetText};
 
 type Row<'a> = (Plan<'a>, Option<Refusal>);
 
-fn word(text: &str) -> Result<Word, Fail> {
+pub(crate) fn word(text: &str) -> Result<Word, Fail> {
     Ok(Word::new(text.as_bytes()).ok_or("no name")?)
 }
 
@@ -113,7 +113,7 @@ fn loading(alloc: Global, node: &str, text: &str) -> Result<Edit, Fail> {
     Ok(Edit::Load { node, file })
 }
 
-fn edit_of(alloc: Global, plan: Plan) -> Result<Edit, Fail> {
+pub(crate) fn edit_of(alloc: Global, plan: Plan) -> Result<Edit, Fail> {
     match plan {
         Add(kind, node) => addition(kind, node),
         Remove(node) => removal(node),

@@ -25,7 +25,7 @@ pub invariant_of-result : goal.invariant_of-result
 invariant_of-result g c =
     let p = known c.args.place.pass in
     let h = (state_of c.take-held.result).history in
-    let e = entry c.number-number.result (c.args.place.count + 1) c.args.edit in
+    let e = entry c.number-number.result (c.args.place.count + 1) c.args.batch in
     let lent = ap (λ s. s.history) (c.state-2.ensures.value ∙ c.state.ensures.value) in
     let same = c.give-pass.ensures.same ∙ c.append.ensures.same in
     let grown = ap (λ k. k.seen) same ∙ c.in-Done.ensures.replies.0.history ∙ ap (λ l. l ++ e ∷ []) lent in

@@ -9,5 +9,5 @@ edit-answer-requires c = record {
 
 pub invariant_of-self : goal.invariant_of-self
 invariant_of-self c =
-    own_all 1 (c.front-count.result + 1) c.args.edit c.self.inside.core c.edit-answer.result
+    own_all 1 (c.front-count.result + 1) c.one.result c.self.inside.core c.edit-answer.result
     c.edit-answer.new.self c.edit-answer.ensures.replies c.self.invariant

@@ -1,10 +1,10 @@
-use Rattle.std.proofs.Common.{◌≡◌, length, refl, sym, subst, ◌∙◌, arith}
+use Rattle.std.proofs.Common.{length, refl, sym, subst, ◌∙◌, arith}
 use Rattle.std.specs.List.{All}
 use Rattle.viz_kept.specs.True.{IsTrueOf}
 use Rattle.viz_entries.specs.History.{edits_of, network_of}
 use Rattle.viz_history.specs.Machine.{State}
 use Rattle.viz_history.specs.Publishing.{GivesOvertakenUp, TakesIn, all_brought}
-use Rattle.viz_history.proofs.HistoryLemmas.{edits_length, kept_parts}
+use Rattle.viz_history.proofs.HistoryLemmas.{kept_parts}
 use Rattle.viz_history.proofs.PublishLemmas.{all_brought_hold, taken_hold}
 use Rattle.viz_history.proofs.WalkLemmas.{given_up_true}
 use Rattle.viz_history.proofs.machine.Core.publish.Goals as goal
@@ -20,9 +20,9 @@ invariant_of-self c =
     let brought_true = subst (All holds) (sym c.bring_all.ensures.entries) (all_brought_hold holds c.args.used.now core.cache.entries c.self.invariant.parts.each) in
     let taken_true = taken_hold holds c.stamps-stamps.result c.bring_all.new.cache.capacity c.args.made.now c.bring_all.new.cache.entries c.take_in-kept.result taken c.take_in-kept.ensures.takes made_true brought_true in
     let net = c.stamps-stamps.ensures ∙ c.self.invariant.network in
-    let many : c.len.result ≡ length (edits_of h) = search arith ∙ sym (edits_length h) in
+    let many = c.self.invariant.edits in
     let given = subst (λ n. GivesOvertakenUp n (length (edits_of h)) taken new) net (subst (λ n. GivesOvertakenUp c.stamps-stamps.result n taken new) many c.give_overtaken_up.ensures.entries) in
-    kept_parts h core.limit core.net core.cache.entries new c.self.invariant (record { each = given_up_true (edits_of h) taken new given taken_true })
+    kept_parts h core.edits core.limit core.net core.cache.entries new c.self.invariant (record { each = given_up_true (edits_of h) taken new given taken_true })
 
 pub returns-clause-publishes : goal.returns-clause-publishes
 returns-clause-publishes c =
@@ -30,7 +30,7 @@ returns-clause-publishes c =
     let h = core.history.items in
     let taken = c.take_in-kept.new.cache.entries in
     let net = c.stamps-stamps.ensures ∙ c.self.invariant.network in
-    let many : c.len.result ≡ length h = search arith in
+    let many = c.self.invariant.edits in
     let takes : TakesIn (network_of h) core.cache.capacity c.args.made.now (all_brought c.args.used.now core.cache.entries) c.take_in-kept.result taken =
     subst (λ n. TakesIn n core.cache.capacity c.args.made.now (all_brought c.args.used.now core.cache.entries) c.take_in-kept.result taken) net
     (subst (λ k. TakesIn c.stamps-stamps.result k c.args.made.now (all_brought c.args.used.now core.cache.entries) c.take_in-kept.result taken) c.bring_all.ensures.capacity
@@ -42,6 +42,6 @@ returns-clause-publishes c =
       spare = omega arith;
       taken = taken;
       takes = takes;
-      gives_up = subst (λ n. GivesOvertakenUp n (length h) taken c.give_overtaken_up.new.cache.entries) net
+      gives_up = subst (λ n. GivesOvertakenUp n (length (edits_of h)) taken c.give_overtaken_up.new.cache.entries) net
           (subst (λ n. GivesOvertakenUp c.stamps-stamps.result n taken c.give_overtaken_up.new.cache.entries) many c.give_overtaken_up.ensures.entries);
     })
