@@ -12,7 +12,7 @@ use Rattle.viz_kinds.specs.declared.param.Value.TheVariants.{Numbers, Text}
 use Rattle.viz_kinds.specs.declared.range.Range.{Range}
 use Rattle.viz_kinds.specs.Values.{numbers_of}
 use Rattle.viz_network.specs.declared.edit.Edit.{Edit}
-use Rattle.viz_network.specs.declared.edit.Edit.TheVariants as edits
+use Rattle.viz_network.specs.declared.edit.Edit.TheVariants as change
 use Rattle.viz_words.specs.declared.refusal.ScriptRefusal.{ScriptRefusal}
 use Rattle.viz_words.specs.declared.refusal.ScriptRefusal.TheVariants as refusal
 use Rattle.viz_words.specs.declared.command.Command.TheVariants as command
@@ -24,7 +24,8 @@ use Rattle.viz_words.specs.Names.{is_node_name, is_file_name, is_array_name, nam
 use Rattle.viz_words.specs.Tables.{command_word, kind_word, kind_named, param_word}
 use Rattle.viz_words.specs.Commands.{kind_verb, param_verb, verb_of, one, two, three, four, fits_count, numbers_in, padded, text_in, value_in, set_in}
 use Rattle.viz_words.specs.Edits.{add_in, remove_in, connect_in, disconnect_in, value_set_in}
-use Rattle.viz_script.specs.Orders.{Asked, edit, load, update, audit, load_in, update_in, audit_in, order_in}
+use Rattle.viz_script.specs.Lines.{Line, asks, command_in}
+use Rattle.viz_script.specs.Orders.{Asked, edit, edits, load, update, audit, load_in, update_in, audit_in, order_in}
 use Rattle.viz_journal.proofs.AgainLemmas.{named-again, param-again}
 use Rattle.viz_script_law.specs.Tokens.{exact, number, value_tokens, edit_tokens, command_tokens}
 use Rattle.viz_script_law.specs.Fits.{FitsRange, is_text_of, FitsLineValue, FitsLineEdit, FitsCommand}
@@ -37,6 +38,7 @@ pub record Says (words : List (List ℕ)) (asked : Asked) : Type 0 where
   pub tail : List (List ℕ)
   pub are : words ≡ word ∷ tail
   pub known : verb_of words ≡ Ok which
+  pub plain : (actor : ℕ) → command_in actor which tail ≡ (order_in which tail >>= λ order. Ok (asks actor order))
   pub told : order_in which tail ≡ Ok asked
 
 -- ---- words
@@ -117,61 +119,65 @@ value-read p (Numbers count items) texts f h = by (numbers_of p) refl f
 abbrev as_order : Result Edit ScriptRefusal → Result Asked ScriptRefusal
 as_order r = r >>= λ e. Ok (edit e)
 
-add-says : (k : Kind) (node : List ℕ) → is_node_name node ≡ true → Says (command_word command.Add ∷ kind_word k ∷ node ∷ []) (edit (edits.Add k node))
+add-says : (k : Kind) (node : List ℕ) → is_node_name node ≡ true → Says (command_word command.Add ∷ kind_word k ∷ node ∷ []) (edit (change.Add k node))
 unfolding add_in two one
 add-says k node h = record {
   which = verb.Add k;
   word = command_word command.Add;
   tail = kind_word k ∷ node ∷ [];
   are = refl;
+  plain = λ actor. refl;
   known = ap kind_verb (kind-again k);
-  told = ap (λ (r : Result (List ℕ) ScriptRefusal). as_order (r >>= λ n. Ok (edits.Add k n))) (named-again is_node_name node h);
+  told = ap (λ (r : Result (List ℕ) ScriptRefusal). as_order (r >>= λ n. Ok (change.Add k n))) (named-again is_node_name node h);
 }
 
-remove-says : (node : List ℕ) → is_node_name node ≡ true → Says (command_word command.Remove ∷ node ∷ []) (edit (edits.Remove node))
+remove-says : (node : List ℕ) → is_node_name node ≡ true → Says (command_word command.Remove ∷ node ∷ []) (edit (change.Remove node))
 unfolding remove_in one
 remove-says node h = record {
   which = verb.Remove;
   word = command_word command.Remove;
   tail = node ∷ [];
   are = refl;
+  plain = λ actor. refl;
   known = refl;
-  told = ap (λ (r : Result (List ℕ) ScriptRefusal). as_order (r >>= λ n. Ok (edits.Remove n))) (named-again is_node_name node h);
+  told = ap (λ (r : Result (List ℕ) ScriptRefusal). as_order (r >>= λ n. Ok (change.Remove n))) (named-again is_node_name node h);
 }
 
 connect-says : (from to text : List ℕ) (port : ℕ) → is_node_name from ≡ true → is_node_name to ≡ true → port < 256 → number_of text ≡ Some (pos port)
-    → Says (command_word command.Connect ∷ from ∷ to ∷ text ∷ []) (edit (edits.Connect from to port))
+    → Says (command_word command.Connect ∷ from ∷ to ∷ text ∷ []) (edit (change.Connect from to port))
 unfolding connect_in three two one
 connect-says from to text port f t small e = record {
   which = verb.Connect;
   word = command_word command.Connect;
   tail = from ∷ to ∷ text ∷ [];
   are = refl;
+  plain = λ actor. refl;
   known = refl;
-  told = ap (λ (r : Result (List ℕ) ScriptRefusal). as_order (r >>= λ a. named_in is_node_name to >>= λ b. natural_in 0 255 text >>= λ p. Ok (edits.Connect a b p))) (named-again is_node_name from f)
-      ∙ ap (λ (r : Result (List ℕ) ScriptRefusal). as_order (r >>= λ b. natural_in 0 255 text >>= λ p. Ok (edits.Connect from b p))) (named-again is_node_name to t)
-      ∙ ap (λ (r : Result ℕ ScriptRefusal). as_order (r >>= λ p. Ok (edits.Connect from to p))) (natural-read 0 255 port text (omega arith) (omega (arith, small)) e);
+  told = ap (λ (r : Result (List ℕ) ScriptRefusal). as_order (r >>= λ a. named_in is_node_name to >>= λ b. natural_in 0 255 text >>= λ p. Ok (change.Connect a b p))) (named-again is_node_name from f)
+      ∙ ap (λ (r : Result (List ℕ) ScriptRefusal). as_order (r >>= λ b. natural_in 0 255 text >>= λ p. Ok (change.Connect from b p))) (named-again is_node_name to t)
+      ∙ ap (λ (r : Result ℕ ScriptRefusal). as_order (r >>= λ p. Ok (change.Connect from to p))) (natural-read 0 255 port text (omega arith) (omega (arith, small)) e);
 }
 
 disconnect-says : (to text : List ℕ) (port : ℕ) → is_node_name to ≡ true → port < 256 → number_of text ≡ Some (pos port)
-    → Says (command_word command.Disconnect ∷ to ∷ text ∷ []) (edit (edits.Disconnect to port))
+    → Says (command_word command.Disconnect ∷ to ∷ text ∷ []) (edit (change.Disconnect to port))
 unfolding disconnect_in two one
 disconnect-says to text port t small e = record {
   which = verb.Disconnect;
   word = command_word command.Disconnect;
   tail = to ∷ text ∷ [];
   are = refl;
+  plain = λ actor. refl;
   known = refl;
-  told = ap (λ (r : Result (List ℕ) ScriptRefusal). as_order (r >>= λ b. natural_in 0 255 text >>= λ p. Ok (edits.Disconnect b p))) (named-again is_node_name to t)
-      ∙ ap (λ (r : Result ℕ ScriptRefusal). as_order (r >>= λ p. Ok (edits.Disconnect to p))) (natural-read 0 255 port text (omega arith) (omega (arith, small)) e);
+  told = ap (λ (r : Result (List ℕ) ScriptRefusal). as_order (r >>= λ b. natural_in 0 255 text >>= λ p. Ok (change.Disconnect b p))) (named-again is_node_name to t)
+      ∙ ap (λ (r : Result ℕ ScriptRefusal). as_order (r >>= λ p. Ok (change.Disconnect to p))) (natural-read 0 255 port text (omega arith) (omega (arith, small)) e);
 }
 
 set-says : (p : Param) (node : List ℕ) (value : Value) (texts : List (List ℕ)) → is_node_name node ≡ true → fits_count (numbers_of p) (length texts) ≡ true
-    → value_in p (numbers_of p) texts ≡ Ok value → Says (command_word command.Set ∷ node ∷ param_word p ∷ texts) (edit (edits.Set node p value))
+    → value_in p (numbers_of p) texts ≡ Ok value → Says (command_word command.Set ∷ node ∷ param_word p ∷ texts) (edit (change.Set node p value))
 unfolding value_set_in set_in
 set-says p node value texts h fits read =
     let pair : List ℕ → Value → Result (List ℕ × Value) ScriptRefusal = λ n v. Ok (n, v) in
-    let done : List ℕ × Value → Result Edit ScriptRefusal = λ s. Ok (edits.Set s.0 p s.1) in
+    let done : List ℕ × Value → Result Edit ScriptRefusal = λ s. Ok (change.Set s.0 p s.1) in
     let valued : List ℕ → Result (List ℕ × Value) ScriptRefusal = λ n. value_in p (numbers_of p) texts >>= pair n in
     let named : Unit {0} → Result (List ℕ × Value) ScriptRefusal = λ c. named_in is_node_name node >>= valued in
     record {
@@ -179,6 +185,7 @@ set-says p node value texts h fits read =
       word = command_word command.Set;
       tail = node ∷ param_word p ∷ texts;
       are = refl;
+      plain = λ actor. refl;
       known = ap param_verb (param-again p);
       told = ap (λ b. as_order ((guard b refusal.Arity >>= named) >>= done)) fits
           ∙ ap (λ (r : Result (List ℕ) ScriptRefusal). as_order ((r >>= valued) >>= done)) (named-again is_node_name node h)
@@ -194,6 +201,7 @@ load-says node file n f = record {
   word = command_word command.Load;
   tail = node ∷ file ∷ [];
   are = refl;
+  plain = λ actor. refl;
   known = refl;
   told = ap (λ (r : Result (List ℕ) ScriptRefusal). r >>= λ a. named_in is_file_name file >>= λ b. Ok (load a b)) (named-again is_node_name node n)
       ∙ ap (λ (r : Result (List ℕ) ScriptRefusal). r >>= λ b. Ok (load node b)) (named-again is_file_name file f);
@@ -207,6 +215,7 @@ update-says node file p w pieces workers f ep ew = record {
   word = command_word command.Update;
   tail = node ∷ file ∷ p ∷ w ∷ [];
   are = refl;
+  plain = λ actor. refl;
   known = refl;
   told = ap (λ (r : Result (List ℕ) ScriptRefusal). r >>= λ a. named_in is_file_name file >>= λ b. natural_in 1 64 p >>= λ m. natural_in 1 64 w >>= λ n. Ok (update a b m n)) (named-again is_node_name node f.0)
       ∙ ap (λ (r : Result (List ℕ) ScriptRefusal). r >>= λ b. natural_in 1 64 p >>= λ m. natural_in 1 64 w >>= λ n. Ok (update node b m n)) (named-again is_file_name file f.1)
@@ -222,6 +231,7 @@ audit-says node p w pieces workers f ep ew = record {
   word = command_word command.Audit;
   tail = node ∷ p ∷ w ∷ [];
   are = refl;
+  plain = λ actor. refl;
   known = refl;
   told = ap (λ (r : Result (List ℕ) ScriptRefusal). r >>= λ a. natural_in 1 64 p >>= λ m. natural_in 1 64 w >>= λ n. Ok (audit a m n)) (named-again is_node_name node f.0)
       ∙ ap (λ (r : Result ℕ ScriptRefusal). r >>= λ m. natural_in 1 64 w >>= λ n. Ok (audit node m n)) (natural-read 1 64 pieces p f.1.0 f.1.1 ep)
@@ -231,36 +241,37 @@ audit-says node p w pieces workers f ep ew = record {
 -- ---- the words of a command
 
 edit-says : (e : Edit) (texts : List (List ℕ)) → FitsLineEdit e → Spelled (edit_tokens e) texts → Says texts (edit e)
-edit-says (edits.Add k node) texts f h =
+edit-says (change.Add k node) texts f h =
     let a = first-exact (command_word command.Add) (exact (kind_word k) ∷ exact node ∷ []) texts h in
     let b = first-exact (kind_word k) (exact node ∷ []) a.0 a.2 in
     let c = first-exact node [] b.0 b.2 in
     rw (a.1, b.1, c.1, no-more c.0 c.2) (add-says k node f)
-edit-says (edits.Remove node) texts f h =
+edit-says (change.Remove node) texts f h =
     let a = first-exact (command_word command.Remove) (exact node ∷ []) texts h in
     let b = first-exact node [] a.0 a.2 in
     rw (a.1, b.1, no-more b.0 b.2) (remove-says node f)
-edit-says (edits.Connect from to port) texts f h =
+edit-says (change.Connect from to port) texts f h =
     let a = first-exact (command_word command.Connect) (exact from ∷ exact to ∷ number (pos port) ∷ []) texts h in
     let b = first-exact from (exact to ∷ number (pos port) ∷ []) a.0 a.2 in
     let c = first-exact to (number (pos port) ∷ []) b.0 b.2 in
     let d = first-number (pos port) [] c.0 c.2 in
     rw (a.1, b.1, c.1, d.2, no-more d.1 d.4) (connect-says from to d.0 port f.0 f.1 f.2 d.3)
-edit-says (edits.Disconnect to port) texts f h =
+edit-says (change.Disconnect to port) texts f h =
     let a = first-exact (command_word command.Disconnect) (exact to ∷ number (pos port) ∷ []) texts h in
     let b = first-exact to (number (pos port) ∷ []) a.0 a.2 in
     let c = first-number (pos port) [] b.0 b.2 in
     rw (a.1, b.1, c.2, no-more c.1 c.4) (disconnect-says to c.0 port f.0 f.1 c.3)
-edit-says (edits.Set node p value) texts f h =
+edit-says (change.Set node p value) texts f h =
     let a = first-exact (command_word command.Set) (exact node ∷ exact (param_word p) ∷ value_tokens value) texts h in
     let b = first-exact node (exact (param_word p) ∷ value_tokens value) a.0 a.2 in
     let c = first-exact (param_word p) (value_tokens value) b.0 b.2 in
     let read = value-read p value c.0 f.1 c.2 in
     rw (a.1, b.1, c.1) (set-says p node value c.0 f.0 read.0 read.1)
-edit-says (edits.Load node file) texts f h = absurd f
+edit-says (change.Load node file) texts f h = absurd f
 
 pub command-says : (asked : Asked) (texts : List (List ℕ)) → FitsCommand asked → Spelled (command_tokens asked) texts → Says texts asked
 command-says (edit e) texts f h = edit-says e texts f h
+command-says (edits es) texts f h = absurd f
 command-says (load node file) texts f h =
     let a = first-exact (command_word command.Load) (exact node ∷ exact file ∷ []) texts h in
     let b = first-exact node (exact file ∷ []) a.0 a.2 in

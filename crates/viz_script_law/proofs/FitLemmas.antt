@@ -10,13 +10,13 @@ use Rattle.viz_kinds.specs.declared.param.Value.TheVariants.{Numbers, Text}
 use Rattle.viz_kinds.specs.declared.range.Range.{Range}
 use Rattle.viz_kinds.specs.Values.{first_number, last_number, numbers_of, fits_range}
 use Rattle.viz_network.specs.declared.edit.Edit.{Edit}
-use Rattle.viz_network.specs.declared.edit.Edit.TheVariants as edits
+use Rattle.viz_network.specs.declared.edit.Edit.TheVariants as change
 use Rattle.viz_words.specs.declared.command.Command.{Command}
 use Rattle.viz_words.specs.declared.command.Command.TheVariants as command
 use Rattle.viz_words.specs.Names.{is_node_byte, is_file_byte, is_array_byte, is_file_name, begins_name}
 use Rattle.viz_words.specs.Tables.{command_word}
-use Rattle.viz_script.specs.Orders.{Asked, edit, load, update, audit}
-use Rattle.viz_script.specs.Script.{Line, silent, begins_phase, asks}
+use Rattle.viz_script.specs.Orders.{Asked, edit, edits, load, update, audit}
+use Rattle.viz_script.specs.Lines.{Line, silent, begins_phase, begins_batch, ends_batch, asks}
 use Rattle.viz_journal.proofs.SolidLemmas.{and-parts, or-parts, weaker, Solid, solid-node, solid-array}
 use Rattle.viz_journal.proofs.AgainLemmas.{kind-solid, param-solid}
 use Rattle.viz_script_law.specs.Tokens.{Token, exact, number, value_tokens, edit_tokens, command_tokens, line_tokens}
@@ -50,7 +50,7 @@ value-fit p (Numbers count items) f = by (numbers_of p) f
     by None g = absurd g
     by (Some range) g = numbers-fit (take count items) g.each
 
-command-fit : (c : Command) → Solid (command_word c)
+pub command-fit : (c : Command) → Solid (command_word c)
 command-fit command.Add = solid-array _ refl
 command-fit command.Remove = solid-array _ refl
 command-fit command.Connect = solid-array _ refl
@@ -59,6 +59,8 @@ command-fit command.Set = solid-array _ refl
 command-fit command.Load = solid-array _ refl
 command-fit command.Update = solid-array _ refl
 command-fit command.Audit = solid-array _ refl
+command-fit command.Begin = solid-array _ refl
+command-fit command.End = solid-array _ refl
 
 file-byte : (b : ℕ) → is_file_byte b ≡ true → is_array_byte b ≡ true
 file-byte b h = first (or-parts _ _ h)
@@ -81,16 +83,17 @@ file-fit word h =
     record { some = omega (arith, leb-true 1 (length word) long.0); each = weaker is_file_byte is_array_byte file-byte word bytes.1 }
 
 edit-fit : (e : Edit) → FitsLineEdit e → AllByRecursion Fit (edit_tokens e)
-edit-fit (edits.Add kind node) f = (command-fit command.Add, (kind-solid kind, (solid-node node f, tt)))
-edit-fit (edits.Remove node) f = (command-fit command.Remove, (solid-node node f, tt))
-edit-fit (edits.Connect from to port) f =
+edit-fit (change.Add kind node) f = (command-fit command.Add, (kind-solid kind, (solid-node node f, tt)))
+edit-fit (change.Remove node) f = (command-fit command.Remove, (solid-node node f, tt))
+edit-fit (change.Connect from to port) f =
     (command-fit command.Connect, (solid-node from f.0, (solid-node to f.1, (natural-fit port (omega (arith, f.2)), tt))))
-edit-fit (edits.Disconnect to port) f = (command-fit command.Disconnect, (solid-node to f.0, (natural-fit port (omega (arith, f.1)), tt)))
-edit-fit (edits.Set node param value) f = (command-fit command.Set, (solid-node node f.0, (param-solid param, value-fit param value f.1)))
-edit-fit (edits.Load node file) f = absurd f
+edit-fit (change.Disconnect to port) f = (command-fit command.Disconnect, (solid-node to f.0, (natural-fit port (omega (arith, f.1)), tt)))
+edit-fit (change.Set node param value) f = (command-fit command.Set, (solid-node node f.0, (param-solid param, value-fit param value f.1)))
+edit-fit (change.Load node file) f = absurd f
 
 pub asked-fit : (c : Asked) → FitsCommand c → AllByRecursion Fit (command_tokens c)
 asked-fit (edit e) f = edit-fit e f
+asked-fit (edits es) f = absurd f
 asked-fit (load node file) f = (command-fit command.Load, (solid-node node f.0, (file-fit file f.1, tt)))
 asked-fit (update node file pieces workers) f =
     (command-fit command.Update, (solid-node node f.0, (file-fit file f.1, (natural-fit pieces (omega (arith, f.2.1)), (natural-fit workers (omega (arith, f.2.3)), tt)))))
@@ -101,4 +104,6 @@ asked-fit (audit node pieces workers) f =
 pub line-fit : (actors : ℕ) (line : Line) → FitsLine actors line → AllByRecursion Fit (line_tokens line)
 line-fit actors silent f = tt
 line-fit actors begins_phase f = (solid-array (codes "phase") refl, tt)
-line-fit actors (asks actor asked) f = (natural-fit actor (omega (arith, f.1)), asked-fit asked f.3)
+line-fit actors (begins_batch actor) f = (natural-fit actor (omega (arith, f.1)), (command-fit command.Begin, tt))
+line-fit actors (ends_batch actor) f = (natural-fit actor (omega (arith, f.1)), (command-fit command.End, tt))
+line-fit actors (asks actor asked) f = (natural-fit actor (omega (arith, f.0.1)), asked-fit asked f.1)

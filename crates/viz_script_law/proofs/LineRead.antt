@@ -5,18 +5,22 @@ use Rattle.std.proofs.lemmas.Bool.{le-leb}
 use Rattle.viz_kinds.specs.Values.{is_text}
 use Rattle.viz_words.specs.declared.refusal.ScriptRefusal.{ScriptRefusal}
 use Rattle.viz_words.specs.declared.refusal.ScriptRefusal.TheVariants as refusal
+use Rattle.viz_words.specs.declared.command.Command.{Command}
+use Rattle.viz_words.specs.declared.command.Command.TheVariants as command
 use Rattle.viz_words.specs.declared.command.Verb.{Verb}
+use Rattle.viz_words.specs.declared.command.Verb.TheVariants as verb
+use Rattle.viz_words.specs.Tables.{command_word}
 use Rattle.viz_words.specs.Gives.{◌>>=◌, guard}
 use Rattle.viz_words.specs.Lines.{in_front, is_plain}
 use Rattle.viz_words.specs.Words.{is_gap, begins_word, words_of, begins_hash, is_empty, is_skipped}
 use Rattle.viz_words.specs.Numbers.{within, number_of}
-use Rattle.viz_words.specs.Commands.{due}
-use Rattle.viz_script.specs.Orders.{Asked, order_in}
-use Rattle.viz_script.specs.Script.{Line, silent, begins_phase, asks, is_actor, phase_in, actor_in, number_in_front, words_in, line_in}
+use Rattle.viz_words.specs.Commands.{verb_of, due}
+use Rattle.viz_script.specs.Orders.{Asked}
+use Rattle.viz_script.specs.Lines.{Line, silent, begins_phase, begins_batch, ends_batch, asks, is_actor, alone, command_in, actor_in, number_in_front, words_in, line_in}
 use Rattle.viz_journal.proofs.OnlyLemmas.{same-text}
-use Rattle.viz_script_law.specs.Tokens.{command_tokens}
-use Rattle.viz_script_law.specs.Fits.{FitsLine}
-use Rattle.viz_script_law.proofs.Words.{HasLine, first-exact, first-number, no-more}
+use Rattle.viz_script_law.specs.Tokens.{Token, number, first_token, command_tokens}
+use Rattle.viz_script_law.specs.Fits.{IsActorOf, FitsLine}
+use Rattle.viz_script_law.proofs.Words.{Spelled, HasWords, HasLine, first-exact, first-number, no-more}
 use Rattle.viz_script_law.proofs.CommandRead.{Says, command-says}
 
 -- the first word begins with the first byte of a line that begins with a word
@@ -83,14 +87,31 @@ actor-known : (actor actors : ℕ) → 1 ≤ actor → actor ≤ 8 → actor ≤
 actor-known actor actors low high there = rw (le-leb 1 actor low, le-leb actor 8 high, le-leb actor actors there) refl
 
 -- the words behind an actor are read
-actor-read : (actor actors : ℕ) (words : List (List ℕ)) (asked : Asked) → is_actor (pos actor) actors ≡ true → Says words asked
-    → actor_in (pos actor) actors words ≡ Ok (asks actor asked)
-actor-read actor actors words asked known s =
-    let last : Result Asked ScriptRefusal → Result Line ScriptRefusal = λ r. r >>= λ order. Ok (asks actor order) in
-    let tail : List (List ℕ) → Result Line ScriptRefusal = λ ws. due ws >>= λ rest. last (order_in s.which rest.1) in
-    ap (λ (r : Result Verb ScriptRefusal). r >>= λ v. guard (is_actor (pos actor) actors) refusal.ActorRange >>= λ in_range.
-    due words >>= λ rest. order_in v rest.1 >>= λ order. Ok (asks actor order)) s.known
-    ∙ ap (λ b. guard b refusal.ActorRange >>= λ in_range. tail words) known ∙ ap tail s.are ∙ ap last s.told
+actor-read : (actor actors : ℕ) (words : List (List ℕ)) (line : Line) (which : Verb) (word : List ℕ) (tail : List (List ℕ)) → IsActorOf actors actor
+    → words ≡ word ∷ tail → verb_of words ≡ Ok which → command_in actor which tail ≡ Ok line → actor_in (pos actor) actors words ≡ Ok line
+actor-read actor actors words line which word tail a are known told =
+    let behind : Verb → List (List ℕ) → Result Line ScriptRefusal = λ v ws. due ws >>= λ rest. command_in actor v rest.1 in
+    ap (λ (r : Result Verb ScriptRefusal). r >>= λ v. guard (is_actor (pos actor) actors) refusal.ActorRange >>= λ in_range. behind v words) known
+    ∙ ap (λ b. guard b refusal.ActorRange >>= λ in_range. behind which words) (actor-known actor actors a.0 a.1 a.2) ∙ ap (behind which) are ∙ told
+
+-- a line of an actor says what the words behind it do
+behind-read : (actor actors : ℕ) (line : Line) (tokens : List Token) (text : List ℕ) → HasWords (number (pos actor) ∷ tokens) text
+    → ((words : List (List ℕ)) → Spelled tokens words → actor_in (pos actor) actors words ≡ Ok line) → line_in actors text ≡ Ok line
+behind-read actor actors line tokens text h read =
+    let first = first-number (pos actor) tokens (words_of text) h.1 in
+    let word = first.0 in
+    let words = first.1 in
+    words-read actors text word words h.0 first.2 (number-hash word (pos actor) first.3)
+    ∙ ap (λ b. cond b (alone begins_phase words) (number_in_front (number_of word) actors words)) (not-phase word (pos actor) first.3)
+    ∙ ap (λ o. number_in_front o actors words) first.3 ∙ read words first.4
+
+-- the one word behind an actor
+mark-read : (actor actors : ℕ) (line : Line) (c : Command) (which : Verb) → IsActorOf actors actor → verb_of (command_word c ∷ []) ≡ Ok which → command_in actor which [] ≡ Ok line
+    → (words : List (List ℕ)) → Spelled (first_token c ∷ []) words → actor_in (pos actor) actors words ≡ Ok line
+mark-read actor actors line c which a known told words h =
+    let first = first-exact (command_word c) [] words h in
+    let are : words ≡ command_word c ∷ [] = first.1 ∙ ap (λ l. command_word c ∷ l) (no-more first.0 first.2) in
+    actor-read actor actors words line which (command_word c) [] a are (ap verb_of are ∙ known) told
 
 -- a line that is spelled says what it spells
 pub line-read : (actors : ℕ) (line : Line) (text : List ℕ) → FitsLine actors line → HasLine line text → line_in actors text ≡ Ok line
@@ -99,11 +120,12 @@ line-read actors begins_phase text f h =
     let first = first-exact (codes "phase") [] (words_of text) h.1 in
     let are : words_of text ≡ codes "phase" ∷ [] = first.1 ∙ ap (λ l. codes "phase" ∷ l) (no-more first.0 first.2) in
     words-read actors text (codes "phase") [] h.0 are refl
+line-read actors (begins_batch actor) text f h =
+    behind-read actor actors (begins_batch actor) (first_token command.Begin ∷ []) text h (mark-read actor actors (begins_batch actor) command.Begin verb.Begin f refl refl)
+line-read actors (ends_batch actor) text f h =
+    behind-read actor actors (ends_batch actor) (first_token command.End ∷ []) text h (mark-read actor actors (ends_batch actor) command.End verb.End f refl refl)
 line-read actors (asks actor asked) text f h =
-    let first = first-number (pos actor) (command_tokens asked) (words_of text) h.1 in
-    let word = first.0 in
-    let words = first.1 in
-    words-read actors text word words h.0 first.2 (number-hash word (pos actor) first.3)
-    ∙ ap (λ b. cond b (phase_in words) (number_in_front (number_of word) actors words)) (not-phase word (pos actor) first.3)
-    ∙ ap (λ o. number_in_front o actors words) first.3
-    ∙ actor-read actor actors words asked (actor-known actor actors f.0 f.1 f.2) (command-says asked words f.3 first.4)
+    behind-read actor actors (asks actor asked) (command_tokens asked) text h (λ words spelled.
+    let s = command-says asked words f.1 spelled in
+    actor-read actor actors words (asks actor asked) s.which s.word s.tail f.0 s.are s.known
+    (s.plain actor ∙ ap (λ (r : Result Asked ScriptRefusal). r >>= λ order. Ok (asks actor order)) s.told))

@@ -10,7 +10,7 @@ use Rattle.viz_kinds.specs.declared.param.Value.TheVariants.{Numbers, Text}
 use Rattle.viz_kinds.specs.declared.range.Range.{Range}
 use Rattle.viz_kinds.specs.Values.{first_number, last_number, numbers_of, fits_range}
 use Rattle.viz_network.specs.declared.edit.Edit.{Edit}
-use Rattle.viz_network.specs.declared.edit.Edit.TheVariants as edits
+use Rattle.viz_network.specs.declared.edit.Edit.TheVariants as change
 use Rattle.viz_words.specs.declared.refusal.ScriptRefusal.{ScriptRefusal}
 use Rattle.viz_words.specs.declared.refusal.ScriptRefusal.TheVariants as refusal
 use Rattle.viz_words.specs.declared.command.Command.{Command}
@@ -45,6 +45,8 @@ IsVerb (verb.Set param) word tail =
 IsVerb verb.Load word tail = word ≡ command_word command.Load
 IsVerb verb.Update word tail = word ≡ command_word command.Update
 IsVerb verb.Audit word tail = word ≡ command_word command.Audit
+IsVerb verb.Begin word tail = word ≡ command_word command.Begin
+IsVerb verb.End word tail = word ≡ command_word command.End
 
 -- it is this one
 the-verb : (word : List ℕ) (tail : List (List ℕ)) (made v : Verb) → ◌≡◌ {A = Result Verb ScriptRefusal} (Ok made) (Ok v) → IsVerb made word tail → IsVerb v word tail
@@ -82,6 +84,8 @@ verb-is word tail v h = by (command_named word) refl h
     by (Some command.Load) e g = the-verb word tail verb.Load v g (with_word-is command_word commands word command.Load e)
     by (Some command.Update) e g = the-verb word tail verb.Update v g (with_word-is command_word commands word command.Update e)
     by (Some command.Audit) e g = the-verb word tail verb.Audit v g (with_word-is command_word commands word command.Audit e)
+    by (Some command.Begin) e g = the-verb word tail verb.Begin v g (with_word-is command_word commands word command.Begin e)
+    by (Some command.End) e g = the-verb word tail verb.End v g (with_word-is command_word commands word command.End e)
 
 -- ---- values
 
@@ -167,52 +171,52 @@ spelled-at words word tail are e s = subst (λ ws. Spelled words (word ∷ ws)) 
 add-is : (kind : Kind) (word : List ℕ) (tail : List (List ℕ)) (e : Edit) → IsVerb (verb.Add kind) word tail → add_in kind tail ≡ Ok e → TellsEdit e word tail
 unfolding add_in
 add-is kind word tail e is h =
-    let a = bind-ok (two tail) (λ w. named_in is_node_name w.1 >>= λ node. Ok (edits.Add kind node)) e h in
-    let b = bind-ok (named_in is_node_name a.0.1) (λ node. Ok (edits.Add kind node)) e a.2 in
+    let a = bind-ok (two tail) (λ w. named_in is_node_name w.1 >>= λ node. Ok (change.Add kind node)) e h in
+    let b = bind-ok (named_in is_node_name a.0.1) (λ node. Ok (change.Add kind node)) e a.2 in
     let n = named-is is_node_name a.0.1 b.0 b.1 in
     let are = two-is tail a.0 a.1 in
     let both : a.0.0 ∷ a.0.1 ∷ [] ≡ kind_word kind ∷ is.1.0 = sym are ∙ is.1.1 in
     let front : a.0.0 ≡ kind_word kind = cc both in
-    let same : edits.Add kind b.0 ≡ e = cc b.2 in
-    subst (λ x. TellsEdit x word tail) {x = edits.Add kind b.0} same (spelled-at (edit_tokens (edits.Add kind b.0)) word tail _ are (is.0, (front, (n.0, tt))), n.1)
+    let same : change.Add kind b.0 ≡ e = cc b.2 in
+    subst (λ x. TellsEdit x word tail) {x = change.Add kind b.0} same (spelled-at (edit_tokens (change.Add kind b.0)) word tail _ are (is.0, (front, (n.0, tt))), n.1)
 
 remove-is : (word : List ℕ) (tail : List (List ℕ)) (e : Edit) → IsVerb verb.Remove word tail → remove_in tail ≡ Ok e → TellsEdit e word tail
 unfolding remove_in
 remove-is word tail e is h =
-    let a = bind-ok (one tail) (λ w. named_in is_node_name w >>= λ node. Ok (edits.Remove node)) e h in
-    let b = bind-ok (named_in is_node_name a.0) (λ node. Ok (edits.Remove node)) e a.2 in
+    let a = bind-ok (one tail) (λ w. named_in is_node_name w >>= λ node. Ok (change.Remove node)) e h in
+    let b = bind-ok (named_in is_node_name a.0) (λ node. Ok (change.Remove node)) e a.2 in
     let n = named-is is_node_name a.0 b.0 b.1 in
-    let same : edits.Remove b.0 ≡ e = cc b.2 in
-    subst (λ x. TellsEdit x word tail) {x = edits.Remove b.0} same (spelled-at (edit_tokens (edits.Remove b.0)) word tail _ (one-is tail a.0 a.1) (is, (n.0, tt)), n.1)
+    let same : change.Remove b.0 ≡ e = cc b.2 in
+    subst (λ x. TellsEdit x word tail) {x = change.Remove b.0} same (spelled-at (edit_tokens (change.Remove b.0)) word tail _ (one-is tail a.0 a.1) (is, (n.0, tt)), n.1)
 
 connect-is : (word : List ℕ) (tail : List (List ℕ)) (e : Edit) → IsVerb verb.Connect word tail → connect_in tail ≡ Ok e → TellsEdit e word tail
 unfolding connect_in
 connect-is word tail e is h =
-    let a = bind-ok (three tail) (λ w. named_in is_node_name w.0 >>= λ from. named_in is_node_name w.1 >>= λ to. natural_in 0 255 w.2 >>= λ port. Ok (edits.Connect from to port)) e h in
-    let b = bind-ok (named_in is_node_name a.0.0) (λ from. named_in is_node_name a.0.1 >>= λ to. natural_in 0 255 a.0.2 >>= λ port. Ok (edits.Connect from to port)) e a.2 in
-    let d = bind-ok (named_in is_node_name a.0.1) (λ to. natural_in 0 255 a.0.2 >>= λ port. Ok (edits.Connect b.0 to port)) e b.2 in
-    let p = bind-ok (natural_in 0 255 a.0.2) (λ port. Ok (edits.Connect b.0 d.0 port)) e d.2 in
+    let a = bind-ok (three tail) (λ w. named_in is_node_name w.0 >>= λ from. named_in is_node_name w.1 >>= λ to. natural_in 0 255 w.2 >>= λ port. Ok (change.Connect from to port)) e h in
+    let b = bind-ok (named_in is_node_name a.0.0) (λ from. named_in is_node_name a.0.1 >>= λ to. natural_in 0 255 a.0.2 >>= λ port. Ok (change.Connect from to port)) e a.2 in
+    let d = bind-ok (named_in is_node_name a.0.1) (λ to. natural_in 0 255 a.0.2 >>= λ port. Ok (change.Connect b.0 to port)) e b.2 in
+    let p = bind-ok (natural_in 0 255 a.0.2) (λ port. Ok (change.Connect b.0 d.0 port)) e d.2 in
     let n = named-is is_node_name a.0.0 b.0 b.1 in
     let m = named-is is_node_name a.0.1 d.0 d.1 in
     let q = natural-is 0 255 p.0 a.0.2 p.1 in
-    let same : edits.Connect b.0 d.0 p.0 ≡ e = cc p.2 in
-    subst (λ x. TellsEdit x word tail) {x = edits.Connect b.0 d.0 p.0} same
-    (spelled-at (edit_tokens (edits.Connect b.0 d.0 p.0)) word tail _ (three-is tail a.0 a.1) (is, (n.0, (m.0, (q.0, tt)))), (n.1, m.1, omega (arith, q.2)))
+    let same : change.Connect b.0 d.0 p.0 ≡ e = cc p.2 in
+    subst (λ x. TellsEdit x word tail) {x = change.Connect b.0 d.0 p.0} same
+    (spelled-at (edit_tokens (change.Connect b.0 d.0 p.0)) word tail _ (three-is tail a.0 a.1) (is, (n.0, (m.0, (q.0, tt)))), (n.1, m.1, omega (arith, q.2)))
 
 disconnect-is : (word : List ℕ) (tail : List (List ℕ)) (e : Edit) → IsVerb verb.Disconnect word tail → disconnect_in tail ≡ Ok e → TellsEdit e word tail
 unfolding disconnect_in
 disconnect-is word tail e is h =
-    let a = bind-ok (two tail) (λ w. named_in is_node_name w.0 >>= λ to. natural_in 0 255 w.1 >>= λ port. Ok (edits.Disconnect to port)) e h in
-    let b = bind-ok (named_in is_node_name a.0.0) (λ to. natural_in 0 255 a.0.1 >>= λ port. Ok (edits.Disconnect to port)) e a.2 in
-    let p = bind-ok (natural_in 0 255 a.0.1) (λ port. Ok (edits.Disconnect b.0 port)) e b.2 in
+    let a = bind-ok (two tail) (λ w. named_in is_node_name w.0 >>= λ to. natural_in 0 255 w.1 >>= λ port. Ok (change.Disconnect to port)) e h in
+    let b = bind-ok (named_in is_node_name a.0.0) (λ to. natural_in 0 255 a.0.1 >>= λ port. Ok (change.Disconnect to port)) e a.2 in
+    let p = bind-ok (natural_in 0 255 a.0.1) (λ port. Ok (change.Disconnect b.0 port)) e b.2 in
     let n = named-is is_node_name a.0.0 b.0 b.1 in
     let q = natural-is 0 255 p.0 a.0.1 p.1 in
-    let same : edits.Disconnect b.0 p.0 ≡ e = cc p.2 in
-    subst (λ x. TellsEdit x word tail) {x = edits.Disconnect b.0 p.0} same
-    (spelled-at (edit_tokens (edits.Disconnect b.0 p.0)) word tail _ (two-is tail a.0 a.1) (is, (n.0, (q.0, tt))), (n.1, omega (arith, q.2)))
+    let same : change.Disconnect b.0 p.0 ≡ e = cc p.2 in
+    subst (λ x. TellsEdit x word tail) {x = change.Disconnect b.0 p.0} same
+    (spelled-at (edit_tokens (change.Disconnect b.0 p.0)) word tail _ (two-is tail a.0 a.1) (is, (n.0, (q.0, tt))), (n.1, omega (arith, q.2)))
 
-set-same : (p : Param) (name : List ℕ) (value : Value) (s : List ℕ × Value) (e : Edit) → (name, value) ≡ s → edits.Set s.0 p s.1 ≡ e → edits.Set name p value ≡ e
-set-same p name value s e pair made = ap (λ (x : List ℕ × Value). edits.Set x.0 p x.1) pair ∙ made
+set-same : (p : Param) (name : List ℕ) (value : Value) (s : List ℕ × Value) (e : Edit) → (name, value) ≡ s → change.Set s.0 p s.1 ≡ e → change.Set name p value ≡ e
+set-same p name value s e pair made = ap (λ (x : List ℕ × Value). change.Set x.0 p x.1) pair ∙ made
 
 set-is : (p : Param) (word : List ℕ) (tail : List (List ℕ)) (e : Edit) → IsVerb (verb.Set p) word tail → value_set_in p tail ≡ Ok e → TellsEdit e word tail
 unfolding value_set_in set_in
@@ -222,22 +226,22 @@ set-is p word tail e is h =
     let named : List ℕ → List (List ℕ) → Result (List ℕ × Value) ScriptRefusal = λ text texts. named_in is_node_name text >>= valued texts in
     let counted : List ℕ → List (List ℕ) → Result (List ℕ × Value) ScriptRefusal =
     λ text texts. guard (fits_count (numbers_of p) (length texts)) refusal.Arity >>= λ count. named text texts in
-    let a = bind-ok (set_in p tail) (λ s. Ok (edits.Set s.0 p s.1)) e h in
+    let a = bind-ok (set_in p tail) (λ s. Ok (change.Set s.0 p s.1)) e h in
     let b = bind-ok (due tail) (λ node. due node.1 >>= λ values. counted node.0 values.1) a.0 a.1 in
     let d = bind-ok (due b.0.1) (λ values. counted b.0.0 values.1) a.0 b.2 in
     let g = guarded (fits_count (numbers_of p) (length d.0.1)) refusal.Arity (named b.0.0 d.0.1) a.0 d.2 in
     let n = bind-ok (named_in is_node_name b.0.0) (valued d.0.1) a.0 g.1 in
     let v = bind-ok (value_in p (numbers_of p) d.0.1) (last n.0) a.0 n.2 in
     let pair : (n.0, v.0) ≡ a.0 = cc v.2 in
-    let made : edits.Set a.0.0 p a.0.1 ≡ e = cc a.2 in
-    let same : edits.Set n.0 p v.0 ≡ e = set-same p n.0 v.0 a.0 e pair made in
+    let made : change.Set a.0.0 p a.0.1 ≡ e = cc a.2 in
+    let same : change.Set n.0 p v.0 ≡ e = set-same p n.0 v.0 a.0 e pair made in
     let are : tail ≡ b.0.0 ∷ d.0.0 ∷ d.0.1 = due-is tail b.0 b.1 ∙ ap (λ l. b.0.0 ∷ l) (due-is b.0.1 d.0 d.1) in
     let both : b.0.0 ∷ d.0.0 ∷ d.0.1 ≡ is.1.0 ∷ param_word p ∷ is.1.1 = sym are ∙ is.1.2 in
     let second : d.0.0 ≡ param_word p = cc both in
     let name = named-is is_node_name b.0.0 n.0 n.1 in
     let value = value-is p d.0.1 v.0 g.0 v.1 in
-    subst (λ x. TellsEdit x word tail) {x = edits.Set n.0 p v.0} same
-    (spelled-at (edit_tokens (edits.Set n.0 p v.0)) word tail _ are (is.0, (name.0, (second, value.0))), (name.1, value.1))
+    subst (λ x. TellsEdit x word tail) {x = change.Set n.0 p v.0} same
+    (spelled-at (edit_tokens (change.Set n.0 p v.0)) word tail _ are (is.0, (name.0, (second, value.0))), (name.1, value.1))
 
 -- ---- commands
 
@@ -311,3 +315,5 @@ order-is (verb.Set p) word tail asked is h = as-edit (value_set_in p tail) word 
 order-is verb.Load word tail asked is h = load-is word tail asked is h
 order-is verb.Update word tail asked is h = update-is word tail asked is h
 order-is verb.Audit word tail asked is h = audit-is word tail asked is h
+order-is verb.Begin word tail asked is h = let bad : ⊥ = cc h in absurd bad
+order-is verb.End word tail asked is h = let bad : ⊥ = cc h in absurd bad

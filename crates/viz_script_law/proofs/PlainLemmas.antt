@@ -6,20 +6,20 @@ use Rattle.std.specs.Fmt.{signed_decimal}
 use Rattle.viz_kinds.specs.declared.param.Value.{Value}
 use Rattle.viz_kinds.specs.declared.param.Value.TheVariants.{Numbers, Text}
 use Rattle.viz_network.specs.declared.edit.Edit.{Edit}
-use Rattle.viz_network.specs.declared.edit.Edit.TheVariants as edits
+use Rattle.viz_network.specs.declared.edit.Edit.TheVariants as change
 use Rattle.viz_words.specs.declared.command.Command.TheVariants as command
 use Rattle.viz_words.specs.Lines.{begins_newline, in_front, lines_of, is_plain_byte, is_plain}
-use Rattle.viz_words.specs.Words.{words_of}
+use Rattle.viz_words.specs.Words.{words_of, spaced}
 use Rattle.viz_words.specs.Tables.{command_word, param_word}
-use Rattle.viz_script.specs.Script.{Line, silent, begins_phase, asks}
+use Rattle.viz_script.specs.Lines.{Line, silent, begins_phase, begins_batch, ends_batch, asks}
 use Rattle.viz_journal.specs.Journal.{value_words, edit_words}
 use Rattle.viz_journal.proofs.SolidLemmas.{and-parts, Solid, solid-number, number-signed, words-again, plain-again}
-use Rattle.viz_script_law.specs.Tokens.{Token, exact, number, value_tokens, edit_tokens, command_tokens, plain_word, plain_line, plain_script}
+use Rattle.viz_script_law.specs.Tokens.{Token, exact, number, value_tokens, edit_tokens, first_token, command_tokens, plain_word, plain_line, plain_script}
 use Rattle.viz_script_law.specs.Spelling.{SpellsToken, SpellsLine}
 use Rattle.viz_script_law.specs.Fits.{FitsLineEdit, FitsLine}
-use Rattle.viz_script_law.proofs.Words.{Spelled, HasLine}
+use Rattle.viz_script_law.proofs.Words.{Spelled, HasWords, HasLine}
 use Rattle.viz_script_law.proofs.SpellingLemmas.{line-spells}
-use Rattle.viz_script_law.proofs.FitLemmas.{Fit, natural-fit, asked-fit}
+use Rattle.viz_script_law.proofs.FitLemmas.{Fit, natural-fit, command-fit, asked-fit}
 
 word-solid : (w : Token) → Fit w → Solid (plain_word w)
 word-solid (exact word) f = f
@@ -39,19 +39,25 @@ words-spelled (w ∷ ws) f = (word-spelled w f.0, words-spelled ws f.1)
 
 -- ---- lines
 
+-- the plain spelling of an actor and words behind it
+tokens-spelled : (actor : ℕ) (tokens : List Token) → Fit (number (pos actor)) → AllByRecursion Fit tokens
+    → HasWords (number (pos actor) ∷ tokens) (spaced (map plain_word (number (pos actor) ∷ tokens)))
+    × (is_plain (spaced (map plain_word (number (pos actor) ∷ tokens))) ≡ true)
+tokens-spelled actor tokens fit fits =
+    let solid = word-solid (number (pos actor)) fit in
+    let solids = words-solid tokens fits in
+    let plain = plain-again (signed_decimal (pos actor)) (map plain_word tokens) solid solids in
+    let are : words_of (spaced (map plain_word (number (pos actor) ∷ tokens))) ≡ signed_decimal (pos actor) ∷ map plain_word tokens =
+    words-again (signed_decimal (pos actor)) (map plain_word tokens) solid solids in
+    ((plain, rw are (word-spelled (number (pos actor)) fit, words-spelled tokens fits)), plain)
+
 -- the plain spelling of a line spells it, with bytes that may stand in a script
 line-spelled : (actors : ℕ) (line : Line) → FitsLine actors line → HasLine line (plain_line line) × (is_plain (plain_line line) ≡ true)
 line-spelled actors silent f = (refl, refl)
 line-spelled actors begins_phase f = ((refl, (refl, tt)), refl)
-line-spelled actors (asks actor asked) f =
-    let fit : Fit (number (pos actor)) = natural-fit actor (omega (arith, f.1)) in
-    let fits = asked-fit asked f.3 in
-    let words = command_tokens asked in
-    let solid = word-solid (number (pos actor)) fit in
-    let solids = words-solid words fits in
-    let plain = plain-again (signed_decimal (pos actor)) (map plain_word words) solid solids in
-    let are : words_of (plain_line (asks actor asked)) ≡ signed_decimal (pos actor) ∷ map plain_word words = words-again (signed_decimal (pos actor)) (map plain_word words) solid solids in
-    ((plain, rw are (word-spelled (number (pos actor)) fit, words-spelled words fits)), plain)
+line-spelled actors (begins_batch actor) f = tokens-spelled actor (first_token command.Begin ∷ []) (natural-fit actor (omega (arith, f.1))) (command-fit command.Begin, tt)
+line-spelled actors (ends_batch actor) f = tokens-spelled actor (first_token command.End ∷ []) (natural-fit actor (omega (arith, f.1))) (command-fit command.End, tt)
+line-spelled actors (asks actor asked) f = tokens-spelled actor (command_tokens asked) (natural-fit actor (omega (arith, f.0.1))) (asked-fit asked f.1)
 
 pub plain-spells : (actors : ℕ) (line : Line) → FitsLine actors line → SpellsLine line (plain_line line)
 plain-spells actors line f = line-spells line (plain_line line) (line-spelled actors line f).0
@@ -96,9 +102,9 @@ value-plain (Text text) = refl
 
 -- an edit is spelled as in a journal
 pub edit-plain : (e : Edit) → FitsLineEdit e → map plain_word (edit_tokens e) ≡ edit_words e
-edit-plain (edits.Add kind node) f = refl
-edit-plain (edits.Remove node) f = refl
-edit-plain (edits.Connect from to port) f = refl
-edit-plain (edits.Disconnect to port) f = refl
-edit-plain (edits.Set node param value) f = ap (λ l. command_word command.Set ∷ node ∷ param_word param ∷ l) (value-plain value)
-edit-plain (edits.Load node file) f = absurd f
+edit-plain (change.Add kind node) f = refl
+edit-plain (change.Remove node) f = refl
+edit-plain (change.Connect from to port) f = refl
+edit-plain (change.Disconnect to port) f = refl
+edit-plain (change.Set node param value) f = ap (λ l. command_word command.Set ∷ node ∷ param_word param ∷ l) (value-plain value)
+edit-plain (change.Load node file) f = absurd f

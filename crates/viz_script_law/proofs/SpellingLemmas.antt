@@ -9,7 +9,7 @@ use Rattle.viz_words.specs.Lines.{in_front, is_plain_byte, is_plain}
 use Rattle.viz_words.specs.Words.{is_gap, begins_word, words_of, begins_hash, is_empty}
 use Rattle.viz_words.specs.Names.{is_array_byte}
 use Rattle.viz_words.specs.Numbers.{within, number_of}
-use Rattle.viz_script.specs.Script.{Line, silent, begins_phase, asks}
+use Rattle.viz_script.specs.Lines.{Line, silent, begins_phase, begins_batch, ends_batch, asks}
 use Rattle.viz_journal.proofs.SolidLemmas.{and-parts, or-parts, weaker, Solid}
 use Rattle.viz_script_law.specs.Tokens.{Token, exact, number, line_tokens}
 use Rattle.viz_script_law.specs.Spelling.{IsGap, SpellsToken, SpellsTokens, SpellsLine}
@@ -223,6 +223,8 @@ pub line-found : (actors : ℕ) (line : Line) (text : List ℕ) → FitsLine act
 line-found actors silent text f (inl gap) = ap (λ l. begins_hash text || is_empty l) (gap-none text gap) ∙ or-true (begins_hash text)
 line-found actors silent text f (inr hash) = ap (λ x. x || is_empty (words_of text)) hash
 line-found actors begins_phase text f h = words-found (line_tokens begins_phase) text (line-fit actors begins_phase f) h
+line-found actors (begins_batch actor) text f h = words-found (line_tokens (begins_batch actor)) text (line-fit actors (begins_batch actor) f) h
+line-found actors (ends_batch actor) text f h = words-found (line_tokens (ends_batch actor)) text (line-fit actors (ends_batch actor) f) h
 line-found actors (asks actor asked) text f h = words-found (line_tokens (asks actor asked)) text (line-fit actors (asks actor asked) f) h
 
 -- a line with the words of a line spells it
@@ -237,4 +239,6 @@ line-spells silent text h = by (or-parts (begins_hash text) (is_empty (words_of 
     by (inl e) = inr e
     by (inr e) = inl (no-word text (none (words_of text) e))
 line-spells begins_phase text h = words-spell (line_tokens begins_phase) text h.1
+line-spells (begins_batch actor) text h = words-spell (line_tokens (begins_batch actor)) text h.1
+line-spells (ends_batch actor) text h = words-spell (line_tokens (ends_batch actor)) text h.1
 line-spells (asks actor asked) text h = words-spell (line_tokens (asks actor asked)) text h.1

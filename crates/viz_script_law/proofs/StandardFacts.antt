@@ -5,26 +5,26 @@ use Rattle.std.specs.Fmt.{digits}
 use Rattle.viz_kinds.specs.declared.kind.Kind.TheVariants as kind
 use Rattle.viz_kinds.specs.declared.param.Param.TheVariants as param
 use Rattle.viz_kinds.specs.declared.param.Value.TheVariants.{Numbers}
-use Rattle.viz_network.specs.declared.edit.Edit.TheVariants as edits
+use Rattle.viz_network.specs.declared.edit.Edit.TheVariants as change
 use Rattle.viz_script.specs.Orders.{Asked, edit, load, update}
 use Rattle.viz_script.specs.Script.{Line, silent, begins_phase, asks, Stepped}
 use Rattle.viz_script_law.specs.Tokens.{plain_script}
 use Rattle.viz_script_law.specs.Says.{steps_of}
 
 abbrev add_src : Asked
-add_src = edit (edits.Add kind.File (codes "src"))
+add_src = edit (change.Add kind.File (codes "src"))
 
 abbrev load_src : Asked
 load_src = load (codes "src") (codes "c.vtk")
 
 abbrev add_iso : Asked
-add_iso = edit (edits.Add kind.Contour (codes "iso"))
+add_iso = edit (change.Add kind.Contour (codes "iso"))
 
 abbrev connect_iso : Asked
-connect_iso = edit (edits.Connect (codes "src") (codes "iso") 1)
+connect_iso = edit (change.Connect (codes "src") (codes "iso") 1)
 
 abbrev set_iso : Asked
-set_iso = edit (edits.Set (codes "iso") param.Levels (Numbers 1 (pos 5 ∷ replicate 7 (pos 0))))
+set_iso = edit (change.Set (codes "iso") param.Levels (Numbers 1 (pos 5 ∷ replicate 7 (pos 0))))
 
 abbrev update_iso : Asked
 update_iso = update (codes "iso") (codes "one.vtk") 1 1

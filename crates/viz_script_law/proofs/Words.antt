@@ -4,7 +4,7 @@ use Rattle.std.specs.List.{AllZip}
 use Rattle.viz_words.specs.Lines.{is_plain}
 use Rattle.viz_words.specs.Words.{words_of, is_skipped}
 use Rattle.viz_words.specs.Numbers.{number_of}
-use Rattle.viz_script.specs.Script.{Line, silent}
+use Rattle.viz_script.specs.Lines.{Line, silent}
 use Rattle.viz_script_law.specs.Tokens.{Token, exact, number, line_tokens}
 use Rattle.viz_script_law.specs.Spelling.{SpellsToken}
 

@@ -9,10 +9,12 @@ use Rattle.viz_kinds.specs.declared.param.Value.TheVariants.{Numbers, Text}
 use Rattle.viz_kinds.specs.declared.range.Range.{Range}
 use Rattle.viz_kinds.specs.Values.{first_number, last_number, numbers_of, fits_range}
 use Rattle.viz_network.specs.declared.edit.Edit.{Edit}
-use Rattle.viz_network.specs.declared.edit.Edit.TheVariants as edits
+use Rattle.viz_network.specs.declared.edit.Edit.TheVariants as change
 use Rattle.viz_words.specs.Names.{is_node_name, is_file_name, is_array_name}
-use Rattle.viz_script.specs.Orders.{Asked, edit, load, update, audit}
-use Rattle.viz_script.specs.Script.{Line, begins_phase, asks, line_limit, phase_limit}
+use Rattle.viz_script.specs.Orders.{Asked, edit, edits, load, update, audit}
+use Rattle.viz_script.specs.Lines.{Line, begins_phase, begins_batch, ends_batch, asks, actor_limit}
+use Rattle.viz_script.specs.Script.{line_limit, phase_limit}
+use Rattle.viz_script_law.specs.Parts.{IsInParts}
 
 -- as many numbers as the range allows, of 64 bits each, and zeros, eight in all
 pub record FitsNumbers (range : Range) (count : ℕ) (items : List ℤ) : Type 0 where
@@ -40,13 +42,13 @@ FitsLineValue param (Text text) = (numbers_of param ≡ None) × (is_text_of par
 
 -- an edit that a line can tell: names are names, ports 0 to 255; a load is a command of its own
 abbrev pub FitsLineEdit : Edit → Type 0
-FitsLineEdit (edits.Add kind node) = is_node_name node ≡ true
-FitsLineEdit (edits.Remove node) = is_node_name node ≡ true
-FitsLineEdit (edits.Connect from to port) =
+FitsLineEdit (change.Add kind node) = is_node_name node ≡ true
+FitsLineEdit (change.Remove node) = is_node_name node ≡ true
+FitsLineEdit (change.Connect from to port) =
     (is_node_name from ≡ true) × (is_node_name to ≡ true) × (port < 256)
-FitsLineEdit (edits.Disconnect to port) = (is_node_name to ≡ true) × (port < 256)
-FitsLineEdit (edits.Set node param value) = (is_node_name node ≡ true) × FitsLineValue param value
-FitsLineEdit (edits.Load node file) = ⊥
+FitsLineEdit (change.Disconnect to port) = (is_node_name to ≡ true) × (port < 256)
+FitsLineEdit (change.Set node param value) = (is_node_name node ≡ true) × FitsLineValue param value
+FitsLineEdit (change.Load node file) = ⊥
 
 -- pieces and workers are 1 to 64
 abbrev pub IsShape : ℕ → ℕ → Type 0
@@ -55,15 +57,21 @@ IsShape pieces workers = (1 ≤ pieces) × (pieces ≤ 64) × (1 ≤ workers) ×
 -- a command that a line can tell
 abbrev pub FitsCommand : Asked → Type 0
 FitsCommand (edit e) = FitsLineEdit e
+FitsCommand (edits es) = ⊥
 FitsCommand (load node file) = (is_node_name node ≡ true) × (is_file_name file ≡ true)
 FitsCommand (update node file pieces workers) =
     (is_node_name node ≡ true) × (is_file_name file ≡ true) × IsShape pieces workers
 FitsCommand (audit node pieces workers) = (is_node_name node ≡ true) × IsShape pieces workers
 
+-- an actor, where there are so many
+abbrev pub IsActorOf : ℕ → ℕ → Type 0
+IsActorOf actors actor = (1 ≤ actor) × (actor ≤ actor_limit) × (actor ≤ actors)
+
 -- a line of a script that so many actors serve
 abbrev pub FitsLine : ℕ → Line → Type 0
-FitsLine actors (asks actor asked) =
-    (1 ≤ actor) × (actor ≤ 8) × (actor ≤ actors) × FitsCommand asked
+FitsLine actors (asks actor asked) = IsActorOf actors actor × FitsCommand asked
+FitsLine actors (begins_batch actor) = IsActorOf actors actor
+FitsLine actors (ends_batch actor) = IsActorOf actors actor
 FitsLine actors _ = Unit {0}
 
 -- the line begins a phase
@@ -71,8 +79,10 @@ abbrev pub is_phase : Line → Bool
 is_phase begins_phase = true
 is_phase _ = false
 
--- a script that so many actors serve can have these lines; no line begins the first phase
+-- a script that so many actors serve can have these lines: no line begins the first phase, and the
+-- lines of each actor are commands and whole batches
 pub record FitsScript (actors : ℕ) (lines : List Line) : Type 0 where
   pub few : length lines ≤ line_limit
   pub phases : count_by is_phase lines < phase_limit
   pub each : AllByRecursion (FitsLine actors) lines
+  pub batches : (actor : ℕ) → IsInParts actor lines

@@ -1,4 +1,5 @@
 pub mod Script
+pub mod Parts
 pub mod Says
 pub mod Fits
 pub mod Spelling

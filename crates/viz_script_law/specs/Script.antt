@@ -1,7 +1,8 @@
 -- A script: bytes that spell lines which a script can have (docs/FORMATS.md, "Scripts").
 use Rattle.std.specs.Prelude.{ℕ, ◌≤◌, List, length}
 use Rattle.std.specs.List.{AllZip}
-use Rattle.viz_script.specs.Script.{Line, byte_limit}
+use Rattle.viz_script.specs.Lines.{Line}
+use Rattle.viz_script.specs.Script.{byte_limit}
 use Rattle.viz_script_law.specs.Spelling.{SpellsLine, AreLines}
 use Rattle.viz_script_law.specs.Fits.{FitsScript}
 

@@ -5,7 +5,7 @@ use Rattle.std.specs.List.{list_all}
 use Rattle.viz_lex.specs.Words.{HasNoNewline, IsNextLine}
 use Rattle.viz_words.specs.Words.{is_gap, begins_word, begins_hash}
 use Rattle.viz_words.specs.Numbers.{number_of}
-use Rattle.viz_script.specs.Script.{Line, silent}
+use Rattle.viz_script.specs.Lines.{Line, silent}
 use Rattle.viz_script_law.specs.Tokens.{Token, exact, number, line_tokens}
 
 -- spaces and tabs, or nothing

@@ -5,13 +5,13 @@ use Rattle.std.specs.Fmt.{signed_decimal}
 use Rattle.viz_kinds.specs.declared.param.Value.{Value}
 use Rattle.viz_kinds.specs.declared.param.Value.TheVariants.{Numbers, Text}
 use Rattle.viz_network.specs.declared.edit.Edit.{Edit}
-use Rattle.viz_network.specs.declared.edit.Edit.TheVariants as edits
+use Rattle.viz_network.specs.declared.edit.Edit.TheVariants as change
 use Rattle.viz_words.specs.declared.command.Command.{Command}
 use Rattle.viz_words.specs.declared.command.Command.TheVariants as command
 use Rattle.viz_words.specs.Words.{spaced}
 use Rattle.viz_words.specs.Tables.{command_word, kind_word, param_word}
-use Rattle.viz_script.specs.Orders.{Asked, edit, load, update, audit}
-use Rattle.viz_script.specs.Script.{Line, silent, begins_phase, asks}
+use Rattle.viz_script.specs.Orders.{Asked, edit, edits, load, update, audit}
+use Rattle.viz_script.specs.Lines.{Line, silent, begins_phase, begins_batch, ends_batch, asks}
 
 -- a word that has one spelling, or a number, which has several
 pub data Token : Type 0 where
@@ -29,20 +29,21 @@ value_tokens (Text text) = exact text ∷ []
 
 -- the tokens of an edit; a script's load is a command of its own
 abbrev pub edit_tokens : Edit → List Token
-edit_tokens (edits.Add kind node) = first_token command.Add ∷ exact
+edit_tokens (change.Add kind node) = first_token command.Add ∷ exact
     (kind_word kind) ∷ exact node ∷ []
-edit_tokens (edits.Remove node) = first_token command.Remove ∷ exact node ∷ []
-edit_tokens (edits.Connect from to port) =
+edit_tokens (change.Remove node) = first_token command.Remove ∷ exact node ∷ []
+edit_tokens (change.Connect from to port) =
     first_token command.Connect ∷ exact from ∷ exact to ∷ number (pos port) ∷ []
-edit_tokens (edits.Disconnect to port) = first_token command.Disconnect ∷ exact to ∷ number
+edit_tokens (change.Disconnect to port) = first_token command.Disconnect ∷ exact to ∷ number
     (pos port) ∷ []
-edit_tokens (edits.Set node param value) =
+edit_tokens (change.Set node param value) =
     first_token command.Set ∷ exact node ∷ exact (param_word param) ∷ value_tokens value
-edit_tokens (edits.Load node file) = []
+edit_tokens (change.Load node file) = []
 
--- the tokens of a command
+-- the tokens of a command; a batch has several lines
 abbrev pub command_tokens : Asked → List Token
 command_tokens (edit e) = edit_tokens e
+command_tokens (edits es) = []
 command_tokens (load node file) = first_token command.Load ∷ exact node ∷ exact file ∷ []
 command_tokens (update node file pieces workers) =
     first_token command.Update ∷ exact node ∷ exact file ∷ number (pos pieces) ∷ number
@@ -50,10 +51,12 @@ command_tokens (update node file pieces workers) =
 command_tokens (audit node pieces workers) =
     first_token command.Audit ∷ exact node ∷ number (pos pieces) ∷ number (pos workers) ∷ []
 
--- the tokens of a line: none, the word phase, or an actor and a command
+-- the tokens of a line: none, the word phase, or an actor and what it does
 abbrev pub line_tokens : Line → List Token
 line_tokens silent = []
 line_tokens begins_phase = exact (codes "phase") ∷ []
+line_tokens (begins_batch actor) = number (pos actor) ∷ first_token command.Begin ∷ []
+line_tokens (ends_batch actor) = number (pos actor) ∷ first_token command.End ∷ []
 line_tokens (asks actor asked) = number (pos actor) ∷ command_tokens asked
 
 -- the plain spelling of a token

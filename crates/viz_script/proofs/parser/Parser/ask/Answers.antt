@@ -5,7 +5,8 @@ use Rattle.viz_script.specs.Orders.{seen, edit}
 use Rattle.viz_script.specs.Lines.{Line, asks}
 use Rattle.viz_script.specs.Batches.{standing, open_behind}
 use Rattle.viz_script.specs.Steps.Parser.{batch_of, edits_of, IsRead}
-use Rattle.viz_script.proofs.ParserLemmas.{adds, stands, stands-alone, stands-edit, counted-none, counted-some}
+use Rattle.viz_script.proofs.BatchLemmas.{stands-alone, stands-edit}
+use Rattle.viz_script.proofs.ParserLemmas.{adds, stands, counted-none, counted-some}
 use Rattle.viz_script.proofs.parser.Parser.ask.Goals as goal
 
 pub returns-in_ok-push-in-None-default : goal.returns-in_ok-push-in-None-default

@@ -3,7 +3,8 @@ use Rattle.viz_script.specs.declared.parser.OpenStep.{OpenStep}
 use Rattle.viz_script.specs.declared.parser.OpenBatch.{OpenBatch}
 use Rattle.viz_script.specs.Lines.{begins_batch}
 use Rattle.viz_script.specs.Steps.Parser.{batch_of, edits_of}
-use Rattle.viz_script.proofs.ParserLemmas.{begins, stands-begin, counted-none}
+use Rattle.viz_script.proofs.BatchLemmas.{stands-begin}
+use Rattle.viz_script.proofs.ParserLemmas.{begins, counted-none}
 use Rattle.viz_script.proofs.parser.Parser.begin.Goals as goal
 
 pub returns : goal.returns

@@ -4,7 +4,8 @@ use Rattle.viz_script.specs.declared.order.Order.TheVariants.{DoAll}
 use Rattle.viz_script.specs.Orders.{edits}
 use Rattle.viz_script.specs.Lines.{ends_batch}
 use Rattle.viz_script.specs.Steps.Parser.{batch_of, edits_of, index_of}
-use Rattle.viz_script.proofs.ParserLemmas.{ends, stands-end}
+use Rattle.viz_script.proofs.BatchLemmas.{stands-end}
+use Rattle.viz_script.proofs.ParserLemmas.{ends}
 use Rattle.viz_script.proofs.parser.Parser.end.Goals as goal
 
 pub fill-requires : goal.fill-requires
