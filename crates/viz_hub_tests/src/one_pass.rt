@@ -87,7 +87,11 @@ fn radius(node: Word, radius: i64) -> Edit {
 }
 
 fn refused(refusal: Refusal, at: u32) -> EditAnswer {
-    EditAnswer::Refused { index: 1, refusal, at }
+    EditAnswer::Refused {
+        index: 1,
+        refusal,
+        at,
+    }
 }
 
 fn wants(rt: &impl Abort, actor: &mut Actor, edit: Edit, want: EditAnswer) {
