@@ -4,5 +4,8 @@ pub mod ReadLemmas
 pub mod OnlyLemmas
 pub mod SolidLemmas
 pub mod AgainLemmas
+pub mod BatchLemmas
+pub mod FitLemmas
+pub mod EntriesLemmas
 pub mod LineLemmas
 pub mod WholeLemmas

@@ -1,5 +1,5 @@
 -- A line that is written says what it was written of.
-use Rattle.std.proofs.Common.{◌≡◌, ℕ, ℤ, pos, ◌^◌, ◌<◌, ◌≤◌, true, false, cond, ◌&&◌, nat_le, List, [], ◌∷◌, ◌++◌, length, Option, Result, Ok, refl, sym, ap, ◌∙◌, arith}
+use Rattle.std.proofs.Common.{◌≡◌, ℕ, ℤ, pos, ◌^◌, ◌<◌, ◌≤◌, true, false, cond, ◌&&◌, nat_le, List, [], ◌∷◌, ◌++◌, length, append_assoc, flat_map, Option, Result, Ok, refl, sym, ap, ◌∙◌, arith}
 use Rattle.std.specs.Prelude.{codes, ok_or}
 use Rattle.std.specs.List.{list_all, AllByRecursion}
 use Rattle.std.specs.Fmt.{decimal}
@@ -20,7 +20,7 @@ use Rattle.viz_words.specs.declared.command.Verb.{Verb}
 use Rattle.viz_words.specs.declared.command.Verb.TheVariants as verb
 use Rattle.viz_words.specs.Gives.{◌>>=◌, guard}
 use Rattle.viz_words.specs.Lines.{is_plain}
-use Rattle.viz_words.specs.Words.{words_of, spaced}
+use Rattle.viz_words.specs.Words.{words_of, behind_space, spaced}
 use Rattle.viz_words.specs.Numbers.{number_in, natural_in}
 use Rattle.viz_words.specs.Names.{is_node_name, named_in}
 use Rattle.viz_words.specs.Tables.{command_word, kind_word, param_word}
@@ -28,11 +28,14 @@ use Rattle.viz_words.specs.Commands.{kind_verb, param_verb, verb_of, due, one, t
 use Rattle.viz_words.specs.Edits.{add_in, remove_in, connect_in, disconnect_in, value_set_in}
 use Rattle.viz_journal.specs.declared.draft.Draft.{Draft}
 use Rattle.viz_journal.specs.declared.draft.Draft.TheVariants as draft
-use Rattle.viz_journal.specs.declared.draft.Told.{Told}
-use Rattle.viz_journal.specs.declared.draft.Line.TheVariants as line
-use Rattle.viz_journal.specs.declared.entry.JournalEntry.{JournalEntry}
-use Rattle.viz_journal.specs.Journal.{value_words, edit_words, entry_line, last_line}
-use Rattle.viz_journal.specs.Lines.{greatest, journal_verb, load_draft, draft_in, told_in, last_in, entry_in, words_in, line_in}
+use Rattle.viz_journal.specs.declared.line.Told.{Told}
+use Rattle.viz_journal.specs.declared.line.Head.{Head}
+use Rattle.viz_journal.specs.declared.line.Line.{Line}
+use Rattle.viz_journal.specs.declared.line.Line.TheVariants as line
+use Rattle.viz_journal.specs.declared.version.Version.{Version}
+use Rattle.viz_journal.specs.declared.version.Version.TheVariants as version
+use Rattle.viz_journal.specs.Journal.{value_words, edit_words, edit_line, batch_line, lead, last_line}
+use Rattle.viz_journal.specs.Lines.{greatest, journal_verb, load_draft, draft_in, commanded, draft_words, draft_of, told_in, head_in, last_in, entry_in, words_in, line_in}
 use Rattle.viz_journal.specs.Fits.{FitsEdit}
 use Rattle.viz_journal.proofs.SolidLemmas.{and-parts, Solid, solid-node, solid-array, solid-decimal, words-again, plain-again, number-decimal, natural-again}
 use Rattle.viz_journal.proofs.AgainLemmas.{named-again, param-again, kind-solid, param-solid, value-again}
@@ -54,8 +57,8 @@ draft_for (edit.Disconnect to port) = draft.Edit (edit.Disconnect to port)
 draft_for (edit.Set node param value) = draft.Edit (edit.Set node param value)
 draft_for (edit.Load node file) = draft.Load node (pos (length file))
 
-abbrev pub told_for : JournalEntry → Told
-told_for e = record { actor = e.actor; count = e.count; draft = draft_for e.edit }
+abbrev pub told_for : ℕ → ℕ → Edit → Told
+told_for actor count e = record { actor = actor; count = count; draft = draft_for e }
 
 -- the words behind the command
 abbrev tail_words : Edit → List (List ℕ)
@@ -168,7 +171,33 @@ draft-again (edit.Set node param value) f v =
     ap (λ (r : Result Edit ScriptRefusal). r >>= λ e. Ok (draft.Edit e)) (set-again param node (param_word param) (value_words value) value f.0 a.0 a.1)
 draft-again (edit.Load node file) f v = load-again node (length file) f.0 f.1
 
--- the words of an entry tell it
+-- the words of an edit
+words-solid : (e : Edit) → FitsEdit e → HasValue e → AllByRecursion Solid (head_word e ∷ tail_words e)
+words-solid e f v = (head-solid e, tail-solid e f v)
+
+commanded-again : (e : Edit) → FitsEdit e → HasValue e → commanded (head_word e) (tail_words e) ≡ Ok (draft_for e)
+unfolding commanded
+commanded-again e f v =
+    let next : Verb → Result Draft ScriptRefusal = λ known. draft_in known (tail_words e) in
+    ap (λ (r : Result Verb ScriptRefusal). r >>= λ any. journal_verb any >>= next) (ap verb_of (sym (words-are e)) ∙ verb-again e f)
+    ∙ ap (λ (r : Result Verb ScriptRefusal). r >>= next) (verb-stands e)
+    ∙ draft-again e f v
+
+-- the line of an edit of a batch tells it
+pub edit-again : (e : Edit) → FitsEdit e → HasValue e → (is_plain (edit_line e) ≡ true) × (draft_of (edit_line e) ≡ Ok (draft_for e))
+edit-again e f v =
+    let head = head_word e in
+    let tail = tail_words e in
+    let same : edit_line e ≡ spaced (head ∷ tail) = ap spaced (words-are e) in
+    let plain : is_plain (edit_line e) ≡ true = ap is_plain same ∙ plain-again head tail (head-solid e) (tail-solid e f v) in (
+      plain,
+      ap (λ t. guard t refusal.Word >>= λ p. draft_words (words_of (edit_line e))) plain
+          ∙ ap (λ l. draft_words (words_of l)) same
+          ∙ ap draft_words (words-again head tail (head-solid e) (tail-solid e f v))
+          ∙ commanded-again e f v,
+    )
+
+-- the words of an entry of version 1 tell it
 told-words : (a c : ℕ) (words tail : List (List ℕ)) (head : List ℕ) (v : Verb) (d : Draft) → words ≡ head ∷ tail → verb_of words ≡ Ok v → journal_verb v ≡ Ok v
     → draft_in v tail ≡ Ok d → a < 2 ^ 32 → c < 2 ^ 32 → told_in (decimal a) (decimal c ∷ words) ≡ Ok (record { actor = a; count = c; draft = d })
 unfolding told_in
@@ -194,38 +223,73 @@ not-end (b ∷ bs) some digits =
     let high : b ≤ 57 = leb-true b 57 digit.1 in
     ap (λ x. x && is_text bs (codes "nd")) (ne_eqb b 101 (λ e. omega arith))
 
--- the line of an entry tells it
-pub line-again : (e : JournalEntry) → e.actor < 2 ^ 32 → e.count < 2 ^ 32 → FitsEdit e.edit → HasValue e.edit
-    → (is_plain (entry_line e) ≡ true) × (line_in (entry_line e) ≡ Ok (line.Entry (told_for e)))
-line-again e small_a small_c fits valued =
-    let words = edit_words e.edit in
-    let solid_a = solid-decimal e.actor (omega (arith, small_a)) in
-    let solid_words : AllByRecursion Solid words = rw (words-are e.edit) (head-solid e.edit, tail-solid e.edit fits valued) in
-    let solid_rest : AllByRecursion Solid (decimal e.count ∷ words) = (solid-decimal e.count (omega (arith, small_c)), solid_words) in
-    let written = IsWritten-decimal e.actor (omega (arith, small_a)) in
-    let told = told-words e.actor e.count words (tail_words e.edit) (head_word e.edit) (verb_for e.edit) (draft_for e.edit) (words-are e.edit) (verb-again e.edit fits) (verb-stands e.edit)
-    (draft-again e.edit fits valued) small_a small_c in
-    let plain = plain-again (decimal e.actor) (decimal e.count ∷ words) solid_a solid_rest in (
+-- an edit's line behind an actor and a count
+lead-spaced : (a c : ℕ) (words tail : List (List ℕ)) (head : List ℕ) → words ≡ head ∷ tail → lead a c ++ spaced words ≡ spaced (decimal a ∷ decimal c ∷ head ∷ tail)
+lead-spaced a c words tail head are =
+    let x = decimal a in
+    let y = decimal c in
+    let z = head ++ flat_map behind_space tail in
+    ap (λ ws. lead a c ++ spaced ws) are ∙ append_assoc (x ++ 32 ∷ (y ++ [])) (32 ∷ []) z ∙ ap (λ l. (x ++ 32 ∷ l) ++ 32 ∷ z) (append-nil y) ∙ append_assoc x (32 ∷ y) (32 ∷ z)
+
+-- a line of words that begins with a number tells an entry
+entry-line : (v : Version) (text : List ℕ) (a : ℕ) (words : List (List ℕ)) (l : Line) → text ≡ spaced (decimal a ∷ words) → a < 2 ^ 32 → AllByRecursion Solid words
+    → entry_in v (decimal a) words ≡ Ok l → (is_plain text ≡ true) × (line_in v text ≡ Ok l)
+entry-line v text a words l same small solid says =
+    let solid_a = solid-decimal a (omega (arith, small)) in
+    let written = IsWritten-decimal a (omega (arith, small)) in
+    let plain : is_plain text ≡ true = ap is_plain same ∙ plain-again (decimal a) words solid_a solid in (
       plain,
-      ap (λ t. guard t refusal.Word >>= λ p. words_in (words_of (entry_line e))) plain
-          ∙ ap words_in (words-again (decimal e.actor) (decimal e.count ∷ words) solid_a solid_rest)
-          ∙ ap (λ t. cond t (last_in (decimal e.count ∷ words)) (entry_in (decimal e.actor) (decimal e.count ∷ words))) (not-end (decimal e.actor) written.some written.digits)
-          ∙ ap (λ (r : Result Told ScriptRefusal). r >>= λ t. Ok (line.Entry t)) told,
+      ap (λ t. guard t refusal.Word >>= λ p. words_in v (words_of text)) plain
+          ∙ ap (λ t. words_in v (words_of t)) same
+          ∙ ap (words_in v) (words-again (decimal a) words solid_a solid)
+          ∙ ap (λ t. cond t (last_in words) (entry_in v (decimal a) words)) (not-end (decimal a) written.some written.digits)
+          ∙ says,
     )
+
+-- the line of an entry of version 1 tells it
+pub single-again : (a c : ℕ) (e : Edit) → a < 2 ^ 32 → c < 2 ^ 32 → FitsEdit e → HasValue e
+    → (is_plain (lead a c ++ edit_line e) ≡ true) × (line_in version.One (lead a c ++ edit_line e) ≡ Ok (line.Single (told_for a c e)))
+single-again a c e small_a small_c fits valued =
+    let words = head_word e ∷ tail_words e in
+    let told = told-words a c words (tail_words e) (head_word e) (verb_for e) (draft_for e) refl (ap verb_of (sym (words-are e)) ∙ verb-again e fits) (verb-stands e)
+    (draft-again e fits valued) small_a small_c in
+    entry-line version.One (lead a c ++ edit_line e) a (decimal c ∷ words) (line.Single (told_for a c e)) (lead-spaced a c (edit_words e) (tail_words e) (head_word e) (words-are e)) small_a
+    (solid-decimal c (omega (arith, small_c)), words-solid e fits valued) (ap (λ (r : Result Told ScriptRefusal). r >>= λ t. Ok (line.Single t)) told)
+
+abbrev pub head_for : ℕ → ℕ → ℕ → Head
+head_for actor count edits = record { actor = actor; count = count; edits = edits }
+
+head-words : (a c n : ℕ) → a < 2 ^ 32 → c < 2 ^ 32 → 1 ≤ n → n ≤ 64 → head_in (decimal a) (decimal c ∷ decimal n ∷ []) ≡ Ok (head_for a c n)
+unfolding head_in two one
+head-words a c n small_a small_c some few =
+    let s3 : ℕ → ℕ → Result Head ScriptRefusal = λ count edits. natural_in 0 greatest (decimal a) >>= λ actor. Ok (head_for actor count edits) in
+    let s2 : ℕ → Result Head ScriptRefusal = λ count. natural_in 1 64 (decimal n) >>= s3 count in
+    let s1 : Result Head ScriptRefusal = natural_in 0 greatest (decimal c) >>= s2 in
+    ap (λ (o : Option ℤ). ok_or o refusal.Word >>= λ number. s1) (number-decimal a (omega (arith, small_a)))
+    ∙ ap (λ (r : Result ℕ ScriptRefusal). r >>= s2) (natural-again 0 greatest c (omega arith) (omega (arith, small_c)) (omega arith))
+    ∙ ap (λ (r : Result ℕ ScriptRefusal). r >>= s3 c) (natural-again 1 64 n some few (omega arith))
+    ∙ ap (λ (r : Result ℕ ScriptRefusal). r >>= λ actor. Ok (head_for actor c n)) (natural-again 0 greatest a (omega arith) (omega (arith, small_a)) (omega arith))
+
+-- the line in front of a batch tells it
+pub head-again : (a c n : ℕ) → a < 2 ^ 32 → c < 2 ^ 32 → 1 ≤ n → n ≤ 64
+    → (is_plain (batch_line a c n) ≡ true) × (line_in version.Two (batch_line a c n) ≡ Ok (line.Batch (head_for a c n)))
+head-again a c n small_a small_c some few =
+    entry-line version.Two (batch_line a c n) a (decimal c ∷ decimal n ∷ []) (line.Batch (head_for a c n)) refl small_a
+    (solid-decimal c (omega (arith, small_c)), (solid-decimal n (omega (arith, few)), tt)) (ap (λ (r : Result Head ScriptRefusal). r >>= λ h. Ok (line.Batch h)) (head-words a c n small_a small_c some few))
 
 -- the last line as words
 last-spaced : (m : ℕ) → last_line m ≡ spaced (codes "end" ∷ decimal m ∷ [])
 last-spaced m = ap (λ l. codes "end " ++ l) (sym (append-nil (decimal m)))
 
 -- the last line tells how many entries there are
-pub last-again : (m : ℕ) → m < 2 ^ 32 → (is_plain (last_line m) ≡ true) × (line_in (last_line m) ≡ Ok (line.Last m))
+pub last-again : (v : Version) (m : ℕ) → m < 2 ^ 32 → (is_plain (last_line m) ≡ true) × (line_in v (last_line m) ≡ Ok (line.Last m))
 unfolding last_in one
-last-again m small =
+last-again v m small =
     let solid_end : Solid (codes "end") = solid-array _ refl in
     let solid_m : AllByRecursion Solid (decimal m ∷ []) = (solid-decimal m (omega (arith, small)), tt) in
     let plain : is_plain (last_line m) ≡ true = ap is_plain (last-spaced m) ∙ plain-again (codes "end") (decimal m ∷ []) solid_end solid_m in
     let words : words_of (last_line m) ≡ codes "end" ∷ decimal m ∷ [] = ap words_of (last-spaced m) ∙ words-again (codes "end") (decimal m ∷ []) solid_end solid_m in (
       plain,
-      ap (λ t. guard t refusal.Word >>= λ p. words_in (words_of (last_line m))) plain ∙ ap words_in words
+      ap (λ t. guard t refusal.Word >>= λ p. words_in v (words_of (last_line m))) plain ∙ ap (words_in v) words
           ∙ ap (λ (r : Result ℕ ScriptRefusal). r >>= λ count. Ok (line.Last count)) (natural-again 0 greatest m (omega arith) (omega (arith, small)) (omega arith)),
     )

@@ -1,9 +1,11 @@
--- What is read as a journal is the text of its entries.
-use Rattle.std.proofs.Common.{◌≡◌, ℕ, zero, suc, ◌+◌, Bool, true, false, cond, not, ◌&&◌, nat_eq, true≢false, List, [], ◌∷◌, ◌++◌, length, take, drop, append_assoc, flat_map, Result, Ok, Err, refl, sym, ap, ◌∙◌, eqb-true}
+-- What a reader gave tells what it read.
+use Rattle.std.proofs.Common.{◌≡◌, ℕ, ◌+◌, ◌≤◌, Bool, true, false, cond, ◌&&◌, nat_eq, nat_le, true≢false, List, [], ◌∷◌, ◌++◌, length, take, drop, append_assoc, Result, Ok, Err, refl, sym, ap, subst, ◌∙◌, eqb-true}
 use Rattle.std.specs.Prelude.{◌==◌}
 use Rattle.std.specs.Cmp.Lexicographic.{pointwise}
-use Rattle.std.proofs.lemmas.List.{append-nil, take-append-drop, drop-drop}
+use Rattle.std.proofs.lemmas.Bool.{leb-true}
+use Rattle.std.proofs.lemmas.List.{take-append-drop, drop-drop}
 use Rattle.viz_kinds.specs.Values.{is_text}
+use Rattle.viz_network.specs.declared.edit.Edit.{Edit}
 use Rattle.viz_network.specs.declared.edit.Edit.TheVariants as edit
 use Rattle.viz_words.specs.declared.refusal.ScriptRefusal.{ScriptRefusal}
 use Rattle.viz_words.specs.declared.refusal.ScriptRefusal.TheVariants as refusal
@@ -11,13 +13,14 @@ use Rattle.viz_words.specs.Gives.{◌>>=◌, guard}
 use Rattle.viz_words.specs.Lines.{begins_newline}
 use Rattle.viz_journal.specs.declared.draft.Draft.{Draft}
 use Rattle.viz_journal.specs.declared.draft.Draft.TheVariants as draft
-use Rattle.viz_journal.specs.declared.draft.Line.{Line}
-use Rattle.viz_journal.specs.declared.draft.Line.TheVariants as line
-use Rattle.viz_journal.specs.declared.draft.Told.{Told}
+use Rattle.viz_journal.specs.declared.line.Head.{Head}
 use Rattle.viz_journal.specs.declared.entry.JournalEntry.{JournalEntry}
-use Rattle.viz_journal.specs.Journal.{entry_line, entry_text, file_text, first_line, last_line, journal}
-use Rattle.viz_journal.specs.Lines.{size, line_in}
-use Rattle.viz_journal.specs.Reading.{Part, part_of, in_line, is_there, is_closed, rest_of, edit_of, entry_of, is_counted, is_spelled, is_accepted, entry_at, ends, last_at, entered, judged, journal_from, journal_read}
+use Rattle.viz_journal.specs.Journal.{edit_line, file_text, batch_line}
+use Rattle.viz_journal.specs.Lines.{size}
+use Rattle.viz_journal.specs.Parts.{Part, part_of, in_line, is_there, is_closed, rest_of, edit_of}
+use Rattle.viz_journal.specs.Entries.{edit_limit, edits_of, entries_by, is_counted, is_accepted}
+use Rattle.viz_journal.specs.Edits.{is_spelled, edit_at}
+use Rattle.viz_journal.specs.Reading.{head_at}
 
 -- texts that compare alike are one
 pub same-text : (xs ys : List ℕ) → pointwise nat_eq xs ys ≡ true → xs ≡ ys
@@ -31,14 +34,19 @@ same-text (x ∷ xs) (y ∷ ys) h = by (nat_eq x y) refl h (same-text xs ys)
     by false e p rest = absurd (true≢false (sym p))
 
 -- both hold
-both : (a b : Bool) → (a && b) ≡ true → (a ≡ true) × (b ≡ true)
+pub both : (a b : Bool) → (a && b) ≡ true → (a ≡ true) × (b ≡ true)
 both true b h = (refl, h)
 both false b h = absurd (true≢false (sym h))
 
 -- a step that went on
-guarded : {A : Type 0} (test : Bool) (r : ScriptRefusal) (next : Result A ScriptRefusal) (x : A) → (guard test r >>= λ t. next) ≡ Ok x → (test ≡ true) × (next ≡ Ok x)
+pub guarded : {A : Type 0} (test : Bool) (r : ScriptRefusal) (next : Result A ScriptRefusal) (x : A) → (guard test r >>= λ t. next) ≡ Ok x → (test ≡ true) × (next ≡ Ok x)
 guarded true r next x h = (refl, h)
 guarded false r next x h = let bad : ⊥ = cc in absurd bad
+
+-- a step that gave a value, and what the next made of it
+pub bind-ok : {A B : Type 0} (r : Result A ScriptRefusal) (next : A → Result B ScriptRefusal) (y : B) → (r >>= next) ≡ Ok y → (x : A) × (r ≡ Ok x) × (next x ≡ Ok y)
+bind-ok (Ok x) next y h = (x, refl, h)
+bind-ok (Err e) next y h = let bad : ⊥ = cc h in absurd bad
 
 -- the line in front, a newline, and the rest
 pub part-is : (bytes : List ℕ) → (part_of bytes).ended ≡ true → bytes ≡ (part_of bytes).line ++ 10 ∷ (part_of bytes).rest
@@ -71,91 +79,57 @@ file-is (draft.Load node len) rest h =
     sym (take-append-drop n rest) ∙ ap (λ l. take n rest ++ l) (newline-is (drop n rest) h ∙ ap (λ l. 10 ∷ l) (drop-drop 1 n rest))
     ∙ sym (append_assoc (take n rest) (10 ∷ []) (drop (n + 1) rest))
 
--- an entry that was told is written so
-entry-is : (before : List JournalEntry) (part : Part) (told : Told) (e : JournalEntry) → entry_at before part told ≡ Ok e
-    → (part.ended ≡ true) × (part.line ≡ entry_line e) × (part.rest ≡ file_text e.edit ++ rest_of told.draft part.rest)
-unfolding entry_at
-entry-is before part told e h =
-    let a = guarded (is_counted told before) refusal.Number _ e h in
-    let b = guarded (is_there told.draft part.rest) refusal.Number _ e a.1 in
-    let d = guarded (is_spelled told part) refusal.Word _ e b.1 in
-    let f = guarded (is_accepted (edit_of told.draft part.rest) before) refusal.Edit _ e d.1 in
-    let same : entry_of told part.rest ≡ e = cc f.1 in
-    let two = both (part.ended && is_closed told.draft part.rest) (is_text part.line (entry_line (entry_of told part.rest))) d.0 in
-    let one = both part.ended (is_closed told.draft part.rest) two.0 in (
-      one.0,
-      same-text part.line (entry_line (entry_of told part.rest)) two.1 ∙ ap entry_line same,
-      file-is told.draft part.rest one.1 ∙ ap (λ (x : JournalEntry). file_text x.edit ++ rest_of told.draft part.rest) same,
-    )
+-- a line that is spelled so, with its newline
+pub spelled-is : (part : Part) (line : List ℕ) → is_spelled part line ≡ true → (part.ended ≡ true) × (part.line ≡ line)
+spelled-is part line h = let parts = both part.ended (is_text part.line line) h in (parts.0, same-text part.line line parts.1)
 
--- the last line with its newline
-abbrev tail_of : List JournalEntry → List ℕ
-tail_of entries = last_line (length entries) ++ 10 ∷ []
+-- what is known of an edit that was read from a line
+pub record IsRead (before : List Edit) (front : List ℕ) (part : Part) (d : Draft) (e : Edit) : Type 0 where
+  pub ended : part.ended ≡ true
+  pub line : part.line ≡ front ++ edit_line e
+  pub rest : part.rest ≡ file_text e ++ rest_of d part.rest
+  pub accepted : is_accepted before e ≡ true
+  pub edit : edit_of d part.rest ≡ e
 
--- the last line ends the journal
-last-is : (n : ℕ) (before entries : List JournalEntry) (part : Part) (count : ℕ) → last_at n before part count ≡ Ok entries
-    → (entries ≡ before) × (part.ended ≡ true) × (part.line ++ 10 ∷ part.rest ≡ tail_of before)
-last-is n before entries part count h = by (count == length before) refl (part.ended && is_text part.line (last_line count)) refl part.rest refl h
-  where
-    by : (t : Bool) → (count == length before) ≡ t → (u : Bool) → (part.ended && is_text part.line (last_line count)) ≡ u → (rest : List ℕ) → part.rest ≡ rest
-        → cond (not t) (Err (n, refusal.Number)) (cond (not u) (Err (n, refusal.Word)) (ends (n + 1) before rest)) ≡ Ok entries
-        → (entries ≡ before) × (part.ended ≡ true) × (part.line ++ 10 ∷ part.rest ≡ tail_of before)
-    by false p u q rest r f = let bad : ⊥ = cc in absurd bad
-    by true p false q rest r f = let bad : ⊥ = cc in absurd bad
-    by true p true q (b ∷ bs) r f = let bad : ⊥ = cc in absurd bad
-    by true p true q [] r f =
-        let parts = both part.ended (is_text part.line (last_line count)) q in
-        let many : count ≡ length before = eqb-true count (length before) p in
-        let same : before ≡ entries = cc f in
-        (sym same, parts.0, ap (λ l. l ++ 10 ∷ part.rest) (same-text part.line (last_line count) parts.1 ∙ ap last_line many) ∙ ap (λ l. last_line (length before) ++ 10 ∷ l) r)
+-- an edit that was read is written so
+pub edit-is : (before : List Edit) (front : List ℕ) (part : Part) (d : Draft) (e : Edit) → edit_at before front part d ≡ Ok e → IsRead before front part d e
+unfolding edit_at
+edit-is before front part d e h =
+    let a = guarded (is_there d part.rest) refusal.Number _ e h in
+    let b = guarded (is_closed d part.rest) refusal.Word _ e a.1 in
+    let s = guarded (is_spelled part (front ++ edit_line (edit_of d part.rest))) refusal.Word _ e b.1 in
+    let f = guarded (is_accepted before (edit_of d part.rest)) refusal.Edit _ e s.1 in
+    let same : edit_of d part.rest ≡ e = cc f.1 in
+    let spelled = spelled-is part (front ++ edit_line (edit_of d part.rest)) s.0 in
+    record {
+      ended = spelled.0;
+      line = spelled.1 ∙ ap (λ (x : Edit). front ++ edit_line x) same;
+      rest = file-is d part.rest b.0 ∙ ap (λ (x : Edit). file_text x ++ rest_of d part.rest) same;
+      accepted = ap (λ (x : Edit). is_accepted before x) (sym same) ∙ f.0;
+      edit = same;
+    }
 
--- what follows some entries is the text of further ones, and the last line
-pub only-from : (k n : ℕ) (before : List JournalEntry) (bytes : List ℕ) (entries : List JournalEntry) → journal_from k n before bytes ≡ Ok entries
-    → (added : List JournalEntry) × (entries ≡ before ++ added) × (bytes ≡ flat_map entry_text added ++ tail_of entries)
-unfolding journal_from
-only-from zero n before bytes entries h = let bad : ⊥ = cc in absurd bad
-only-from (suc k) n before bytes entries h = by (line_in (part_of bytes).line) h (only-from k (n + 1))
-  where
-    more : (told : Told) (e : JournalEntry) → entry_at before (part_of bytes) told ≡ Ok e
-        → (added : List JournalEntry) × (entries ≡ (before ++ e ∷ []) ++ added) × (rest_of told.draft (part_of bytes).rest ≡ flat_map entry_text added ++ tail_of entries)
-        → (added : List JournalEntry) × (entries ≡ before ++ added) × (bytes ≡ flat_map entry_text added ++ tail_of entries)
-    more told e made later =
-        let part = part_of bytes in
-        let is = entry-is before part told e made in
-        let rest = flat_map entry_text later.0 ++ tail_of entries in (
-          e ∷ later.0,
-          later.1 ∙ append_assoc before (e ∷ []) later.0,
-          part-is bytes is.0 ∙ ap (λ l. l ++ 10 ∷ part.rest) is.1
-              ∙ ap (λ l. entry_line e ++ 10 ∷ l) (is.2 ∙ ap (λ l. file_text e.edit ++ l) later.2)
-              ∙ sym (append_assoc (entry_text e) (flat_map entry_text later.0) (tail_of entries) ∙ append_assoc (entry_line e) (10 ∷ file_text e.edit) rest),
-        )
+-- the count is the next one of its actor, and there is room for so many edits
+pub counted-is : (actor count many : ℕ) (entries : List JournalEntry) → is_counted actor count many entries ≡ true
+    → (count ≡ entries_by actor entries + 1) × (length (edits_of entries) + many ≤ edit_limit)
+counted-is actor count many entries h =
+    let parts = both (count == entries_by actor entries + 1) (nat_le (length (edits_of entries) + many) edit_limit) h in
+    (eqb-true count (entries_by actor entries + 1) parts.0, leb-true (length (edits_of entries) + many) edit_limit parts.1)
 
-    step : (told : Told) (r : Result JournalEntry ScriptRefusal) → entry_at before (part_of bytes) told ≡ r
-        → entered n (journal_from k (n + 1)) before r (rest_of told.draft (part_of bytes).rest) ≡ Ok entries
-        → ((before : List JournalEntry) (bytes : List ℕ) (entries : List JournalEntry) → journal_from k (n + 1) before bytes ≡ Ok entries
-        → (added : List JournalEntry) × (entries ≡ before ++ added) × (bytes ≡ flat_map entry_text added ++ tail_of entries))
-        → (added : List JournalEntry) × (entries ≡ before ++ added) × (bytes ≡ flat_map entry_text added ++ tail_of entries)
-    step told (Err r) made f ih = let bad : ⊥ = cc in absurd bad
-    step told (Ok e) made f ih = more told e made (ih (before ++ e ∷ []) (rest_of told.draft (part_of bytes).rest) entries f)
+-- what is known of the line in front of a batch that was read
+pub record IsHead (entries : List JournalEntry) (part : Part) (h : Head) : Type 0 where
+  pub count : h.count ≡ entries_by h.actor entries + 1
+  pub few : length (edits_of entries) + h.edits ≤ edit_limit
+  pub ended : part.ended ≡ true
+  pub line : part.line ≡ batch_line h.actor h.count h.edits
 
-    by : (said : Result Line ScriptRefusal) → judged n (journal_from k (n + 1)) before (part_of bytes) said ≡ Ok entries
-        → ((before : List JournalEntry) (bytes : List ℕ) (entries : List JournalEntry) → journal_from k (n + 1) before bytes ≡ Ok entries
-        → (added : List JournalEntry) × (entries ≡ before ++ added) × (bytes ≡ flat_map entry_text added ++ tail_of entries))
-        → (added : List JournalEntry) × (entries ≡ before ++ added) × (bytes ≡ flat_map entry_text added ++ tail_of entries)
-    by (Err r) f ih = let bad : ⊥ = cc in absurd bad
-    by (Ok (line.Last count)) f ih =
-        let is = last-is n before entries (part_of bytes) count f in
-        ([], is.0 ∙ sym (append-nil before), part-is bytes is.1 ∙ is.2 ∙ ap tail_of (sym is.0))
-    by (Ok (line.Entry told)) f ih = step told (entry_at before (part_of bytes) told) refl f ih
-
-pub only : (bytes : List ℕ) (entries : List JournalEntry) → journal_read bytes ≡ Ok entries → bytes ≡ journal entries
-only bytes entries h = by (is_text (take 17 bytes) first_line) refl h
-  where
-    by : (t : Bool) → is_text (take 17 bytes) first_line ≡ t → cond t (journal_from (length (drop 17 bytes)) 2 [] (drop 17 bytes)) (Err (1, refusal.Word)) ≡ Ok entries → bytes ≡ journal entries
-    by false p f = let bad : ⊥ = cc in absurd bad
-    by true p f =
-        let is = only-from (length (drop 17 bytes)) 2 [] (drop 17 bytes) entries f in
-        let all : is.0 ≡ entries = sym is.1 in
-        sym (take-append-drop 17 bytes) ∙ ap (λ l. l ++ drop 17 bytes) (same-text (take 17 bytes) first_line p)
-        ∙ ap (λ l. first_line ++ l) (is.2 ∙ ap (λ (es : List JournalEntry). flat_map entry_text es ++ tail_of entries) all)
-        ∙ sym (append_assoc first_line (flat_map entry_text entries) (tail_of entries))
+pub head-is : (entries : List JournalEntry) (part : Part) (head h : Head) → head_at entries part head ≡ Ok h → (head ≡ h) × IsHead entries part h
+unfolding head_at
+head-is entries part head h is =
+    let a = guarded (is_counted head.actor head.count head.edits entries) refusal.Number _ h is in
+    let s = guarded (is_spelled part (batch_line head.actor head.count head.edits)) refusal.Word _ h a.1 in
+    let same : head ≡ h = cc s.1 in
+    let counted = counted-is head.actor head.count head.edits entries a.0 in
+    let spelled = spelled-is part (batch_line head.actor head.count head.edits) s.0 in
+    let known : IsHead entries part head = record { count = counted.0; few = counted.1; ended = spelled.0; line = spelled.1 } in
+    (same, subst (IsHead entries part) same known)

@@ -2,7 +2,7 @@
 use Rattle.std.proofs.Common.{◌≡◌, ℕ, suc, Bool, true, false, cond, List, [], ◌∷◌, take, drop, Option, None, Some, refl, ap, ◌∙◌}
 use Rattle.std.specs.Prelude.{option_map, ◌==◌}
 use Rattle.viz_words.specs.Lines.{line_len}
-use Rattle.viz_journal.specs.Reading.{Part, part_of, in_line}
+use Rattle.viz_journal.specs.Parts.{Part, part_of, in_line}
 
 abbrev pub part : List ℕ → Bool → List ℕ → Part
 part line ended rest = record { line = line; ended = ended; rest = rest }

@@ -14,7 +14,7 @@ use Rattle.viz_words.specs.Numbers.{within, number_of, natural_in}
 use Rattle.viz_words.specs.Lines.{in_front, is_plain_byte, is_plain}
 use Rattle.viz_words.specs.Words.{is_gap, begins_word, words_of, behind_space, spaced}
 use Rattle.viz_words.specs.Names.{is_node_byte, is_array_byte, is_node_name, is_array_name}
-use Rattle.viz_journal.specs.Reading.{part_of, in_line}
+use Rattle.viz_journal.specs.Parts.{part_of, in_line}
 use Rattle.viz_journal.proofs.PartLemmas.{part}
 
 pub and-parts : (a b : Bool) → (a && b) ≡ true → (a ≡ true) × (b ≡ true)

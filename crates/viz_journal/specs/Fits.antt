@@ -1,7 +1,7 @@
 -- Entries that a journal can have (docs/FORMATS.md, "Journals").
-use Rattle.std.specs.Prelude.{◌≡◌, ◌+◌, ◌^◌, ◌<◌, ◌≤◌, true, ◌&&◌, int_le, List, [], ◌∷◌, ◌++◌}
-use Rattle.std.specs.Prelude.{length, Some}
-use Rattle.std.specs.List.{list_all}
+use Rattle.std.specs.Prelude.{◌≡◌, ℕ, ◌+◌, ◌^◌, ◌<◌, ◌≤◌, true, ◌&&◌, int_le, List, [], ◌∷◌}
+use Rattle.std.specs.Prelude.{◌++◌, length, Some}
+use Rattle.std.specs.List.{list_all, AllByRecursion}
 use Rattle.viz_kinds.specs.declared.param.Param.{Param}
 use Rattle.viz_kinds.specs.declared.param.Param.TheVariants as param
 use Rattle.viz_kinds.specs.declared.param.Value.{Value}
@@ -11,8 +11,12 @@ use Rattle.viz_network.specs.declared.edit.Edit.{Edit}
 use Rattle.viz_network.specs.declared.edit.Edit.TheVariants as edit
 use Rattle.viz_words.specs.Names.{is_node_name, is_array_name}
 use Rattle.viz_words.specs.Tables.{kind_word, kind_named}
+use Rattle.viz_batches.specs.Batches.{IsBatch}
 use Rattle.viz_journal.specs.declared.entry.JournalEntry.{JournalEntry}
-use Rattle.viz_journal.specs.Reading.{entry_limit, entries_by, is_accepted}
+use Rattle.viz_journal.specs.declared.version.Version.{Version}
+use Rattle.viz_journal.specs.declared.version.Version.TheVariants as version
+use Rattle.viz_journal.specs.Journal.{journal_in}
+use Rattle.viz_journal.specs.Entries.{edit_limit, edits_of, entries_by, accepts_all}
 
 -- a value of eight numbers of 64 bits, or a text; the array's is a name
 abbrev pub FitsValue : Param → Value → Type 0
@@ -33,20 +37,30 @@ FitsEdit (edit.Disconnect to port) = (is_node_name to ≡ true) × (port < 256)
 FitsEdit (edit.Set node param value) = (is_node_name node ≡ true) × FitsValue param value
 FitsEdit (edit.Load node file) = (is_node_name node ≡ true) × (length file < 2 ^ 63)
 
+-- an entry of version 1 has one edit, one of version 2 a batch
+abbrev pub FitsVersion : Version → List Edit → Type 0
+FitsVersion version.One edits = length edits ≡ 1
+FitsVersion version.Two edits = IsBatch edits
+
 -- an entry may stand behind these: its count is the next one of its actor, and the network accepts
--- its edit
-pub record FitsEntry (before : List JournalEntry) (e : JournalEntry) : Type 0 where
+-- its batch
+pub record FitsEntry (v : Version) (before : List JournalEntry) (e : JournalEntry) : Type 0 where
   pub actor : e.actor < 2 ^ 32
   pub count : e.count ≡ entries_by e.actor before + 1
-  pub edit : FitsEdit e.edit
-  pub accepted : is_accepted e.edit before ≡ true
+  pub version : FitsVersion v e.batch
+  pub edits : AllByRecursion FitsEdit e.batch
+  pub accepted : accepts_all (edits_of before) e.batch ≡ true
 
 -- each entry may stand behind those in front of it
-abbrev pub AreEntries : List JournalEntry → List JournalEntry → Type 0
-AreEntries before [] = Unit {0}
-AreEntries before (e ∷ entries) = FitsEntry before e × AreEntries (before ++ e ∷ []) entries
+abbrev pub AreEntries : Version → List JournalEntry → List JournalEntry → Type 0
+AreEntries v before [] = Unit {0}
+AreEntries v before (e ∷ entries) = FitsEntry v before e × AreEntries v (before ++ e ∷ []) entries
 
--- a journal can have these entries
-pub record Fits (entries : List JournalEntry) : Type 0 where
-  pub few : length entries ≤ entry_limit
-  pub each : AreEntries [] entries
+-- a journal of this version can have these entries
+pub record Fits (v : Version) (entries : List JournalEntry) : Type 0 where
+  pub few : length (edits_of entries) ≤ edit_limit
+  pub each : AreEntries v [] entries
+
+-- the bytes are the text of the entries in a version, whose journals can have them
+abbrev pub IsJournalOf : List ℕ → List JournalEntry → Type 0
+IsJournalOf bytes entries = (v : Version) × (bytes ≡ journal_in v entries) × Fits v entries

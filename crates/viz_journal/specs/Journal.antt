@@ -9,6 +9,8 @@ use Rattle.viz_words.specs.declared.command.Command.TheVariants as command
 use Rattle.viz_words.specs.Words.{spaced}
 use Rattle.viz_words.specs.Tables.{command_word, kind_word, param_word}
 use Rattle.viz_journal.specs.declared.entry.JournalEntry.{JournalEntry}
+use Rattle.viz_journal.specs.declared.version.Version.{Version}
+use Rattle.viz_journal.specs.declared.version.Version.TheVariants.{One, Two}
 
 -- the words of a value
 abbrev pub value_words : Value → List (List ℕ)
@@ -26,31 +28,47 @@ edit_words (edit.Set node param value) =
     command_word command.Set ∷ node ∷ param_word param ∷ value_words value
 edit_words (edit.Load node file) = command_word command.Load ∷ node ∷ decimal (length file) ∷ []
 
--- the words of an entry: its actor, its count, and its edit
-abbrev pub entry_words : JournalEntry → List (List ℕ)
-entry_words e = decimal e.actor ∷ decimal e.count ∷ edit_words e.edit
-
--- the line of an entry, without its newline
-abbrev pub entry_line : JournalEntry → List ℕ
-entry_line e = spaced (entry_words e)
+-- the line of an edit, without its newline
+abbrev pub edit_line : Edit → List ℕ
+edit_line e = spaced (edit_words e)
 
 -- the bytes of a load and a newline
 abbrev pub file_text : Edit → List ℕ
 file_text (edit.Load node file) = file ++ 10 ∷ []
 file_text _ = []
 
--- an entry: its line, and the bytes of a load
-abbrev pub entry_text : JournalEntry → List ℕ
-entry_text e = entry_line e ++ 10 ∷ file_text e.edit
+-- an edit: its line, and the bytes of a load
+abbrev pub edit_text : Edit → List ℕ
+edit_text e = edit_line e ++ 10 ∷ file_text e
+
+-- the line in front of a batch, without its newline: its actor, its count, and how many edits it
+-- has
+abbrev pub batch_line : ℕ → ℕ → ℕ → List ℕ
+batch_line actor count edits = spaced (decimal actor ∷ decimal count ∷ decimal edits ∷ [])
+
+-- what stands in front of an edit on its line in version 1: its actor and its count
+abbrev pub lead : ℕ → ℕ → List ℕ
+lead actor count = spaced (decimal actor ∷ decimal count ∷ []) ++ 32 ∷ []
+
+-- an entry: in version 1 each edit behind its actor and its count, in version 2 the line of its
+-- batch, and its edits
+abbrev pub entry_text : Version → JournalEntry → List ℕ
+entry_text One e = flat_map (λ edit. lead e.actor e.count ++ edit_text edit) e.batch
+entry_text Two e = batch_line e.actor e.count (length e.batch) ++ 10 ∷ flat_map edit_text e.batch
 
 -- the first line with its newline, and the last one without it
-abbrev pub first_line : List ℕ
-first_line = codes "vizrun journal 1\n"
+abbrev pub first_line : Version → List ℕ
+first_line One = codes "vizrun journal 1\n"
+first_line Two = codes "vizrun journal 2\n"
 
 abbrev pub last_line : ℕ → List ℕ
 last_line count = codes "end " ++ decimal count
 
--- a journal: its first line, its entries, and its last line
-abbrev pub journal : List JournalEntry → List ℕ
-journal entries = first_line ++ flat_map entry_text entries
+-- the entries in the text of a version: its first line, the entries, and the last line
+abbrev pub journal_in : Version → List JournalEntry → List ℕ
+journal_in version entries = first_line version ++ flat_map (entry_text version) entries
     ++ (last_line (length entries) ++ 10 ∷ [])
+
+-- a journal
+abbrev pub journal : List JournalEntry → List ℕ
+journal entries = journal_in Two entries

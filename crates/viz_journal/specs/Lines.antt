@@ -14,26 +14,25 @@ use Rattle.viz_words.specs.Numbers.{number_of, number_in, natural_in}
 use Rattle.viz_words.specs.Names.{is_node_name, named_in}
 use Rattle.viz_words.specs.Commands.{verb_of, due, one, two}
 use Rattle.viz_words.specs.Edits.{edit_in}
+use Rattle.viz_batches.specs.Batches.{batch_limit}
 use Rattle.viz_journal.specs.declared.draft.Draft.{Draft}
 use Rattle.viz_journal.specs.declared.draft.Draft.TheVariants as draft
-use Rattle.viz_journal.specs.declared.draft.Told.{Told}
-use Rattle.viz_journal.specs.declared.draft.Line.{Line}
-use Rattle.viz_journal.specs.declared.draft.Line.TheVariants as line
+use Rattle.viz_journal.specs.declared.line.Told.{Told}
+use Rattle.viz_journal.specs.declared.line.Head.{Head}
+use Rattle.viz_journal.specs.declared.line.Line.{Line}
+use Rattle.viz_journal.specs.declared.line.Line.TheVariants as line
+use Rattle.viz_journal.specs.declared.version.Version.{Version}
+use Rattle.viz_journal.specs.declared.version.Version.TheVariants as version
 
--- the greatest number of 32 bits
-abbrev pub greatest : ℕ
-greatest = 4294967295
+-- ---- edits
 
 -- a command that may stand in a journal
 abbrev pub journal_verb : Verb → Result Verb ScriptRefusal
 journal_verb verb.Update = Err refusal.Word
 journal_verb verb.Audit = Err refusal.Word
+journal_verb verb.Begin = Err refusal.Word
+journal_verb verb.End = Err refusal.Word
 journal_verb v = Ok v
-
--- the command behind the first word
-abbrev pub behind_verb : List (List ℕ) → Result Verb ScriptRefusal
-behind_verb [] = Ok verb.Missing
-behind_verb (word ∷ words) = verb_of words
 
 -- NODE LENGTH
 unfoldable pub load_draft : List (List ℕ) → Result Draft ScriptRefusal
@@ -51,6 +50,38 @@ abbrev pub draft_in : Verb → List (List ℕ) → Result Draft ScriptRefusal
 draft_in verb.Load words = load_draft words
 draft_in v words = edit_draft v words
 
+-- the edit of a command and the words behind it
+unfoldable pub commanded : List ℕ → List (List ℕ) → Result Draft ScriptRefusal
+commanded word words = do
+  any ← verb_of (word ∷ words)
+  known ← journal_verb any
+  draft_in known words
+
+-- the edit of the words of a line
+abbrev pub draft_words : List (List ℕ) → Result Draft ScriptRefusal
+draft_words [] = Err refusal.Word
+draft_words (word ∷ words) = commanded word words
+
+-- the edit that a line of a batch says
+abbrev pub draft_of : List ℕ → Result Draft ScriptRefusal
+draft_of text = guard (is_plain text) refusal.Word >>= λ plain. draft_words (words_of text)
+
+-- the number of bytes that a load tells; none below zero
+abbrev pub size : ℤ → ℕ
+size (pos n) = n
+size (negsuc n) = 0
+
+-- ---- entries
+
+-- the greatest number of 32 bits
+abbrev pub greatest : ℕ
+greatest = 4294967295
+
+-- the command behind the first word
+abbrev pub behind_verb : List (List ℕ) → Result Verb ScriptRefusal
+behind_verb [] = Ok verb.Missing
+behind_verb (word ∷ words) = verb_of words
+
 -- ACTOR COUNT and an edit
 unfoldable pub told_in : List ℕ → List (List ℕ) → Result Told ScriptRefusal
 told_in word words = do
@@ -64,6 +95,16 @@ told_in word words = do
   actor ← natural_in 0 greatest word
   Ok (record { actor = actor; count = count; draft = drafted })
 
+-- ACTOR COUNT EDITS
+unfoldable pub head_in : List ℕ → List (List ℕ) → Result Head ScriptRefusal
+head_in word words = do
+  number ← ok_or (number_of word) refusal.Word
+  w ← two words
+  count ← natural_in 0 greatest w.0
+  edits ← natural_in 1 batch_limit w.1
+  actor ← natural_in 0 greatest word
+  Ok (record { actor = actor; count = count; edits = edits })
+
 -- COUNT behind the word end
 unfoldable pub last_in : List (List ℕ) → Result Line ScriptRefusal
 last_in words = do
@@ -71,19 +112,17 @@ last_in words = do
   count ← natural_in 0 greatest word
   Ok (line.Last count)
 
-abbrev pub entry_in : List ℕ → List (List ℕ) → Result Line ScriptRefusal
-entry_in word words = told_in word words >>= λ told. Ok (line.Entry told)
+-- an entry, which in version 1 is an edit, and in version 2 a batch
+abbrev pub entry_in : Version → List ℕ → List (List ℕ) → Result Line ScriptRefusal
+entry_in version.One word words = told_in word words >>= λ told. Ok (line.Single told)
+entry_in version.Two word words = head_in word words >>= λ head. Ok (line.Batch head)
 
 -- what the words of a line say
-abbrev pub words_in : List (List ℕ) → Result Line ScriptRefusal
-words_in [] = Err refusal.Word
-words_in (word ∷ words) = if is_text word (codes "end") then last_in words else entry_in word words
+abbrev pub words_in : Version → List (List ℕ) → Result Line ScriptRefusal
+words_in v [] = Err refusal.Word
+words_in v (word ∷ words) = if is_text word (codes "end") then last_in words
+    else entry_in v word words
 
--- what a line says
-abbrev pub line_in : List ℕ → Result Line ScriptRefusal
-line_in text = guard (is_plain text) refusal.Word >>= λ plain. words_in (words_of text)
-
--- the number of bytes that a load tells; none below zero
-abbrev pub size : ℤ → ℕ
-size (pos n) = n
-size (negsuc n) = 0
+-- what a line says that is none of a batch
+abbrev pub line_in : Version → List ℕ → Result Line ScriptRefusal
+line_in v text = guard (is_plain text) refusal.Word >>= λ plain. words_in v (words_of text)

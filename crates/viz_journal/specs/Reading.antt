@@ -1,110 +1,67 @@
 -- The entries of a journal, or the first refusal of its first line that has one
 -- (docs/FORMATS.md, "Journals").
-use Rattle.std.specs.Prelude.{◌≡◌, ℕ, zero, suc, pos, int_le, ◌+◌, Bool, true, false, not, ◌&&◌}
-use Rattle.std.specs.Prelude.{◌==◌, nat_lt, List, [], ◌∷◌, ◌++◌, map, take, drop, length, count_by}
-use Rattle.std.specs.Prelude.{is_ok, Result, Ok, Err, if◌then◌else◌}
+use Rattle.std.specs.Prelude.{◌≡◌, ℕ, zero, suc, ◌+◌, not, ◌==◌, List, [], ◌∷◌, ◌++◌, take, drop}
+use Rattle.std.specs.Prelude.{length, Option, None, Some, Result, Ok, Err, if◌then◌else◌}
 use Rattle.viz_kinds.specs.Values.{is_text}
-use Rattle.viz_network.specs.declared.edit.Edit.{Edit}
-use Rattle.viz_network.specs.declared.edit.Edit.TheVariants as edit
-use Rattle.viz_network.specs.Edits.{apply}
-use Rattle.viz_network.specs.History.{net_of}
 use Rattle.viz_words.specs.declared.refusal.ScriptRefusal.{ScriptRefusal}
 use Rattle.viz_words.specs.declared.refusal.ScriptRefusal.TheVariants as refusal
 use Rattle.viz_words.specs.declared.refusal.ScriptStop.{ScriptStop}
 use Rattle.viz_words.specs.declared.refusal.ScriptStop.TheVariants.{Refused, Memory}
 use Rattle.viz_words.specs.Gives.{◌>>=◌, guard}
-use Rattle.viz_words.specs.Lines.{begins_newline}
-use Rattle.viz_journal.specs.declared.draft.Draft.{Draft}
-use Rattle.viz_journal.specs.declared.draft.Draft.TheVariants as draft
-use Rattle.viz_journal.specs.declared.draft.Told.{Told}
-use Rattle.viz_journal.specs.declared.draft.Line.{Line}
-use Rattle.viz_journal.specs.declared.draft.Line.TheVariants as line
+use Rattle.viz_journal.specs.declared.line.Told.{Told}
+use Rattle.viz_journal.specs.declared.line.Head.{Head}
+use Rattle.viz_journal.specs.declared.line.Line.{Line}
+use Rattle.viz_journal.specs.declared.line.Line.TheVariants as line
 use Rattle.viz_journal.specs.declared.entry.JournalEntry.{JournalEntry}
-use Rattle.viz_journal.specs.Journal.{entry_line, first_line, last_line}
-use Rattle.viz_journal.specs.Lines.{size, line_in}
+use Rattle.viz_journal.specs.declared.version.Version.{Version}
+use Rattle.viz_journal.specs.declared.version.Version.TheVariants as version
+use Rattle.viz_journal.specs.Journal.{lead, batch_line, first_line, last_line}
+use Rattle.viz_journal.specs.Lines.{line_in}
+use Rattle.viz_journal.specs.Parts.{Part, part_of, rest_of}
+use Rattle.viz_journal.specs.Entries.{edits_of, is_counted, entry}
+use Rattle.viz_journal.specs.Edits.{is_spelled, edit_at, Stop, Batched, batch_from}
 
--- the greatest number of entries
-abbrev pub entry_limit : ℕ
-entry_limit = 1073741824
+-- ---- an entry
 
--- the first line, whether a newline ends it, and what is behind it
-pub record Part : Type 0 where
-  pub line : List ℕ
-  pub ended : Bool
-  pub rest : List ℕ
+-- the entry of version 1 behind these, or its first refusal
+unfoldable pub single_at : List JournalEntry → Part → Told → Result JournalEntry ScriptRefusal
+single_at entries part told = do
+  counted ← guard (is_counted told.actor told.count 1 entries) refusal.Number
+  e ← edit_at (edits_of entries) (lead told.actor told.count) part told.draft
+  Ok (entry told.actor told.count (e ∷ []))
 
-abbrev pub in_line : ℕ → Part → Part
-in_line b part = record { line = b ∷ part.line; ended = part.ended; rest = part.rest }
+-- the line of a batch behind these, or its first refusal
+unfoldable pub head_at : List JournalEntry → Part → Head → Result Head ScriptRefusal
+head_at entries part head = do
+  counted ← guard (is_counted head.actor head.count head.edits entries) refusal.Number
+  spelled ← guard (is_spelled part (batch_line head.actor head.count head.edits)) refusal.Word
+  Ok head
 
-abbrev pub part_of : List ℕ → Part
-part_of [] = record { line = []; ended = false; rest = [] }
-part_of (b ∷ bs) = if b == 10 then record { line = []; ended = true; rest = bs }
-    else in_line b (part_of bs)
+-- what is read behind some entries, from a line of some number on
+abbrev pub Next : Type 0
+Next = ℕ → List JournalEntry → List ℕ → Result (List JournalEntry) Stop
 
--- the bytes of a load are there
-abbrev pub is_there : Draft → List ℕ → Bool
-is_there (draft.Edit e) rest = true
-is_there (draft.Load node len) rest = int_le len (pos (length rest))
+-- the entries with one of version 1 and those behind it
+abbrev pub with_single : ℕ → Next → List JournalEntry → Result JournalEntry ScriptRefusal
+    → List ℕ → Result (List JournalEntry) Stop
+with_single n next entries (Err r) rest = Err (n, r)
+with_single n next entries (Ok e) rest = next (n + 1) (entries ++ e ∷ []) rest
 
--- the edit is a load, which has bytes
-abbrev pub has_bytes : Edit → Bool
-has_bytes (edit.Load node file) = true
-has_bytes _ = false
+-- the entries with one of this batch and those behind it
+abbrev pub with_batch : ℕ → Next → List JournalEntry → Head → Result Batched Stop
+    → Result (List JournalEntry) Stop
+with_batch n next entries head (Err stop) = Err stop
+with_batch n next entries head (Ok read) =
+    next (n + 1 + head.edits) (entries ++ entry head.actor head.count read.0 ∷ []) read.1
 
--- an edit without bytes, or a newline is behind the bytes of a load
-abbrev pub is_closed : Draft → List ℕ → Bool
-is_closed (draft.Edit e) rest = not (has_bytes e)
-is_closed (draft.Load node len) rest = begins_newline (drop (size len) rest)
+-- the same, where a line of this number says so
+abbrev pub with_head : ℕ → Next → List JournalEntry → Result Head ScriptRefusal → List ℕ
+    → Result (List JournalEntry) Stop
+with_head n next entries (Err r) rest = Err (n, r)
+with_head n next entries (Ok head) rest =
+    with_batch n next entries head (batch_from head.edits (n + 1) (edits_of entries) [] rest)
 
--- what is behind the bytes of a load and their newline
-abbrev pub rest_of : Draft → List ℕ → List ℕ
-rest_of (draft.Edit e) rest = rest
-rest_of (draft.Load node len) rest = drop (size len + 1) rest
-
--- the edit, with the bytes of a load
-abbrev pub edit_of : Draft → List ℕ → Edit
-edit_of (draft.Edit e) rest = e
-edit_of (draft.Load node len) rest = edit.Load node (take (size len) rest)
-
--- the entry that was told
-abbrev pub entry_of : Told → List ℕ → JournalEntry
-entry_of told rest =
-    record { actor = told.actor; count = told.count; edit = edit_of told.draft rest }
-
--- how many of the entries are this actor's
-abbrev pub entries_by : ℕ → List JournalEntry → ℕ
-entries_by actor entries = count_by (λ e. e.actor == actor) entries
-
--- the edits of entries
-abbrev pub edits_of : List JournalEntry → List Edit
-edits_of entries = map (λ e. e.edit) entries
-
--- the count is the next one of its actor, and there is room for an entry
-abbrev pub is_counted : Told → List JournalEntry → Bool
-is_counted told entries = told.count == entries_by told.actor entries + 1
-    && nat_lt (length entries) entry_limit
-
--- the line is spelled as it is written, and a newline ends it and the bytes of a load
-abbrev pub is_spelled : Told → Part → Bool
-is_spelled told part = part.ended && is_closed told.draft part.rest
-    && is_text part.line (entry_line (entry_of told part.rest))
-
--- the network accepts the edit behind these
-abbrev pub is_accepted : Edit → List JournalEntry → Bool
-is_accepted e entries = is_ok (apply (length entries + 1) e (net_of (edits_of entries)))
-
--- the entry behind these, or its first refusal
-unfoldable pub entry_at : List JournalEntry → Part → Told → Result JournalEntry ScriptRefusal
-entry_at entries part told = do
-  counted ← guard (is_counted told entries) refusal.Number
-  there ← guard (is_there told.draft part.rest) refusal.Number
-  spelled ← guard (is_spelled told part) refusal.Word
-  accepted ← guard (is_accepted (edit_of told.draft part.rest) entries) refusal.Edit
-  Ok (entry_of told part.rest)
-
--- a line and what is wrong with it
-abbrev pub Stop : Type 0
-Stop = ℕ × ScriptRefusal
+-- ---- the last line
 
 -- nothing stands behind the last line
 abbrev pub ends : ℕ → List JournalEntry → List ℕ → Result (List JournalEntry) Stop
@@ -115,39 +72,45 @@ ends n entries (b ∷ bs) = Err (n, refusal.Word)
 -- written
 abbrev pub last_at : ℕ → List JournalEntry → Part → ℕ → Result (List JournalEntry) Stop
 last_at n entries part count = if not (count == length entries) then Err (n, refusal.Number)
-    else (if not (part.ended && is_text part.line (last_line count)) then Err (n, refusal.Word)
+    else (if not (is_spelled part (last_line count)) then Err (n, refusal.Word)
     else ends (n + 1) entries part.rest)
 
--- the entries with one more and those behind it
-abbrev pub entered : ℕ → (List JournalEntry → List ℕ → Result (List JournalEntry) Stop)
-    → List JournalEntry → Result JournalEntry ScriptRefusal → List ℕ
-    → Result (List JournalEntry) Stop
-entered n next entries (Err refusal) rest = Err (n, refusal)
-entered n next entries (Ok e) rest = next (entries ++ e ∷ []) rest
+-- ---- the journal
 
 -- the entries and those of a line that says this and of what is behind it
-abbrev pub judged : ℕ → (List JournalEntry → List ℕ → Result (List JournalEntry) Stop)
-    → List JournalEntry → Part → Result Line ScriptRefusal
+abbrev pub judged : ℕ → Next → List JournalEntry → Part → Result Line ScriptRefusal
     → Result (List JournalEntry) Stop
-judged n next entries part (Err refusal) = Err (n, refusal)
+judged n next entries part (Err r) = Err (n, r)
 judged n next entries part (Ok (line.Last count)) = last_at n entries part count
-judged n next entries part (Ok (line.Entry told)) =
-    entered n next entries (entry_at entries part told) (rest_of told.draft part.rest)
+judged n next entries part (Ok (line.Single told)) =
+    with_single n next entries (single_at entries part told) (rest_of told.draft part.rest)
+judged n next entries part (Ok (line.Batch head)) =
+    with_head n next entries (head_at entries part head) part.rest
 
--- the entries and those of the bytes, whose first line has this number, in at most so many lines
-unfoldable pub journal_from : ℕ → ℕ → List JournalEntry → List ℕ → Result (List JournalEntry) Stop
-journal_from zero n entries bytes = Err (n, refusal.Word)
-journal_from (suc k) n entries bytes =
-    judged n (journal_from k (n + 1)) entries (part_of bytes) (line_in (part_of bytes).line)
+-- the entries and those of the bytes, whose first line has this number; at most so many
+unfoldable pub journal_from : Version → ℕ → ℕ → List JournalEntry → List ℕ
+    → Result (List JournalEntry) Stop
+journal_from v zero n entries bytes = Err (n, refusal.Word)
+journal_from v (suc k) n entries bytes =
+    judged n (journal_from v k) entries (part_of bytes) (line_in v (part_of bytes).line)
+
+-- the version that the first line tells
+abbrev pub version_of : List ℕ → Option Version
+version_of first = if is_text first (first_line version.One) then Some version.One
+    else (if is_text first (first_line version.Two) then Some version.Two else None)
+
+-- the entries of the bytes behind the first line
+abbrev pub read_behind : Option Version → List ℕ → Result (List JournalEntry) Stop
+read_behind None rest = Err (1, refusal.Word)
+read_behind (Some v) rest = journal_from v (length rest) 2 [] rest
 
 -- the entries of a journal
 abbrev pub journal_read : List ℕ → Result (List JournalEntry) Stop
-journal_read bytes = if is_text (take 17 bytes) first_line
-    then journal_from (length (drop 17 bytes)) 2 [] (drop 17 bytes) else Err (1, refusal.Word)
+journal_read bytes = read_behind (version_of (take 17 bytes)) (drop 17 bytes)
 
 -- the refusal that the definition gives, unless memory ran out
 abbrev pub Stops : ScriptStop → Result (List JournalEntry) Stop → Type 0
-Stops (Refused n refusal) read = read ≡ Err (n, refusal)
+Stops (Refused n r) read = read ≡ Err (n, r)
 Stops Memory read = Unit {0}
 
 -- the entries that the definition gives, or the refusal that it gives, unless memory ran out

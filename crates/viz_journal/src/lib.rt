@@ -7,15 +7,18 @@
 #![tactic(auto)]
 
 mod draft;
+mod edits;
 mod entry;
 mod laws;
 mod ledger;
+mod line;
 mod part;
 mod reading;
+mod version;
 mod writing;
 
 pub use entry::JournalEntry;
-pub use laws::{nothing_else_is_read, what_is_written_is_read};
+pub use laws::{nothing_else_is_read, what_is_read_is_written_again, what_is_written_is_read};
 pub use reading::read_journal;
 pub use viz_words::{ScriptRefusal, ScriptStop};
 pub use writing::journal_text;

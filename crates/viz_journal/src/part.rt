@@ -3,8 +3,8 @@
 ghost use Rattle.std.specs.Prelude.{◌≡◌, ◌≤◌, ◌<◌, IfOk, ◌^◌, length, take, drop};
 ghost use Rattle.viz_words.specs.Lines.{begins_newline};
 ghost use Rattle.viz_journal.specs.Lines.{size};
-ghost use Rattle.viz_journal.specs.Reading.{Part, part_of, is_there, has_bytes, is_closed};
-ghost use Rattle.viz_journal.specs.Reading.{rest_of, edit_of};
+ghost use Rattle.viz_journal.specs.Parts.{Part, part_of, is_there, has_bytes, is_closed};
+ghost use Rattle.viz_journal.specs.Parts.{rest_of, edit_of};
 
 use crate::draft::Draft;
 use std::alloc::{AllocError, Global};
@@ -17,6 +17,7 @@ pub(crate) fn part_of(text: &[u8]) -> (&[u8], bool, &[u8])
     ensures value { part_of text.now
         ≡ record { line = result.0.now; ended = result.1; rest = result.2.now } }
     ensures shorter { 0 < length text.now → length result.2.now < length text.now }
+    ensures within { length result.2.now ≤ length text.now }
 {
     match line_len(text) {
         Some(len) => (&text[..len], true, &text[len + 1..]),

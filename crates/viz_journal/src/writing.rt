@@ -3,11 +3,13 @@
 ghost use Rattle.std.specs.Prelude.{◌≡◌, ◌++◌, ◌≤◌, ◌∷◌, [], map, take, length, OnOk, IfOk};
 ghost use Rattle.std.specs.List.{flat_map};
 ghost use Rattle.std.specs.Fmt.{decimal, signed_decimal};
-ghost use Rattle.viz_words.specs.Words.{behind_space};
-ghost use Rattle.viz_journal.specs.Journal.{value_words, edit_words, entry_line, file_text};
-ghost use Rattle.viz_journal.specs.Journal.{entry_text, first_line, last_line, journal};
+ghost use Rattle.viz_words.specs.Words.{behind_space, spaced};
+ghost use Rattle.viz_journal.specs.Journal.{value_words, edit_line, file_text, edit_text};
+ghost use Rattle.viz_journal.specs.Journal.{batch_line, lead, entry_text, last_line, journal};
+ghost use Rattle.viz_journal.specs.declared.version.Version.TheVariants.{Two};
 
 use crate::entry::JournalEntry;
+use crate::version::{Version, first_line};
 use std::alloc::{AllocError, Global};
 use viz_base::Bytes;
 use viz_lex::put_whole;
@@ -66,40 +68,39 @@ fn put_value(text: &mut Vec<u8>, value: &Value) -> Result<(), AllocError>
     }
 }
 
-/// Adds the words of an edit, each behind a space.
-fn put_edit(text: &mut Vec<u8>, edit: &Edit) -> Result<(), AllocError>
-    ensures { OnOk result (text.new.items
-        ≡ text.old.items ++ flat_map behind_space (edit_words edit.now)) }
+/// Adds the line of an edit, without its newline.
+pub(crate) fn put_edit_line(text: &mut Vec<u8>, edit: &Edit) -> Result<(), AllocError>
+    ensures { OnOk result (text.new.items ≡ text.old.items ++ edit_line edit.now) }
 {
     match edit {
         Edit::Add { kind, node } => {
-            put_word(text, command_word(Command::Add))?;
+            text.extend_from_slice(command_word(Command::Add))?;
             put_word(text, kind_word(*kind))?;
             put_word(text, node.bytes())
         }
         Edit::Remove { node } => {
-            put_word(text, command_word(Command::Remove))?;
+            text.extend_from_slice(command_word(Command::Remove))?;
             put_word(text, node.bytes())
         }
         Edit::Connect { from, to, port } => {
-            put_word(text, command_word(Command::Connect))?;
+            text.extend_from_slice(command_word(Command::Connect))?;
             put_word(text, from.bytes())?;
             put_word(text, to.bytes())?;
             put_number(text, &i64::from(*port))
         }
         Edit::Disconnect { to, port } => {
-            put_word(text, command_word(Command::Disconnect))?;
+            text.extend_from_slice(command_word(Command::Disconnect))?;
             put_word(text, to.bytes())?;
             put_number(text, &i64::from(*port))
         }
         Edit::Set { node, param, value } => {
-            put_word(text, command_word(Command::Set))?;
+            text.extend_from_slice(command_word(Command::Set))?;
             put_word(text, node.bytes())?;
             put_word(text, param_word(*param))?;
             put_value(text, value)
         }
         Edit::Load { node, file } => {
-            put_word(text, command_word(Command::Load))?;
+            text.extend_from_slice(command_word(Command::Load))?;
             put_word(text, node.bytes())?;
             put_len(text, file.get().list())
         }
@@ -115,13 +116,35 @@ fn put_len(text: &mut Vec<u8>, file: &[u8]) -> Result<(), AllocError>
     put_whole(text, file.len() as i128)
 }
 
-/// Adds the line of an entry, without its newline.
-pub(crate) fn put_line(text: &mut Vec<u8>, entry: &JournalEntry) -> Result<(), AllocError>
-    ensures { OnOk result (text.new.items ≡ text.old.items ++ entry_line entry.now) }
+/// Adds a number and behind a space another one.
+fn put_two(text: &mut Vec<u8>, a: u32, b: u32) -> Result<(), AllocError>
+    ensures { OnOk result (text.new.items
+        ≡ text.old.items ++ spaced (decimal a ∷ decimal b ∷ [])) }
 {
-    put_whole(text, i128::from(entry.actor))?;
-    put_number(text, &i64::from(entry.count))?;
-    put_edit(text, &entry.edit)
+    put_whole(text, i128::from(a))?;
+    put_number(text, &i64::from(b))
+}
+
+/// Adds what stands in front of an edit on its line in version 1.
+pub(crate) fn put_lead(text: &mut Vec<u8>, actor: u32, count: u32) -> Result<(), AllocError>
+    ensures { OnOk result (text.new.items ≡ text.old.items ++ lead actor count) }
+{
+    put_two(text, actor, count)?;
+    text.push(b' ')?;
+    Ok(())
+}
+
+/// Adds the line in front of a batch, without its newline.
+pub(crate) fn put_batch_line(
+    text: &mut Vec<u8>,
+    actor: u32,
+    count: u32,
+    edits: u32,
+) -> Result<(), AllocError>
+    ensures { OnOk result (text.new.items ≡ text.old.items ++ batch_line actor count edits) }
+{
+    put_two(text, actor, count)?;
+    put_number(text, &i64::from(edits))
 }
 
 /// Adds the bytes of a load and a newline; nothing of another edit.
@@ -135,18 +158,38 @@ fn put_file(text: &mut Vec<u8>, edit: &Edit) -> Result<(), AllocError>
     Ok(())
 }
 
-/// Adds an entry: its line, and the bytes of a load.
-fn put_entry(text: &mut Vec<u8>, entry: &JournalEntry) -> Result<(), AllocError>
-    ensures { OnOk result (text.new.items ≡ text.old.items ++ entry_text entry.now) }
+/// Adds an edit: its line, and the bytes of a load.
+fn put_edit(text: &mut Vec<u8>, edit: &Edit) -> Result<(), AllocError>
+    ensures { OnOk result (text.new.items ≡ text.old.items ++ edit_text edit.now) }
 {
-    put_line(text, entry)?;
+    put_edit_line(text, edit)?;
     text.push(b'\n')?;
-    put_file(text, &entry.edit)
+    put_file(text, edit)
+}
+
+/// Adds the edits of a batch.
+fn put_edits(text: &mut Vec<u8>, edits: &[Edit]) -> Result<(), AllocError>
+    ensures { OnOk result (text.new.items ≡ text.old.items ++ flat_map edit_text edits.now) }
+{
+    for edit in edits {
+        put_edit(text, edit)?;
+    }
+    Ok(())
+}
+
+/// Adds an entry: the line of its batch, and its edits.
+fn put_entry(text: &mut Vec<u8>, entry: &JournalEntry) -> Result<(), AllocError>
+    ensures { OnOk result (text.new.items ≡ text.old.items ++ entry_text Two entry.now) }
+{
+    let edits = entry.batch.edits();
+    put_batch_line(text, entry.actor, entry.count, edits.len() as u32)?;
+    text.push(b'\n')?;
+    put_edits(text, edits)
 }
 
 /// Adds the entries.
 fn put_entries(text: &mut Vec<u8>, entries: &[JournalEntry]) -> Result<(), AllocError>
-    ensures { OnOk result (text.new.items ≡ text.old.items ++ flat_map entry_text entries.now) }
+    ensures { OnOk result (text.new.items ≡ text.old.items ++ flat_map (entry_text Two) entries.now) }
 {
     for entry in entries {
         put_entry(text, entry)?;
@@ -162,25 +205,33 @@ pub(crate) fn put_last(text: &mut Vec<u8>, count: usize) -> Result<(), AllocErro
     put_whole(text, count as i128)
 }
 
+/// About how many bytes an edit has, with its newline.
+fn room_of(edit: &Edit) -> usize {
+    match edit {
+        Edit::Load { file, .. } => file.get().list().len().saturating_add(LINE_ROOM),
+        _ => LINE_ROOM,
+    }
+}
+
 /// About how many bytes the text has.
 fn room_for(entries: &[JournalEntry]) -> usize {
     let mut room = LINE_ROOM;
     for entry in entries {
-        let file = match &entry.edit {
-            Edit::Load { file, .. } => file.get().list().len(),
-            _ => 0,
-        };
-        room = room.saturating_add(LINE_ROOM).saturating_add(file);
+        room = room.saturating_add(LINE_ROOM);
+        for edit in entry.batch.edits() {
+            room = room.saturating_add(room_of(edit));
+        }
     }
     room
 }
 
-/// The text of a journal: its first line, each entry with the bytes of its load, and its last line.
+/// The text of a journal: its first line, each entry with its edits and the bytes of its loads, and
+/// its last line.
 pub fn journal_text(alloc: Global, entries: &[JournalEntry]) -> Result<Bytes, AllocError>
     ensures text { IfOk result (λ text. text ≡ journal entries.now) }
 {
     let mut text = Vec::with_capacity(alloc, room_for(entries))?;
-    text.extend_from_slice(b"vizrun journal 1\n")?;
+    text.extend_from_slice(first_line(Version::Two))?;
     put_entries(&mut text, entries)?;
     put_last(&mut text, entries.len())?;
     text.push(b'\n')?;

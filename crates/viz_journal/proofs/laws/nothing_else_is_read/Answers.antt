@@ -1,4 +1,4 @@
-use Rattle.viz_journal.proofs.OnlyLemmas.{only}
+use Rattle.viz_journal.proofs.EntriesLemmas.{only}
 use Rattle.viz_journal.proofs.laws.nothing_else_is_read.Goals as goal
 
 pub returns : goal.returns

@@ -1,6 +1,5 @@
-use Rattle.std.proofs.Common.{◌≡◌, Bor, ℕ, ◌+◌, ◌<◌, ◌∙◌, List, length, Ok, Err, sym, ap, eqb-true, arith}
+use Rattle.std.proofs.Common.{Bor, ℕ, ◌<◌, ◌∙◌, List, length, Ok, sym, ap, eqb-true, arith}
 use Rattle.std.proofs.lemmas.Bool.{eqb-false}
-use Rattle.viz_words.specs.declared.refusal.ScriptRefusal.TheVariants as refusal
 use Rattle.viz_journal.specs.declared.entry.JournalEntry.{JournalEntry}
 use Rattle.viz_journal.specs.Reading.{journal_from}
 use Rattle.viz_journal.proofs.ReadLemmas.{journal_from-empty, fuelled, stopped-read}
@@ -8,41 +7,41 @@ use Rattle.viz_journal.proofs.reading.entries_of.Goals as goal
 
 pub loop-rest-preserved : goal.loop-rest-preserved
 loop-rest-preserved c =
-    let es = c.loop-rest.ledger.entries.items in
+    let ledger = c.loop-rest.ledger in
     let rest = c.loop-rest.rest.now in
     let all = c.loop-rest.invariant.all in
     let some : 0 < length rest = omega (arith, eqb-false (length rest) 0 (sym c.loop-rest-test.ensures)) in
     let more = fuelled all.0 rest some all.1 in
-    let went = rw c.in-Ok-Some.field-0-is at c.in-Ok-Some.ensures.goes in
+    let went = rw c.in-Ok-Some.field-0-is at c.in-Ok-Some.ensures in
     record {
-      kept = c.in-Ok-Some.ensures.kept;
-      all = (more.0, omega (arith, all.1, more.1, went.1), sym (went.0 more.0) ∙ ap (λ (k : ℕ). journal_from k (length es + 2) es rest) (sym more.1) ∙ all.2);
+      closed = went.0;
+      all = (more.0, omega (arith, all.1, more.1, went.1), sym (went.2 more.0) ∙ ap (λ (k : ℕ). journal_from c.args.version k ledger.line ledger.entries.items rest) (sym more.1) ∙ all.2);
     }
 
 pub returns-in-Ok-None : goal.returns-in-Ok-None
 returns-in-Ok-None c =
-    let es = c.loop-rest.ledger.entries.items in
+    let ledger = c.loop-rest.ledger in
     let rest = c.loop-rest.rest.now in
     let all = c.loop-rest.invariant.all in
     let some : 0 < length rest = omega (arith, eqb-false (length rest) 0 (sym c.loop-rest-test.ensures)) in
     let more = fuelled all.0 rest some all.1 in
-    let went = rw c.in-Ok-None.field-0-is at c.in-Ok-None.ensures.goes in
-    sym all.2 ∙ ap (λ (k : ℕ). journal_from k (length es + 2) es rest) more.1 ∙ went.0 more.0 ∙ ap (λ (l : List JournalEntry). Ok l) (sym (c.entries_in.ensures ∙ went.1))
+    let went = rw c.in-Ok-None.field-0-is at c.in-Ok-None.ensures in
+    sym all.2 ∙ ap (λ (k : ℕ). journal_from c.args.version k ledger.line ledger.entries.items rest) more.1 ∙ went.0 more.0 ∙ ap (λ (l : List JournalEntry). Ok l) (sym (c.entries_in.ensures ∙ went.1))
 
 pub returns-in-Err : goal.returns-in-Err
 returns-in-Err c =
-    let es = c.loop-rest.ledger.entries.items in
+    let ledger = c.loop-rest.ledger in
     let rest = c.loop-rest.rest.now in
     let all = c.loop-rest.invariant.all in
     let some : 0 < length rest = omega (arith, eqb-false (length rest) 0 (sym c.loop-rest-test.ensures)) in
     let more = fuelled all.0 rest some all.1 in
-    stopped-read {S = Bor (List ℕ)} (λ x. x.now) c.in-Err.stop es c.step.new.ledger.entries.items rest more.0 _ c.in-Err.ensures.goes
-    (ap (λ (k : ℕ). journal_from k (length es + 2) es rest) (sym more.1) ∙ all.2)
+    stopped-read {S = Bor (List ℕ)} (λ x. x.now) c.in-Err.stop c.args.version ledger c.step.new.ledger rest more.0 _ c.in-Err.ensures
+    (ap (λ (k : ℕ). journal_from c.args.version k ledger.line ledger.entries.items rest) (sym more.1) ∙ all.2)
 
 pub returns : goal.returns
 returns c =
-    let es = c.loop-rest.ledger.entries.items in
+    let ledger = c.loop-rest.ledger in
     let rest = c.loop-rest.rest.now in
     let all = c.loop-rest.invariant.all in
-    let number : c.line_behind.result ≡ length es + 2 = c.line_behind.ensures ∙ ap (λ (l : List JournalEntry). length l + 2) c.deref.ensures.value in
-    sym all.2 ∙ journal_from-empty all.0 (length es + 2) es rest (eqb-true (length rest) 0 (sym c.loop-rest-test.ensures)) ∙ ap (λ (m : ℕ). Err (m, refusal.Word)) (sym number)
+    let read = sym all.2 ∙ journal_from-empty c.args.version all.0 ledger.line ledger.entries.items rest (eqb-true (length rest) 0 (sym c.loop-rest-test.ensures)) in
+    rw c.refused.ensures read

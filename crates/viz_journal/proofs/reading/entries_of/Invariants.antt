@@ -1,13 +1,13 @@
-use Rattle.std.proofs.Common.{◌≡◌, ℕ, ◌+◌, ◌≤◌, length, []}
+use Rattle.std.proofs.Common.{◌≡◌, ℕ, ◌≤◌, length, []}
 use Rattle.viz_journal.specs.Reading.{journal_from}
-use Rattle.viz_journal.specs.Steps.Kept.{IsKept}
+use Rattle.viz_journal.specs.Steps.Kept.{IsClosed}
 use Rattle.viz_journal.proofs.reading.entries_of.Given as goal
 
 -- the entries so far and those of the bytes that are left are all
 abbrev pub invariant-loop-rest : goal.invariant-loop-rest
 invariant-loop-rest l = record {
-  kept : IsKept l.ledger;
-  all : (k : ℕ) × (length l.rest ≤ k) × (journal_from k (length l.ledger.entries.items + 2) l.ledger.entries.items l.rest ≡ journal_from (length l.bytes) 2 [] l.bytes);
+  closed : IsClosed l.ledger;
+  all : (k : ℕ) × (length l.rest ≤ k) × (journal_from l.version k l.ledger.line l.ledger.entries.items l.rest ≡ journal_from l.version (length l.bytes) 2 [] l.bytes);
 }
 
 abbrev pub decreases-loop-rest : goal.decreases-loop-rest

@@ -1,55 +1,74 @@
-use Rattle.std.proofs.Common.{◌≡◌, Bor, ℕ, ◌+◌, ◌∙◌, List, length, Ok, Err, refl, sym, ap, subst, arith}
-use Rattle.viz_journal.specs.declared.draft.Line.TheVariants as line
-use Rattle.viz_journal.specs.declared.entry.JournalEntry.{JournalEntry}
-use Rattle.viz_journal.specs.Reading.{last_at, Reads}
+use Rattle.std.proofs.Common.{Bor, ℕ, ◌∙◌, List, Ok, Err, refl, sym, arith}
+use Rattle.viz_journal.specs.declared.line.Line.TheVariants as line
+use Rattle.viz_journal.specs.Reading.{last_at, journal_from}
 use Rattle.viz_journal.proofs.PartLemmas.{part}
-use Rattle.viz_journal.proofs.ReadLemmas.{journal_from-line, journal_from-entry, journal_from-refused, stopped}
+use Rattle.viz_journal.proofs.ReadLemmas.{journal_from-line, journal_from-single, journal_from-refused, stopped, stopped-head}
 use Rattle.viz_journal.proofs.reading.step.Goals as goal
 
-pub returns-in-Err-clause-goes : goal.returns-in-Err-clause-goes
-returns-in-Err-clause-goes c =
+pub returns-in-Err : goal.returns-in-Err
+returns-in-Err c =
     let es = c.args.ledger.now.entries.items in
+    let n = c.args.ledger.now.line in
     let front = part c.part_of-ended.result.0.now c.part_of-ended.result.1 c.part_of-ended.result.2.now in
-    let number : c.line_behind-line.result ≡ length es + 2 = c.line_behind-line.ensures ∙ ap (λ (l : List JournalEntry). length l + 2) c.deref.ensures.value in
-    λ k. journal_from-line k (length es + 2) es c.args.bytes.now front (Err c.in-Err.refusal) c.part_of-ended.ensures.value (sym c.in-Err.ensures)
-    ∙ ap (λ (m : ℕ). Err (m, c.in-Err.refusal)) (sym number)
+    rw c.refused.ensures (λ k. journal_from-line c.args.version k n es c.args.bytes.now front (Err c.in-Err.refusal) c.part_of-ended.ensures.value (sym c.in-Err.ensures))
 
-pub returns-in-Ok-clause-goes : goal.returns-in-Ok-clause-goes
-returns-in-Ok-clause-goes c =
+pub returns-in-Ok : goal.returns-in-Ok
+returns-in-Ok c =
     let es = c.args.ledger.now.entries.items in
+    let n = c.args.ledger.now.line in
     let front = part c.part_of-ended.result.0.now c.part_of-ended.result.1 c.part_of-ended.result.2.now in
     let count = c.in-Ok-Last.count in
     let says = rw c.in-Ok-Last.field-0-is at c.in-Ok-Last.ensures in
-    let closed = subst (λ (l : List JournalEntry). last_at (length l + 2) l front count ≡ Ok l) c.deref-in-Ok-Last.ensures.value c.in-Ok.ensures in
-    (λ k. journal_from-line k (length es + 2) es c.args.bytes.now front (Ok (line.Last count)) c.part_of-ended.ensures.value (sym says) ∙ closed, refl)
+    (λ k. journal_from-line c.args.version k n es c.args.bytes.now front (Ok (line.Last count)) c.part_of-ended.ensures.value (sym says) ∙ c.in-Ok.ensures, refl)
 
-pub returns-in-Err-close-clause-goes : goal.returns-in-Err-close-clause-goes
-returns-in-Err-close-clause-goes c =
+pub returns-in-Err-end : goal.returns-in-Err-end
+returns-in-Err-end c =
     let es = c.args.ledger.now.entries.items in
+    let n = c.args.ledger.now.line in
     let front = part c.part_of-ended.result.0.now c.part_of-ended.result.1 c.part_of-ended.result.2.now in
     let count = c.in-Ok-Last.count in
     let says = rw c.in-Ok-Last.field-0-is at c.in-Ok-Last.ensures in
-    let closed = subst (λ (l : List JournalEntry). Reads {E = Unit {0}} (λ done. l) (Err c.in-Err-close.stop) (last_at (length l + 2) l front count)) c.deref-in-Ok-Last.ensures.value c.in-Err-close.ensures in
-    stopped {S = Bor (List ℕ)} (λ x. x.now) c.in-Err-close.stop (last_at (length es + 2) es front count) es es c.args.bytes.now closed
-    (λ k. journal_from-line k (length es + 2) es c.args.bytes.now front (Ok (line.Last count)) c.part_of-ended.ensures.value (sym says))
+    stopped {S = Bor (List ℕ)} (λ x. x.now) c.in-Err-end.stop (last_at n es front count) c.args.version c.args.ledger.now c.args.ledger.now c.args.bytes.now c.in-Err-end.ensures
+    (λ k. journal_from-line c.args.version k n es c.args.bytes.now front (Ok (line.Last count)) c.part_of-ended.ensures.value (sym says))
 
-pub returns-in-Ok-2-clause-goes : goal.returns-in-Ok-2-clause-goes
-returns-in-Ok-2-clause-goes c =
+pub returns-in-Ok-2 : goal.returns-in-Ok-2
+returns-in-Ok-2 c =
     let es = c.args.ledger.now.entries.items in
+    let n = c.args.ledger.now.line in
     let front = part c.part_of-ended.result.0.now c.part_of-ended.result.1 c.part_of-ended.result.2.now in
-    let says = rw c.in-Ok-Entry.field-0-is at c.in-Ok-Entry.ensures in
-    let went = rw c.in-Ok-2.is at c.in_ok-take-in-Ok-Entry.ensures.enters in (
-      λ k. journal_from-entry k es c.take.new.ledger.entries.items c.args.bytes.now c.rest_of-left.result.now front c.in-Ok-Entry.told went.0 c.part_of-ended.ensures.value (sym says)
-          went.1 went.2 c.rest_of-left.ensures.value,
+    let says = rw c.in-Ok-Single.field-0-is at c.in-Ok-Single.ensures in
+    let went = rw c.in-Ok-2.is at c.in_ok-take_single-in-Ok-Single.ensures in (
+      went.2.closed,
       omega (arith, c.part_of-ended.ensures.shorter c.requires.some, c.rest_of-left.ensures.shorter),
+      λ k. journal_from-single c.args.version k n c.take_single.new.ledger.line es c.take_single.new.ledger.entries.items c.args.bytes.now c.rest_of-left.result.now front c.in-Ok-Single.told
+          went.0 c.part_of-ended.ensures.value (sym says) went.1 went.2.entries went.2.line c.rest_of-left.ensures.value,
     )
 
-pub returns-in-Err-2-clause-goes : goal.returns-in-Err-2-clause-goes
-returns-in-Err-2-clause-goes c =
+pub returns-in-Err-2 : goal.returns-in-Err-2
+returns-in-Err-2 c =
     let es = c.args.ledger.now.entries.items in
+    let n = c.args.ledger.now.line in
     let front = part c.part_of-ended.result.0.now c.part_of-ended.result.1 c.part_of-ended.result.2.now in
-    let says = rw c.in-Ok-Entry.field-0-is at c.in-Ok-Entry.ensures in
-    let went = rw c.in-Err-2.is at c.in_ok-take-in-Ok-Entry.ensures.enters in
-    let number : c.line_behind-line_number.result ≡ length es + 2 = c.line_behind-line_number.ensures ∙ ap (λ (l : List JournalEntry). length l + 2) c.deref-in-Ok-Entry.ensures.value in
-    λ k. journal_from-refused k (length es + 2) es c.args.bytes.now front c.in-Ok-Entry.told c.in-Err-2.refusal c.part_of-ended.ensures.value (sym says) went
-    ∙ ap (λ (m : ℕ). Err (m, c.in-Err-2.refusal)) (sym number)
+    let says = rw c.in-Ok-Single.field-0-is at c.in-Ok-Single.ensures in
+    let went = rw c.in-Err-2.is at c.in_ok-take_single-in-Ok-Single.ensures in
+    rw c.refused-in-Err-2.ensures (λ k. journal_from-refused c.args.version k n es c.args.bytes.now front c.in-Ok-Single.told c.in-Err-2.refusal c.part_of-ended.ensures.value (sym says) went)
+
+pub returns-in-Ok-take_batch : goal.returns-in-Ok-take_batch
+returns-in-Ok-take_batch c =
+    let es = c.args.ledger.now.entries.items in
+    let n = c.args.ledger.now.line in
+    let front = part c.part_of-ended.result.0.now c.part_of-ended.result.1 c.part_of-ended.result.2.now in
+    let says = rw c.in-Ok-Batch.field-0-is at c.in-Ok-Batch.ensures in
+    let went = c.in-Ok-take_batch.ensures in (
+      went.0,
+      omega (arith, c.part_of-ended.ensures.shorter c.requires.some, went.1),
+      λ k. journal_from-line c.args.version k n es c.args.bytes.now front (Ok (line.Batch c.in-Ok-Batch.head)) c.part_of-ended.ensures.value (sym says)
+          ∙ went.2 (journal_from c.args.version k),
+    )
+
+pub returns-in-Err-take_batch : goal.returns-in-Err-take_batch
+returns-in-Err-take_batch c =
+    let front = part c.part_of-ended.result.0.now c.part_of-ended.result.1 c.part_of-ended.result.2.now in
+    let says = rw c.in-Ok-Batch.field-0-is at c.in-Ok-Batch.ensures in
+    stopped-head {S = Bor (List ℕ)} (λ x. x.now) c.in-Err-take_batch.stop c.args.version c.args.ledger.now c.take_batch.new.ledger c.take_batch.new.ledger c.args.bytes.now front c.in-Ok-Batch.head
+    c.in-Err-take_batch.ensures c.part_of-ended.ensures.value (sym says)
