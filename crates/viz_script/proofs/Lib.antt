@@ -1,1 +1,4 @@
+pub mod LineLemmas
+pub mod ParserLemmas
 pub mod NameLemmas
+pub mod PhaseLemmas

@@ -1,6 +1,6 @@
 -- What a script names as a file is the name of one.
-use Rattle.std.proofs.Common.{◌≡◌, ◌+◌, ◌==◌, ℕ, ℤ, Bool, true, false, List, [], ◌∷◌, map, codes, refl}
-use Rattle.std.specs.Prelude.{Option, None, Some, Result, Ok, Err, IfOk, if◌then◌else◌}
+use Rattle.std.proofs.Common.{◌≡◌, ℕ, ℤ, Bool, true, false, cond, List, [], ◌∷◌, ◌++◌, map, length, codes, refl}
+use Rattle.std.specs.Prelude.{Option, None, Some, Result, Ok, Err, IfOk, if◌then◌else◌, unsigned_abs}
 use Rattle.std.specs.List.{AllByRecursion}
 use Rattle.std.proofs.lemmas.Result.{IfOk-at_ok}
 use Rattle.viz_kinds.specs.Values.{is_text}
@@ -16,10 +16,10 @@ use Rattle.viz_words.specs.Names.{is_node_name, is_file_name, named_in}
 use Rattle.viz_words.specs.Numbers.{number_of, natural_in}
 use Rattle.viz_words.specs.Words.{words_of, is_skipped}
 use Rattle.viz_script.specs.declared.order.Step.{Step}
-use Rattle.viz_script.specs.Orders.{edit, seen, load_in, update_in, audit_in, order_in, NamesFile}
-use Rattle.viz_script.specs.Script.{Line, silent, begins_phase, asks, Stepped, stepped, Stop, phase_limit}
-use Rattle.viz_script.specs.Script.{is_actor, phase_in, actor_in, number_in_front, words_in, line_in, told, with_step}
-use Rattle.viz_script.specs.Script.{steps_from}
+use Rattle.viz_script.specs.Orders.{Asked, edit, edits, load, update, audit, seen, load_in, update_in, audit_in, order_in, NamesFile}
+use Rattle.viz_script.specs.Lines.{Line, silent, begins_phase, begins_batch, ends_batch, asks, is_actor, alone, command_in, actor_in, number_in_front, words_in, line_in}
+use Rattle.viz_script.specs.Batches.{phase_behind, breaks_phases, breaks_batch, is_open, some_open, standing}
+use Rattle.viz_script.specs.Script.{Stepped, stepped, Stop, with_line, then_lines, number_behind, lines_behind, batch_in, step_of, steps_behind, steps_of, told}
 
 -- ---- steps one behind the other
 
@@ -74,14 +74,19 @@ abbrev LineNames : Line → Type 0
 LineNames (asks actor asked) = NamesFile asked
 LineNames _ = Unit {0}
 
-phase-names : (words : List (List ℕ)) → IfOk (phase_in words) LineNames
-phase-names [] = tt
-phase-names (word ∷ words) = tt
+alone-names : (line : Line) (words : List (List ℕ)) → LineNames line → IfOk (alone line words) LineNames
+alone-names line [] h = h
+alone-names line (word ∷ words) h = tt
+
+command-names : (actor : ℕ) (v : Verb) (words : List (List ℕ)) → IfOk (command_in actor v words) LineNames
+command-names actor verb.Begin words = alone-names (begins_batch actor) words tt
+command-names actor verb.End words = alone-names (ends_batch actor) words tt
+command-names actor v words = then-has NamesFile LineNames (order_in v words) (λ order. Ok (asks actor order)) (order-names v words) (λ order h. h)
 
 actor-names : (actor : ℤ) (actors : ℕ) (words : List (List ℕ)) → IfOk (actor_in actor actors words) LineNames
 actor-names actor actors words = bind-has LineNames (verb_of words) _ (λ verb.
     bind-has LineNames (guard (is_actor actor actors) refusal.ActorRange) _ (λ _. bind-has LineNames (due words) _ (λ rest.
-    then-has NamesFile LineNames (order_in verb rest.1) _ (order-names verb rest.1) (λ order h. h))))
+    command-names (unsigned_abs actor) verb rest.1)))
 
 number-names : (number : Option ℤ) (actors : ℕ) (words : List (List ℕ)) → IfOk (number_in_front number actors words) LineNames
 number-names None actors words = tt
@@ -89,41 +94,72 @@ number-names (Some actor) actors words = actor-names actor actors words
 
 words-names : (actors : ℕ) (words : List (List ℕ)) → IfOk (words_in actors words) LineNames
 words-names actors [] = tt
-words-names actors (word ∷ words) = pick-has (is_text word (codes "phase")) LineNames _ _ (phase-names words)
+words-names actors (word ∷ words) = pick-has (is_text word (codes "phase")) LineNames _ _ (alone-names begins_phase words tt)
     (number-names (number_of word) actors words)
 
 line-names : (actors : ℕ) (line : List ℕ) → IfOk (line_in actors line) LineNames
 line-names actors line = pick-has (is_skipped line) LineNames _ _ tt
     (bind-has LineNames (guard (is_plain line) refusal.Word) _ (λ _. words-names actors (words_of line)))
 
+standing-names : (earlier : List Line) (line : Line) → LineNames line → IfOk (standing earlier line) LineNames
+standing-names earlier line h = pick-has (breaks_phases earlier line) LineNames (Err refusal.Phase) _ tt (pick-has (breaks_batch earlier line) LineNames (Err refusal.Batch) (Ok line) tt h)
+
 -- ---- all lines
 
-abbrev AllName : List Stepped → Type 0
-AllName = AllByRecursion (λ step. NamesFile step.asked)
+abbrev AllLines : List Line → Type 0
+AllLines = AllByRecursion LineNames
 
-with_step-names : (step : Stepped) (r : Result (List Stepped) Stop) → NamesFile step.asked → IfOk r AllName → IfOk (with_step step r) AllName
-with_step-names step (Ok steps) name h = (name, h)
-with_step-names step (Err stop) name h = tt
+with-names : (line : Line) (r : Result (List Line) Stop) → LineNames line → IfOk r AllLines → IfOk (with_line line r) AllLines
+with-names line (Ok lines) h all = (h, all)
+with-names line (Err stop) h all = tt
 
-told-names : (line phase : ℕ) (next : ℕ → Result (List Stepped) Stop) (said : Result Line ScriptRefusal)
-    → IfOk said LineNames → ((p : ℕ) → IfOk (next p) AllName) → IfOk (told line phase next said) AllName
-told-names line phase next (Err e) name h = tt
-told-names line phase next (Ok silent) name h = h phase
-told-names line phase next (Ok begins_phase) name h = pick-has (phase == phase_limit) AllName _ _ tt (h (phase + 1))
-told-names line phase next (Ok (asks actor asked)) name h =
-    with_step-names (record { phase = phase; actor = actor; line = line; asked = asked }) (next phase) name (h phase)
+then-names : (number : ℕ) (next : Line → Result (List Line) Stop) (r : Result Line ScriptRefusal) → IfOk r LineNames → ((line : Line) → IfOk (next line) AllLines)
+    → IfOk (then_lines number next r) AllLines
+then-names number next (Ok line) h all = with-names line (next line) h (all line)
+then-names number next (Err e) h all = tt
 
-steps-names : (actors line phase : ℕ) (texts : List (List ℕ)) → IfOk (steps_from actors line phase texts) AllName
-steps-names actors line phase [] = tt
-steps-names actors line phase (text ∷ texts) =
-    told-names line phase (λ p. steps_from actors (line + 1) p texts) (line_in actors text) (line-names actors text)
-    (λ p. steps-names actors (line + 1) p texts)
+lines-names : (actors : ℕ) (earlier : List Line) (texts : List (List ℕ)) → IfOk (lines_behind actors earlier texts) AllLines
+lines-names actors earlier [] = pick-has (some_open earlier) AllLines (Err (length earlier, refusal.Batch)) (Ok []) tt tt
+lines-names actors earlier (text ∷ texts) =
+    then-names (number_behind earlier) (λ line. lines_behind actors (line ∷ earlier) texts) (line_in actors text >>= standing earlier)
+    (then-has LineNames LineNames (line_in actors text) (standing earlier) (line-names actors text) (standing-names earlier))
+    (λ line. lines-names actors (line ∷ earlier) texts)
 
-seen-names : (steps : List Step) → AllName (map stepped steps) → AllByRecursion (λ step. NamesFile (seen step.order)) steps
+-- ---- their steps
+
+abbrev AllSteps : List Stepped → Type 0
+AllSteps = AllByRecursion (λ step. NamesFile step.asked)
+
+join-names : (front behind : List Stepped) → AllSteps front → AllSteps behind → AllSteps (front ++ behind)
+join-names [] behind f b = b
+join-names (step ∷ front) behind f b = (f.0, join-names front behind f.1 b)
+
+step-names : (earlier : List Line) (line : Line) (later : List Line) → LineNames line → AllSteps (step_of earlier line later)
+step-names earlier silent later h = tt
+step-names earlier begins_phase later h = tt
+step-names earlier (begins_batch actor) later h = (tt, tt)
+step-names earlier (ends_batch actor) later h = tt
+step-names earlier (asks actor asked) later h = by (is_open actor earlier)
+  where
+    by : (t : Bool) → AllSteps (cond t [] (record { phase = phase_behind earlier; actor = actor; line = number_behind earlier; asked = asked } ∷ []))
+    by true = tt
+    by false = (h, tt)
+
+steps-names : (earlier lines : List Line) → AllLines lines → AllSteps (steps_behind earlier lines)
+steps-names earlier [] h = tt
+steps-names earlier (line ∷ later) h =
+    join-names (step_of earlier line later) (steps_behind (line ∷ earlier) later) (step-names earlier line later h.0) (steps-names (line ∷ earlier) later h.1)
+
+told-names : (r : Result (List Line) Stop) → IfOk r AllLines → IfOk (told r) AllSteps
+told-names (Ok lines) h = steps-names [] lines h
+told-names (Err stop) h = tt
+
+seen-names : (steps : List Step) → AllSteps (map stepped steps) → AllByRecursion (λ step. NamesFile (seen step.order)) steps
 seen-names [] h = tt
 seen-names (step ∷ steps) h = (h.0, seen-names steps h.1)
 
 -- each command of what was read names a file by a file's name
 pub read_names : (actors : ℕ) (texts : List (List ℕ)) (steps : List Step)
-    → steps_from actors 1 1 texts ≡ Ok (map stepped steps) → AllByRecursion (λ step. NamesFile (seen step.order)) steps
-read_names actors texts steps read = seen-names steps (IfOk-at_ok AllName read (steps-names actors 1 1 texts))
+    → told (lines_behind actors [] texts) ≡ Ok (map stepped steps) → AllByRecursion (λ step. NamesFile (seen step.order)) steps
+read_names actors texts steps read =
+    seen-names steps (IfOk-at_ok AllSteps read (told-names (lines_behind actors [] texts) (lines-names actors [] texts)))

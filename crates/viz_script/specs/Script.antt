@@ -1,28 +1,53 @@
 -- The steps of a script, or the first refusal of its first line that has one (docs/FORMATS.md,
 -- "Scripts").
-use Rattle.std.specs.Prelude.{◌≡◌, ℕ, ℤ, pos, ◌+◌, Bool, ◌&&◌, ◌||◌, ◌==◌, nat_lt, int_le}
-use Rattle.std.specs.Prelude.{unsigned_abs, List, [], ◌∷◌, map, length, codes, Option, None, Some}
-use Rattle.std.specs.Prelude.{Result, Ok, Err, if◌then◌else◌}
+use Rattle.std.specs.Prelude.{◌≡◌, ℕ, ◌+◌, Bool, ◌||◌, ◌==◌, nat_lt, List, [], ◌∷◌, ◌++◌, map}
+use Rattle.std.specs.Prelude.{length, Result, Ok, Err, if◌then◌else◌}
 use Rattle.std.specs.List.{AllByRecursion}
-use Rattle.viz_kinds.specs.Values.{is_text}
+use Rattle.viz_network.specs.declared.edit.Edit.{Edit}
 use Rattle.viz_words.specs.declared.refusal.ScriptRefusal.{ScriptRefusal}
 use Rattle.viz_words.specs.declared.refusal.ScriptRefusal.TheVariants as refusal
 use Rattle.viz_words.specs.declared.refusal.ScriptStop.{ScriptStop}
 use Rattle.viz_words.specs.declared.refusal.ScriptStop.TheVariants.{Refused, Memory}
-use Rattle.viz_words.specs.Gives.{◌>>=◌, guard}
-use Rattle.viz_words.specs.Lines.{lines_of, is_plain}
-use Rattle.viz_words.specs.Words.{words_of, is_skipped}
-use Rattle.viz_words.specs.Numbers.{number_of}
-use Rattle.viz_words.specs.Commands.{verb_of, due}
+use Rattle.viz_words.specs.Gives.{◌>>=◌}
+use Rattle.viz_words.specs.Lines.{lines_of}
 use Rattle.viz_script.specs.declared.order.Step.{Step}
 use Rattle.viz_script.specs.declared.order.Script.{Script}
-use Rattle.viz_script.specs.Orders.{Asked, seen, order_in, NamesFile}
+use Rattle.viz_script.specs.Orders.{Asked, edit, edits, seen, NamesFile}
+use Rattle.viz_script.specs.Lines.{Line, begins_batch, ends_batch, asks, line_in}
+use Rattle.viz_script.specs.Batches.{phase_behind, is_open, some_open, standing}
+pub use Rattle.viz_script.specs.Batches.{phase_limit}
 
--- what a line says
-pub data Line : Type 0 where
-  silent : Line
-  begins_phase : Line
-  asks : ℕ → Asked → Line
+-- ---- the lines of a script
+
+-- a line and what is wrong with it
+abbrev pub Stop : Type 0
+Stop = ℕ × ScriptRefusal
+
+-- the number of the line behind these
+abbrev pub number_behind : List Line → ℕ
+number_behind earlier = length earlier + 1
+
+-- a line in front of others
+abbrev pub with_line : Line → Result (List Line) Stop → Result (List Line) Stop
+with_line line (Ok lines) = Ok (line ∷ lines)
+with_line line (Err stop) = Err stop
+
+-- a line of this number, and the lines behind it; or its refusal
+abbrev pub then_lines : ℕ → (Line → Result (List Line) Stop) → Result Line ScriptRefusal
+    → Result (List Line) Stop
+then_lines number next (Ok line) = with_line line (next line)
+then_lines number next (Err refusal) = Err (number, refusal)
+
+-- what the lines behind these say, the nearest of which is the first; a batch that is open at the
+-- end is refused at the last line
+abbrev pub lines_behind : ℕ → List Line → List (List ℕ) → Result (List Line) Stop
+lines_behind actors earlier [] = if some_open earlier then Err (length earlier, refusal.Batch)
+    else Ok []
+lines_behind actors earlier (text ∷ texts) = then_lines (number_behind earlier)
+    (λ line. lines_behind actors (line ∷ earlier) texts)
+    (line_in actors text >>= standing earlier)
+
+-- ---- their steps
 
 -- a command with the phase, the actor and the line that it stands at
 pub record Stepped : Type 0 where
@@ -34,80 +59,64 @@ pub record Stepped : Type 0 where
 abbrev pub stepped : Step → Stepped
 stepped s = record { phase = s.phase; actor = s.actor; line = s.line; asked = seen s.order }
 
--- the greatest numbers of bytes, of lines and of phases
+-- a step that stands behind these lines
+abbrev pub step_behind : List Line → ℕ → Asked → Stepped
+step_behind earlier actor asked = record {
+  phase = phase_behind earlier;
+  actor = actor;
+  line = number_behind earlier;
+  asked = asked;
+}
+
+-- the edits of an actor in these lines, up to the end of its batch
+abbrev pub batch_in : ℕ → List Line → List Edit
+batch_in actor [] = []
+batch_in actor (ends_batch a ∷ later) = if a == actor then [] else batch_in actor later
+batch_in actor (asks a (edit e) ∷ later) = if a == actor then e ∷ batch_in actor later
+    else batch_in actor later
+batch_in actor (line ∷ later) = batch_in actor later
+
+-- the step of a line, if it has one, with these lines in front of it and those behind it: a batch
+-- where it begins, and a command that stands in no batch
+abbrev pub step_of : List Line → Line → List Line → List Stepped
+step_of earlier (begins_batch actor) later = step_behind earlier actor
+    (edits (batch_in actor later)) ∷ []
+step_of earlier (asks actor asked) later = if is_open actor earlier then []
+    else step_behind earlier actor asked ∷ []
+step_of earlier line later = []
+
+-- the steps of lines that stand behind these
+abbrev pub steps_behind : List Line → List Line → List Stepped
+steps_behind earlier [] = []
+steps_behind earlier (line ∷ later) = step_of earlier line later
+    ++ steps_behind (line ∷ earlier) later
+
+-- the steps of a script's lines
+abbrev pub steps_of : List Line → List Stepped
+steps_of lines = steps_behind [] lines
+
+-- ---- the script
+
+-- the greatest numbers of bytes and of lines
 abbrev pub byte_limit : ℕ
 byte_limit = 1048576
 
 abbrev pub line_limit : ℕ
 line_limit = 65536
 
-abbrev pub phase_limit : ℕ
-phase_limit = 64
-
--- the actor has a number from 1 to 8, and there are so many
-abbrev pub is_actor : ℤ → ℕ → Bool
-is_actor actor actors = int_le (pos 1) actor && int_le actor (pos 8) && int_le actor (pos actors)
-
--- what a line says behind the word phase
-abbrev pub phase_in : List (List ℕ) → Result Line ScriptRefusal
-phase_in [] = Ok begins_phase
-phase_in (word ∷ words) = Err refusal.Arity
-
--- what a line says behind the number of an actor
-abbrev pub actor_in : ℤ → ℕ → List (List ℕ) → Result Line ScriptRefusal
-actor_in actor actors words = verb_of words >>= λ verb. guard
-    (is_actor actor actors) refusal.ActorRange >>= λ in_range.
-    due words >>= λ rest. order_in verb rest.1 >>= λ order. Ok (asks (unsigned_abs actor) order)
-
--- the same, where the word is a number
-abbrev pub number_in_front : Option ℤ → ℕ → List (List ℕ) → Result Line ScriptRefusal
-number_in_front None actors words = Err refusal.Word
-number_in_front (Some actor) actors words = actor_in actor actors words
-
--- what the words of a line say
-abbrev pub words_in : ℕ → List (List ℕ) → Result Line ScriptRefusal
-words_in actors [] = Ok silent
-words_in actors (word ∷ words) = if is_text word (codes "phase") then phase_in words
-    else number_in_front (number_of word) actors words
-
--- what a line says, or its first refusal
-abbrev pub line_in : ℕ → List ℕ → Result Line ScriptRefusal
-line_in actors line = if is_skipped line then Ok silent
-    else (guard (is_plain line) refusal.Word >>= λ plain. words_in actors (words_of line))
-
--- a line and what is wrong with it
-abbrev pub Stop : Type 0
-Stop = ℕ × ScriptRefusal
-
--- a step in front of others
-abbrev pub with_step : Stepped → Result (List Stepped) Stop → Result (List Stepped) Stop
-with_step step (Ok steps) = Ok (step ∷ steps)
-with_step step (Err stop) = Err stop
-
--- the steps of a line of this number and phase, and of those behind it in the phase that it leaves
-abbrev pub told : ℕ → ℕ → (ℕ → Result (List Stepped) Stop) → Result Line ScriptRefusal
-    → Result (List Stepped) Stop
-told line phase next (Err refusal) = Err (line, refusal)
-told line phase next (Ok silent) = next phase
-told line phase next (Ok begins_phase) = if phase == phase_limit then Err (line, refusal.Phase)
-    else next (phase + 1)
-told line phase next (Ok (asks actor order)) = with_step
-    (record { phase = phase; actor = actor; line = line; asked = order }) (next phase)
-
--- the steps of the lines, the first of which has this number and stands in this phase
-abbrev pub steps_from : ℕ → ℕ → ℕ → List (List ℕ) → Result (List Stepped) Stop
-steps_from actors line phase [] = Ok []
-steps_from actors line phase (text ∷ texts) = told line phase
-    (λ p. steps_from actors (line + 1) p texts) (line_in actors text)
-
 -- more bytes or lines than a script has
 abbrev pub is_too_long : List ℕ → Bool
 is_too_long bytes = nat_lt byte_limit (length bytes) || nat_lt line_limit (length (lines_of bytes))
 
+-- the steps of lines, or the refusal of one
+abbrev pub told : Result (List Line) Stop → Result (List Stepped) Stop
+told (Ok lines) = Ok (steps_of lines)
+told (Err stop) = Err stop
+
 -- the steps of a script with so many actors
 abbrev pub script_of : ℕ → List ℕ → Result (List Stepped) Stop
 script_of actors bytes = if is_too_long bytes then Err (0, refusal.TooLong)
-    else steps_from actors 1 1 (lines_of bytes)
+    else told (lines_behind actors [] (lines_of bytes))
 
 -- the script that the definition gives, or the refusal that it gives, unless memory ran out
 abbrev pub Reads : Result Script ScriptStop → Result (List Stepped) Stop → Type 0

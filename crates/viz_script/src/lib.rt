@@ -7,6 +7,7 @@
 
 mod line;
 mod order;
+mod parser;
 mod parsing;
 
 pub use order::{Order, Script, Step};

@@ -1,11 +1,11 @@
 //! What a line of a script says.
 
-ghost use Rattle.std.specs.Prelude.{◌≡◌, codes};
+ghost use Rattle.std.specs.Prelude.{◌≡◌, codes, IfOk};
 ghost use Rattle.viz_words.specs.Words.{words_of};
 ghost use Rattle.viz_words.specs.Gives.{Gives};
 ghost use Rattle.viz_script.specs.Orders.{seen, load_in, update_in, audit_in, order_in};
-ghost use Rattle.viz_script.specs.Steps.Loop.{heard, heard_result};
-ghost use Rattle.viz_script.specs.Script.{is_actor, phase_in, actor_in, words_in, line_in};
+ghost use Rattle.viz_script.specs.Lines.{is_actor, alone, command_in, actor_in, words_in, line_in};
+ghost use Rattle.viz_script.specs.Steps.Heard.{heard, heard_result, IsActor, HasActor};
 
 use crate::order::Order;
 use viz_base::Shape;
@@ -14,11 +14,16 @@ use viz_words::{
     node_name, number, three, two, verb_of,
 };
 
+/// The greatest number of an actor.
+pub(crate) const ACTORS: usize = 8;
+
 /// What a line says.
 #[derive(Debug, Drop)]
 pub enum Said {
     Nothing,
     Phase,
+    Begin { actor: u32 },
+    End { actor: u32 },
     Order { actor: u32, order: Order },
 }
 
@@ -72,41 +77,58 @@ fn order_in(verb: Verb, text: &[u8]) -> Result<Order, ScriptRefusal>
 fn is_actor(actor: &i64, actors: u32) -> bool
     ensures { result ≡ is_actor actor.now actors }
 {
-    1 <= *actor && *actor <= 8 && *actor <= i64::from(actors)
+    1 <= *actor && *actor <= ACTORS as i64 && *actor <= i64::from(actors)
 }
 
-fn phase_in(text: &[u8]) -> Result<Said, ScriptRefusal>
-    ensures { Gives heard result (phase_in (words_of text.now)) }
+/// What was said, where no further word stands.
+fn alone(said: Said, text: &[u8]) -> Result<Said, ScriptRefusal>
+    requires actor { HasActor said }
+    ensures gives { Gives heard result (alone (heard said) (words_of text.now)) }
+    ensures actor { IfOk result HasActor }
 {
     match next_word(text) {
-        None => Ok(Said::Phase),
+        None => Ok(said),
         Some(_) => Err(ScriptRefusal::Arity),
     }
 }
 
+/// What a command of an actor says with the words behind it.
+fn command_in(actor: u32, verb: Verb, text: &[u8]) -> Result<Said, ScriptRefusal>
+    requires known { IsActor actor }
+    ensures gives { Gives heard result (command_in actor verb (words_of text.now)) }
+    ensures actor { IfOk result HasActor }
+{
+    match verb {
+        Verb::Begin => alone(Said::Begin { actor }, text),
+        Verb::End => alone(Said::End { actor }, text),
+        _ => {
+            let order = order_in(verb, text)?;
+            Ok(Said::Order { actor, order })
+        }
+    }
+}
+
 fn actor_in(actor: &i64, actors: u32, text: &[u8]) -> Result<Said, ScriptRefusal>
-    ensures { Gives heard result (actor_in actor.now actors (words_of text.now)) }
+    ensures gives { Gives heard result (actor_in actor.now actors (words_of text.now)) }
+    ensures actor { IfOk result HasActor }
 {
     let verb = verb_of(text)?;
     if !is_actor(actor, actors) {
         return Err(ScriptRefusal::ActorRange);
     }
     let (_, rest) = due(text)?;
-    let order = order_in(verb, rest)?;
-    Ok(Said::Order {
-        actor: *actor as u32,
-        order,
-    })
+    command_in(*actor as u32, verb, rest)
 }
 
 fn words_in(text: &[u8], actors: u32) -> Result<Said, ScriptRefusal>
-    ensures { Gives heard result (words_in actors (words_of text.now)) }
+    ensures gives { Gives heard result (words_in actors (words_of text.now)) }
+    ensures actor { IfOk result HasActor }
 {
     let Some((word, rest)) = next_word(text) else {
         return Ok(Said::Nothing);
     };
     if word == b"phase".as_slice() {
-        return phase_in(rest);
+        return alone(Said::Phase, rest);
     }
     match number(word) {
         Some(actor) => actor_in(&actor, actors, rest),
@@ -116,7 +138,8 @@ fn words_in(text: &[u8], actors: u32) -> Result<Said, ScriptRefusal>
 
 /// What the line says, where there are so many actors.
 pub(crate) fn line_in(text: &[u8], actors: u32) -> Result<Said, ScriptRefusal>
-    ensures { heard_result result ≡ line_in actors text.now }
+    ensures said { heard_result result ≡ line_in actors text.now }
+    ensures actor { IfOk result HasActor }
 {
     if is_skipped(text) {
         return Ok(Said::Nothing);

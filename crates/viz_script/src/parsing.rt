@@ -1,12 +1,14 @@
 //! The steps of a script.
 
-ghost use Rattle.std.specs.Prelude.{◌≡◌, ◌≤◌, IfOk, map, length};
+ghost use Rattle.std.specs.Prelude.{◌≡◌, ◌≤◌, [], IfOk, map, length};
 ghost use Rattle.viz_words.specs.Lines.{lines_of};
-ghost use Rattle.viz_script.specs.Script.{stepped, steps_from, script_of, NamesFiles, Reads};
-ghost use Rattle.viz_script.specs.Steps.Loop.{heard_result, Goes, ReadsSteps};
+ghost use Rattle.viz_script.specs.Script.{stepped, lines_behind, told, script_of};
+ghost use Rattle.viz_script.specs.Script.{NamesFiles, Reads};
+ghost use Rattle.viz_script.specs.Steps.Parser.{ReadsSteps};
 
-use crate::line::{Said, line_in};
+use crate::line::line_in;
 use crate::order::{Script, Step};
+use crate::parser::Parser;
 use std::alloc::Global;
 use viz_words::{ScriptRefusal, ScriptStop, next_line};
 
@@ -15,9 +17,6 @@ const BYTES: usize = 1_048_576;
 
 /// The greatest number of lines of a script.
 const LINES: usize = 65_536;
-
-/// The number of phases.
-const PHASES: u32 = 64;
 
 /// The number of lines.
 fn line_count(text: &[u8]) -> usize
@@ -32,60 +31,28 @@ fn line_count(text: &[u8]) -> usize
     n
 }
 
-/// Takes what a line says: begins a phase, or adds a step.
-fn take(
-    steps: &mut Vec<Step>,
-    phase: &mut u32,
-    line: u32,
-    said: Result<Said, ScriptRefusal>,
-) -> Result<(), ScriptStop>
-    requires few { phase.old ≤ PHASES }
-    ensures goes { Goes result
-        (map stepped steps.old.items) phase.old line
-        (heard_result said) (map stepped steps.new.items) phase.new }
-    ensures within { phase.new ≤ PHASES }
-{
-    match said {
-        Err(refusal) => Err(ScriptStop::Refused { line, refusal }),
-        Ok(Said::Nothing) => Ok(()),
-        Ok(Said::Phase) => {
-            if *phase == PHASES {
-                return Err(ScriptStop::Refused {
-                    line,
-                    refusal: ScriptRefusal::Phase,
-                });
-            }
-            *phase += 1;
-            Ok(())
-        }
-        Ok(Said::Order { actor, order }) => {
-            steps.push(Step {
-                phase: *phase,
-                actor,
-                line,
-                order,
-            })?;
-            Ok(())
-        }
-    }
-}
-
 /// The steps of all lines.
 fn steps_of(alloc: Global, text: &[u8], actors: u32, lines: usize) -> Result<Vec<Step>, ScriptStop>
     requires count { lines ≡ length (lines_of text.now) }
     requires few { lines ≤ LINES }
     ensures { ReadsSteps (λ steps. map stepped steps.items) result
-        (steps_from actors 1 1 (lines_of text.now)) }
+        (told (lines_behind actors [] (lines_of text.now))) }
 {
-    let mut steps = Vec::with_capacity(alloc, lines)?;
-    let mut phase = 1;
+    let mut parser = Parser::new(alloc, lines)?;
     let mut line = 0;
     let mut rest = text;
     while let Some((front, behind)) = next_line(rest) {
         line += 1;
-        take(&mut steps, &mut phase, line, line_in(front, actors))?;
+        parser.take(line, line_in(front, actors))?;
         rest = behind;
     }
+    if parser.has_open() {
+        return Err(ScriptStop::Refused {
+            line,
+            refusal: ScriptRefusal::Batch,
+        });
+    }
+    let steps = parser.into_steps()?;
     Ok(steps)
 }
 

@@ -1,6 +1,6 @@
 //! Scripts and their refusals. The lines are counted by hand.
 
-use ScriptRefusal::{ActorRange, Arity, Name, Number, Phase, TooLong, Word};
+use ScriptRefusal::{ActorRange, Arity, Batch, Name, Number, Phase, TooLong, Word};
 use std::alloc::Global;
 use std::process::Abort;
 use std::test::Fail;
@@ -111,6 +111,34 @@ const LINES: [Row; 9] = [
     (b"1 remove a\n1 blend\n1 remove\n", Some((2, Word))),
 ];
 
+const BATCHES: [Row; 21] = [
+    // A batch that is begun, ended or left open where it may not be.
+    (b"1 begin\n1 remove a\n1 begin\n", Some((3, Batch))),
+    (b"1 end\n", Some((1, Batch))),
+    (b"1 begin\n2 remove a\n2 end\n", Some((3, Batch))),
+    (b"1 begin\n1 end\n", Some((2, Batch))),
+    (b"1 begin\n1 remove a\n", Some((2, Batch))),
+    (b"1 begin", Some((1, Batch))),
+    (b"1 begin\n1 remove a\n# no end\n \t\n", Some((4, Batch))),
+    // What may not stand in one.
+    (b"1 begin\n1 load s f\n", Some((2, Batch))),
+    (b"1 begin\n1 update s f 1 1\n1 end\n", Some((2, Batch))),
+    (b"1 begin\n1 audit s 1 1\n1 end\n", Some((2, Batch))),
+    (b"1 begin\n1 remove a\nphase\n1 end\n", Some((3, Batch))),
+    // Other refusals of a line come first.
+    (b"begin\n", Some((1, Word))),
+    (b"9 begin\n", Some((1, ActorRange))),
+    (b"1 begin 1\n", Some((1, Arity))),
+    (b"1 end 1\n", Some((1, Arity))),
+    (b"1 begin\n1 load s\n", Some((2, Arity))),
+    (b"1 begin\nphase 1\n", Some((2, Arity))),
+    (b"1 begin\n1 remove a-\n", Some((2, Name))),
+    // Batches of two actors, and others' commands in between.
+    (b"1 begin\n1 remove a\n1 end\n1 begin\n1 remove b\n1 end\nphase\n", None),
+    (b"1 begin\n2 load s f\n1 remove a\n2 audit s 1 1\n1 end\n", None),
+    (b"1 begin\n2 begin\n2 remove a\n1 remove b\n1 end\n2 end\n", None),
+];
+
 #[test]
 fn words_and_actors_are_refused(rt: HostRuntime) -> Result<(), Fail> {
     are_told(&rt, rt.alloc(), &WORDS);
@@ -126,6 +154,12 @@ fn each_refusal_has_a_neighbour(rt: HostRuntime) -> Result<(), Fail> {
     are_told(&rt, rt.alloc(), &NAMES);
     are_told(&rt, rt.alloc(), &NUMBERS);
     are_told(&rt, rt.alloc(), &LINES);
+    Ok(())
+}
+
+#[test]
+fn batches_are_refused(rt: HostRuntime) -> Result<(), Fail> {
+    are_told(&rt, rt.alloc(), &BATCHES);
     Ok(())
 }
 
@@ -156,10 +190,28 @@ fn bytes_lines_and_phases_are_bounded(rt: HostRuntime) -> Result<(), Fail> {
     Ok(())
 }
 
+#[test]
+fn edits_of_a_batch_are_bounded(rt: HostRuntime) -> Result<(), Fail> {
+    let alloc = rt.alloc();
+    let rows: [(&[u8], &[u8], usize, &[u8], Refused); 3] = [
+        (b"1 begin\n", b"1 remove a\n", 64, b"1 end\n", None),
+        (b"1 begin\n", b"1 remove a\n", 65, b"1 end\n", Some((66, Batch))),
+        (b"", b"phase\n", 63, b"1 begin\nphase\n", Some((65, Phase))),
+    ];
+    for (front, piece, count, behind, want) in rows {
+        let mut text = front.to_vec(alloc)?;
+        text.extend_from_slice(&times(alloc, piece, count)?)?;
+        text.extend_from_slice(behind)?;
+        assert_eq!(rt; told(alloc, &text, 8), want, "{piece:?} {count}");
+    }
+    Ok(())
+}
+
 /// The two words of an order, a number and another.
 fn order_of(order: &Order) -> (&[u8], &[u8], i64, i64) {
     match order {
         Order::Do(edit) => edit_of(edit),
+        Order::DoAll(_) => (b"", b"", -9, 0),
         Order::Load { node, file } => (node.bytes(), file.text().as_bytes(), -1, 0),
         Order::Update { node, file, shape } => (
             node.bytes(),
@@ -224,6 +276,64 @@ fn a_script_is_its_steps(rt: HostRuntime) -> Result<(), Fail> {
     assert_eq!(rt; script.steps.len(), STEPS.len());
     for (step, want) in script.steps.iter().zip(&STEPS) {
         is_step(&rt, step, want);
+    }
+    Ok(())
+}
+
+/// The actor, the phase, the line and the edits of a step.
+type Placed<'a> = (u32, u32, u32, &'a [(&'a [u8], &'a [u8], i64, i64)]);
+
+const PLACED: [Placed; 5] = [
+    (1, 1, 1, &[(b"smooth", b"s", -3, 0)]),
+    (
+        1,
+        1,
+        2,
+        &[
+            (b"cut", b"c", -3, 0),
+            (b"s", b"c", 1, -5),
+            (b"z", b"", -4, 0),
+        ],
+    ),
+    (2, 1, 3, &[(b"a", b"", -4, 0)]),
+    (3, 1, 6, &[]),
+    (2, 2, 12, &[(b"b", b"", -4, 0)]),
+];
+
+const BATCHED: &[u8] = b"1 add smooth s\n1 begin\n2 begin\n1 add cut c\n2 remove a\n\
+    3 audit s 1 1\n1 connect s c 1\n2 end\n1 remove z\n1 end\nphase\n2 remove b";
+
+fn edits_of(order: &Order) -> &[Edit] {
+    match order {
+        Order::Do(edit) => std::slice::from_ref(edit),
+        Order::DoAll(batch) => batch.edits(),
+        _ => &[],
+    }
+}
+
+fn are_edits(edits: &[Edit], want: &[(&[u8], &[u8], i64, i64)]) -> bool {
+    edits.len() == want.len()
+        && edits
+            .iter()
+            .zip(want)
+            .all(|(edit, want)| edit_of(edit) == *want)
+}
+
+fn is_placed(step: &Step, want: &Placed) -> bool {
+    let found = (step.actor, step.phase, step.line);
+    let place = (want.0, want.1, want.2);
+    let edits = are_edits(edits_of(&step.order), want.3);
+    found == place && edits
+}
+
+#[test]
+fn a_batch_is_one_step_where_it_begins(rt: HostRuntime) -> Result<(), Fail> {
+    let Ok(script) = parse(rt.alloc(), BATCHED, 8) else {
+        return Err("no script")?;
+    };
+    assert_eq!(rt; script.steps.len(), PLACED.len());
+    for (step, want) in script.steps.iter().zip(&PLACED) {
+        assert!(rt; is_placed(step, want), "{}", step.line);
     }
     Ok(())
 }

@@ -65,6 +65,8 @@ fn words_are_found_in_their_tables(rt: HostRuntime) -> Result<(), Fail> {
     assert_eq!(rt; param_named(b"version"), Some(Param::Version));
     assert_eq!(rt; command_named(b"load"), Some(Command::Load));
     assert_eq!(rt; command_named(b"audit"), Some(Command::Audit));
+    assert_eq!(rt; command_named(b"begin"), Some(Command::Begin));
+    assert_eq!(rt; command_word(Command::End), b"end".as_slice());
     assert_eq!(rt; command_word(Command::Audit), b"audit".as_slice());
     Ok(())
 }
