@@ -1,13 +1,16 @@
 -- The steps of a script, phase after phase, have its commands by actor and phase.
-use Rattle.std.proofs.Common.{◌≡◌, ℕ, zero, suc, ◌+◌, ◌<◌, ◌≤◌, Bool, true, false, cond, ◌&&◌, ◌==◌, List, [], ◌∷◌, map, Result, Ok, Err, refl, sym, ap, ap₂, subst, ◌∙◌, true≢false, eqb-true, false-eqb, arith}
+use Rattle.std.proofs.Common.{◌≡◌, ℕ, zero, suc, ◌+◌, ◌<◌, ◌≤◌, Bool, true, false, cond, ◌&&◌, ◌==◌, List, [], ◌∷◌, ◌++◌, length, map, is_ok, Result, Ok, Err, refl, sym, ap, ap₂, subst, ◌∙◌, true≢false, eqb-true, false-eqb, arith}
 use Rattle.std.proofs.lemmas.Bool.{ne_eqb}
 use Rattle.std.specs.Prelude.{if◌then◌else◌}
 use Rattle.viz_words.specs.declared.refusal.ScriptRefusal.{ScriptRefusal}
 use Rattle.viz_words.specs.declared.refusal.ScriptRefusal.TheVariants as refusal
+use Rattle.viz_words.specs.Gives.{◌>>=◌}
 use Rattle.viz_words.specs.Lines.{lines_of}
 use Rattle.viz_script.specs.declared.order.Step.{Step}
 use Rattle.viz_script.specs.Orders.{Asked, seen}
-use Rattle.viz_script.specs.Script.{Line, silent, begins_phase, asks, Stepped, Stop, stepped, line_in, with_step, told, steps_from, is_too_long, script_of}
+use Rattle.viz_script.specs.Lines.{Line, silent, begins_phase, begins_batch, ends_batch, asks, line_in}
+use Rattle.viz_script.specs.Batches.{phase_behind, is_open, some_open, breaks_phases, breaks_batch, standing}
+use Rattle.viz_script.specs.Script.{Stepped, Stop, stepped, number_behind, with_line, then_lines, lines_behind, step_behind, step_of, steps_behind, steps_of, told, is_too_long, script_of}
 use Rattle.viz_actor.specs.Serving.{commands_of}
 use Rattle.viz_actor.specs.Groups.{numbers, commands_in, by_phase, in_front, behind, chunks_from}
 use Rattle.viz_actor.proofs.RunLemmas.{scripts_from}
@@ -23,53 +26,80 @@ ascend_before : (low phase : ℕ) (steps : List Stepped) → low ≤ phase → A
 ascend_before low phase [] le p = tt
 ascend_before low phase (s ∷ steps) le p = (let first = p.0 in omega (arith, le, first), p.1, p.2)
 
+no_stop : {T : Type 0} (stop : Stop) (x : T) → (let r : Result T Stop = Err stop in r) ≡ Ok x → ⊥
+no_stop stop x e = true≢false (sym (ap is_ok e))
+
+same_value : {T : Type 0} (x y : T) → (let r : Result T Stop = Ok x in r) ≡ Ok y → x ≡ y
+same_value {T} x y e = ap value_of e
+  where
+    value_of : Result T Stop → T
+    value_of (Ok z) = z
+    value_of (Err stop) = x
+
+-- a line that may stand behind others is in one of 64 phases
+within : (earlier : List Line) (line : Line) → breaks_phases earlier line ≡ false → phase_behind earlier < 65 → phase_behind (line ∷ earlier) < 65
+within earlier silent may lt = lt
+within earlier begins_phase may lt = (let apart = false-eqb (phase_behind earlier) 64 (sym may) in omega (arith, lt, apart))
+within earlier (begins_batch actor) may lt = lt
+within earlier (ends_batch actor) may lt = lt
+within earlier (asks actor asked) may lt = lt
+
+-- the step of a line in front of those of the lines behind it
+step_ascends : (earlier : List Line) (line : Line) (later : List Line) (steps : List Stepped) → phase_behind earlier < 65 → Ascend (phase_behind (line ∷ earlier)) steps
+    → Ascend (phase_behind earlier) (step_of earlier line later ++ steps)
+step_ascends earlier silent later steps lt rest = rest
+step_ascends earlier begins_phase later steps lt rest = ascend_before (phase_behind earlier) (phase_behind earlier + 1) steps (omega arith) rest
+step_ascends earlier (begins_batch actor) later steps lt rest = (omega arith, lt, rest)
+step_ascends earlier (ends_batch actor) later steps lt rest = rest
+step_ascends earlier (asks actor asked) later steps lt rest = by (is_open actor earlier)
+  where
+    by : (b : Bool) → Ascend (phase_behind earlier) ((if b then [] else step_behind earlier actor asked ∷ []) ++ steps)
+    by true = rest
+    by false = (omega arith, lt, rest)
+
 abbrev Read : Type 0
-Read = Result (List Stepped) Stop
+Read = Result (List Line) Stop
 
-abbrev taken_from : Read → List Stepped
-taken_from (Ok steps) = steps
-taken_from (Err stop) = []
+-- the steps of lines that stand behind others
+abbrev StepsAscend : List Line → List Line → Type 0
+StepsAscend earlier lines = Ascend (phase_behind earlier) (steps_behind earlier lines)
 
-same_steps : (xs ys : List Stepped) → (let e : Read = Ok xs in e) ≡ Ok ys → xs ≡ ys
-same_steps xs ys e = ap taken_from e
+ended : (b : Bool) (stop : Stop) (lines : List Line) → (let r : Read = if b then Err stop else Ok [] in r) ≡ Ok lines → lines ≡ []
+ended true stop lines e = absurd (no_stop stop lines e)
+ended false stop lines e = sym (same_value [] lines e)
 
-abbrev is_read : Read → Bool
-is_read (Ok steps) = true
-is_read (Err stop) = false
+module _ (earlier : List Line) (lt : phase_behind earlier < 65) (next : Line → Read)
+    (all : (line : Line) (more : List Line) → phase_behind (line ∷ earlier) < 65 → next line ≡ Ok more → StepsAscend (line ∷ earlier) more) where
+  line_ascends : (line : Line) (r : Read) (lines : List Line) → ((more : List Line) → r ≡ Ok more → StepsAscend (line ∷ earlier) more) → with_line line r ≡ Ok lines
+      → StepsAscend earlier lines
+  line_ascends line (Ok more) lines rest e =
+      subst (StepsAscend earlier) (same_value (line ∷ more) lines e)
+      (step_ascends earlier line more (steps_behind (line ∷ earlier) more) lt (rest more refl))
+  line_ascends line (Err stop) lines rest e = absurd (no_stop stop lines e)
 
-no_stop : (stop : Stop) (steps : List Stepped) → (let e : Read = Err stop in e) ≡ Ok steps → ⊥
-no_stop stop steps e = true≢false (sym (ap is_read e))
+  standing_ascends : (line : Line) (b c : Bool) (lines : List Line) → breaks_phases earlier line ≡ b
+      → then_lines (number_behind earlier) next (if b then Err refusal.Phase else (if c then Err refusal.Batch else Ok line)) ≡ Ok lines → StepsAscend earlier lines
+  standing_ascends line true c lines may e = absurd (no_stop (number_behind earlier, refusal.Phase) lines e)
+  standing_ascends line false true lines may e = absurd (no_stop (number_behind earlier, refusal.Batch) lines e)
+  standing_ascends line false false lines may e = line_ascends line (next line) lines (λ more. all line more (within earlier line may lt)) e
 
-step_ascends : (phase : ℕ) (s : Stepped) (r : Read) (steps : List Stepped) → s.phase ≡ phase → phase < 65
-    → ((more : List Stepped) → r ≡ Ok more → Ascend phase more) → with_step s r ≡ Ok steps → Ascend phase steps
-step_ascends phase s (Ok more) steps at lt rest e =
-    subst (Ascend phase) (same_steps (s ∷ more) steps e) (omega (arith, at), omega (arith, at, lt), subst (λ (p : ℕ). Ascend p more) (sym at) (rest more refl))
-step_ascends phase s (Err stop) steps at lt rest e = absurd (no_stop stop steps e)
+  read_ascends : (r : Result Line ScriptRefusal) (lines : List Line) → then_lines (number_behind earlier) next (r >>= standing earlier) ≡ Ok lines → StepsAscend earlier lines
+  read_ascends (Ok line) lines e = standing_ascends line (breaks_phases earlier line) (breaks_batch earlier line) lines refl e
+  read_ascends (Err r) lines e = absurd (no_stop (number_behind earlier, r) lines e)
 
-begins : (b : Bool) (line phase : ℕ) (next : ℕ → Read) (steps : List Stepped) → (phase == 64) ≡ b → phase < 65
-    → ((p : ℕ) (more : List Stepped) → p < 65 → next p ≡ Ok more → Ascend p more)
-    → (if b then Err (line, refusal.Phase) else next (phase + 1)) ≡ Ok steps → Ascend phase steps
-begins true line phase next steps last lt all e = absurd (no_stop (line, refusal.Phase) steps e)
-begins false line phase next steps last lt all e =
-    let apart = false-eqb phase 64 (sym last) in
-    ascend_before phase (phase + 1) steps (omega arith) (all (phase + 1) steps (omega (arith, lt, apart)) e)
+lines_ascend : (actors : ℕ) (earlier : List Line) (texts : List (List ℕ)) (lines : List Line) → phase_behind earlier < 65 → lines_behind actors earlier texts ≡ Ok lines
+    → StepsAscend earlier lines
+lines_ascend actors earlier [] lines lt e = subst (StepsAscend earlier) (sym (ended (some_open earlier) (length earlier, refusal.Batch) lines e)) tt
+lines_ascend actors earlier (text ∷ texts) lines lt e =
+    read_ascends earlier lt (λ line. lines_behind actors (line ∷ earlier) texts) (λ line more below. lines_ascend actors (line ∷ earlier) texts more below) (line_in actors text) lines e
 
-told_ascends : (line phase : ℕ) (next : ℕ → Read) (r : Result Line ScriptRefusal) (steps : List Stepped) → phase < 65
-    → ((p : ℕ) (more : List Stepped) → p < 65 → next p ≡ Ok more → Ascend p more) → told line phase next r ≡ Ok steps → Ascend phase steps
-told_ascends line phase next (Err r) steps lt all e = absurd (no_stop (line, r) steps e)
-told_ascends line phase next (Ok silent) steps lt all e = all phase steps lt e
-told_ascends line phase next (Ok begins_phase) steps lt all e = begins (phase == 64) line phase next steps refl lt all e
-told_ascends line phase next (Ok (asks actor order)) steps lt all e =
-    step_ascends phase (record { phase = phase; actor = actor; line = line; asked = order }) (next phase) steps refl lt (λ more. all phase more lt) e
+told_ascends : (r : Read) (steps : List Stepped) → ((lines : List Line) → r ≡ Ok lines → Ascend 1 (steps_of lines)) → told r ≡ Ok steps → Ascend 1 steps
+told_ascends (Ok lines) steps all e = subst (Ascend 1) (same_value (steps_of lines) steps e) (all lines refl)
+told_ascends (Err stop) steps all e = absurd (no_stop stop steps e)
 
-steps_ascend : (actors line phase : ℕ) (texts : List (List ℕ)) (steps : List Stepped) → phase < 65 → steps_from actors line phase texts ≡ Ok steps → Ascend phase steps
-steps_ascend actors line phase [] steps lt e = subst (Ascend phase) (same_steps [] steps e) tt
-steps_ascend actors line phase (text ∷ texts) steps lt e =
-    told_ascends line phase (λ p. steps_from actors (line + 1) p texts) (line_in actors text) steps lt (λ p more below. steps_ascend actors (line + 1) p texts more below) e
-
-script_by : (b : Bool) (actors : ℕ) (bytes : List ℕ) (steps : List Stepped) → (if b then Err (0, refusal.TooLong) else steps_from actors 1 1 (lines_of bytes)) ≡ Ok steps → Ascend 1 steps
+script_by : (b : Bool) (actors : ℕ) (bytes : List ℕ) (steps : List Stepped) → (if b then Err (0, refusal.TooLong) else told (lines_behind actors [] (lines_of bytes))) ≡ Ok steps → Ascend 1 steps
 script_by true actors bytes steps e = absurd (no_stop (0, refusal.TooLong) steps e)
-script_by false actors bytes steps e = steps_ascend actors 1 1 (lines_of bytes) steps (omega arith) e
+script_by false actors bytes steps e = told_ascends (lines_behind actors [] (lines_of bytes)) steps (λ lines. lines_ascend actors [] (lines_of bytes) lines (omega arith)) e
 
 pub script_ascends : (actors : ℕ) (bytes : List ℕ) (steps : List Stepped) → script_of actors bytes ≡ Ok steps → Ascend 1 steps
 script_ascends actors bytes steps e = script_by (is_too_long bytes) actors bytes steps e
