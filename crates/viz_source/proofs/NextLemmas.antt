@@ -11,8 +11,8 @@ use Rattle.viz_source.specs.declared.next_line.NextLine.{NextLine}
 use Rattle.viz_source.specs.declared.next_line.NextLine.TheVariants.{Line, LongLine, End}
 use Rattle.viz_source.specs.declared.next_line.StreamStop.{StreamStop}
 use Rattle.viz_source.specs.declared.next_line.StreamStop.TheVariants.{TooLong, Failed}
-use Rattle.viz_source.specs.Streams.{Stream, told_line, IsNext, IsPastLimit, IsOpenLine}
-use Rattle.viz_source.specs.Readers.{Reader, held, bytes_of, stream_of, IsReady, IsPrompt, Answers}
+use Rattle.viz_source.specs.Streams.{Stream, told_line, IsFrontLine, IsPastLimit, IsOpenLine}
+use Rattle.viz_source.specs.Readers.{Reader, held, bytes_of, stream_of, NeedsNoPull, IsPrompt, Answers}
 use Rattle.viz_source.specs.Steps.Reading.{measured, last_measured, EndsLine, GoesOn, IsPast, Looks, IsOpen}
 use Rattle.viz_source.proofs.StreamLemmas.{HasNoNewline-append, HasNoNewline-take, take-append, lines-first, lines-only}
 
@@ -64,19 +64,19 @@ kept_line tells start now before left o line behind h =
     ap (λ l. take KEPT (now.line ++ l)) front ∙ ap (λ l. take KEPT (l ++ line)) o.kept ∙ keep_again KEPT o.line line
 
 -- a line is told, or it is too long
-told_measured : (line : List ℕ) (old new : Stream) (left : List ℕ) → IsNext old new (told_line line) → Answers (Ok (measured line)) line old new left
+told_measured : (line : List ℕ) (old new : Stream) (left : List ℕ) → IsFrontLine old new (told_line line) → Answers (Ok (measured line)) line old new left
 told_measured line old new left = by (leb (length line) LINE_LIMIT)
   where
-    by : (b : Bool) → IsNext old new (cond b (Some line) None) → Answers (Ok (cond b Line LongLine)) line old new left
+    by : (b : Bool) → IsFrontLine old new (cond b (Some line) None) → Answers (Ok (cond b Line LongLine)) line old new left
     by true h = h
     by false h = h
 
 regroup : (kept line behind left : List ℕ) → kept ++ ((line ++ 10 ∷ behind) ++ left) ≡ ((kept ++ line) ++ 10 ∷ []) ++ (behind ++ left)
 regroup kept line behind left = simp append_assoc
 
-pub line_is_next : (tells : Bool) (start now new : Reader) (next : NextLine) (before left : List ℕ) → IsOpen tells start now before left → now.ended ≡ false → EndsLine now new next → IsTrue tells
-    → IsNext (stream_of start before) (stream_of new left) (told_line new.line)
-line_is_next tells start now new next before left o goes_on e told =
+pub line_is_in_front : (tells : Bool) (start now new : Reader) (next : NextLine) (before left : List ℕ) → IsOpen tells start now before left → now.ended ≡ false → EndsLine now new next → IsTrue tells
+    → IsFrontLine (stream_of start before) (stream_of new left) (told_line new.line)
+line_is_in_front tells start now new next before left o goes_on e told =
     let whole = o.line ++ e.line in
     let text = whole ++ 10 ∷ [] in
     let one = HasNoNewline-append o.line e.line o.none e.parts.one in
@@ -104,7 +104,7 @@ pub line_answers : (tells : Bool) (start now new : Reader) (next : NextLine) (be
     → Answers (Ok next) new.line (stream_of start before) (stream_of new left) left
 line_answers tells start now new next before left o goes_on e told =
     let P : NextLine → Type 0 = λ n. Answers (Ok n) new.line (stream_of start before) (stream_of new left) left in
-    subst P (sym e.next_is) (told_measured new.line (stream_of start before) (stream_of new left) left (line_is_next tells start now new next before left o goes_on e told))
+    subst P (sym e.next_is) (told_measured new.line (stream_of start before) (stream_of new left) left (line_is_in_front tells start now new next before left o goes_on e told))
 
 -- nothing was pulled behind it
 pub line_is_prompt : (now new : Reader) (next : NextLine) → EndsLine now new next → IsPrompt new
@@ -185,7 +185,7 @@ failed_answers tells start now mid before left later o goes_on g same told =
     }
 
 -- a reader whose input has ended pulls nothing
-pub began_open : (start now : Reader) → (IsReady start → now ≡ start) → now.ended ≡ false → start.ended ≡ false
+pub began_open : (start now : Reader) → (NeedsNoPull start → now ≡ start) → now.ended ≡ false → start.ended ≡ false
 began_open start now same goes_on = elim (cases_Bool start.ended) [
   | inl over ↦ absurd (both_ways now.ended goes_on (ap (λ (r : Reader). r.ended) (same (inl over)) ∙ over))
   | inr open_still ↦ open_still
@@ -224,9 +224,9 @@ open_on tells start now mid new before left later o goes_on g bytes line passed 
           ∙ sym (append_assoc o.line (held now) (bytes_of new later));
     }
 
-pub not_ready : (r : Reader) → r.ended ≡ false → HasNoNewline (held r) → IsReady r → ⊥
-not_ready r goes_on none (inl over) = both_ways r.ended goes_on over
-not_ready r goes_on none (inr has) = All-contains (λ b. b ≢ 10) (held r) 10 none.each has refl
+pub needs_a_pull : (r : Reader) → r.ended ≡ false → HasNoNewline (held r) → NeedsNoPull r → ⊥
+needs_a_pull r goes_on none (inl over) = both_ways r.ended goes_on over
+needs_a_pull r goes_on none (inr has) = All-contains (λ b. b ≢ 10) (held r) 10 none.each has refl
 
 -- what a refusal says, where no line was found among the bytes that are held
 pub stop_answers : (tells : Bool) (start now new : Reader) (before left : List ℕ) (stop : StreamStop) → IsOpen tells start now before left → now.ended ≡ false → Looks now new (Err stop) → IsTrue tells

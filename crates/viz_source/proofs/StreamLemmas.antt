@@ -12,7 +12,7 @@ use Rattle.viz_source.specs.declared.next_line.NextLine.{NextLine}
 use Rattle.viz_source.specs.declared.next_line.NextLine.TheVariants.{Line, LongLine, End}
 use Rattle.viz_source.specs.declared.next_line.StreamStop.{StreamStop}
 use Rattle.viz_source.specs.declared.next_line.StreamStop.TheVariants.{TooLong, Failed}
-use Rattle.viz_source.specs.Streams.{Stream, told_line, told_lines, before_ended, ended_part, whole_lines, lines_left, IsTooLong, IsEnded, IsUnended, IsNext, IsPastLimit, IsOpenLine, IsOver, AreAnswered}
+use Rattle.viz_source.specs.Streams.{Stream, told_line, told_lines, before_newline, up_to_newline, whole_lines, lines_left, IsTooLong, IsWholeLine, IsLastLine, IsFrontLine, IsPastLimit, IsOpenLine, IsOver, AreFrontLines}
 use Rattle.viz_source.specs.Readers.{Answers, Tells}
 
 -- ---- bytes without a newline
@@ -64,24 +64,24 @@ lines-only (b ∷ bs) one some = lines-last (b ∷ bs) (no_length (b ∷ bs) one
 
 -- ---- the part that newlines end
 
-ended-cons : (b : ℕ) (bs line more : List ℕ) → bs ≡ line ++ 10 ∷ more → before_ended b bs ≡ b ∷ bs
-ended-cons b bs [] more e = rw e refl
-ended-cons b bs (c ∷ cs) more e = rw e refl
+whole-cons : (b : ℕ) (bs line more : List ℕ) → bs ≡ line ++ 10 ∷ more → before_newline b bs ≡ b ∷ bs
+whole-cons b bs [] more e = rw e refl
+whole-cons b bs (c ∷ cs) more e = rw e refl
 
-pub ended-first : (line more : List ℕ) → ended_part (line ++ 10 ∷ more) ≡ line ++ 10 ∷ ended_part more
-ended-first [] more = by (ended_part more)
+pub whole-first : (line more : List ℕ) → up_to_newline (line ++ 10 ∷ more) ≡ line ++ 10 ∷ up_to_newline more
+whole-first [] more = by (up_to_newline more)
   where
-    by : (bs : List ℕ) → before_ended 10 bs ≡ 10 ∷ bs
+    by : (bs : List ℕ) → before_newline 10 bs ≡ 10 ∷ bs
     by [] = refl
     by (c ∷ cs) = refl
-ended-first (b ∷ bs) more =
-    let rest = ended-first bs more in
-    ended-cons b (ended_part (bs ++ 10 ∷ more)) bs (ended_part more) rest ∙ ap (λ l. b ∷ l) rest
+whole-first (b ∷ bs) more =
+    let rest = whole-first bs more in
+    whole-cons b (up_to_newline (bs ++ 10 ∷ more)) bs (up_to_newline more) rest ∙ ap (λ l. b ∷ l) rest
 
-pub ended-none : (line : List ℕ) → HasNoNewline line → ended_part line ≡ []
-ended-none [] one = refl
-ended-none (b ∷ bs) one =
-    rw (ended-none bs (HasNoNewline-tail b bs one), ne_eqb b 10 (HasNoNewline-head b bs one)) refl
+pub whole-none : (line : List ℕ) → HasNoNewline line → up_to_newline line ≡ []
+whole-none [] one = refl
+whole-none (b ∷ bs) one =
+    rw (whole-none bs (HasNoNewline-tail b bs one), ne_eqb b 10 (HasNoNewline-head b bs one)) refl
 
 -- ---- what the next line says of those that are to come
 
@@ -89,19 +89,19 @@ first_is : (a b : Option (List ℕ)) (xs ys : List (Option (List ℕ))) → a �
 first_is a b xs ys e = cc
 
 -- a line that a newline ends stands in front of the others
-told-ended : (text more : List ℕ) (line : Option (List ℕ)) → IsEnded text → told_lines text ≡ line ∷ [] → told_lines (text ++ more) ≡ line ∷ told_lines more
-told-ended text more line ends told =
+told-whole : (text more : List ℕ) (line : Option (List ℕ)) → IsWholeLine text → told_lines text ≡ line ∷ [] → told_lines (text ++ more) ≡ line ∷ told_lines more
+told-whole text more line ends told =
     let whole : text ++ more ≡ ends.line ++ 10 ∷ more = ap (λ l. l ++ more) ends.parts ∙ append_assoc ends.line (10 ∷ []) more in
     let here : told_lines text ≡ told_line (trimmed ends.line) ∷ told_lines [] = ap told_lines ends.parts ∙ ap (map told_line) (lines-first ends.line [] ends.one) in
     let same : told_line (trimmed ends.line) ≡ line = first_is _ _ (told_lines []) [] (sym here ∙ told) in
     ap told_lines whole ∙ ap (map told_line) (lines-first ends.line more ends.one) ∙ ap (λ l. l ∷ told_lines more) same
 
 -- and of those that were taken whole
-pub whole-ended : (text more : List ℕ) (line : Option (List ℕ)) → IsEnded text → told_lines text ≡ line ∷ [] → whole_lines (text ++ more) ≡ line ∷ whole_lines more
-whole-ended text more line ends told =
+pub whole-front : (text more : List ℕ) (line : Option (List ℕ)) → IsWholeLine text → told_lines text ≡ line ∷ [] → whole_lines (text ++ more) ≡ line ∷ whole_lines more
+whole-front text more line ends told =
     let whole : text ++ more ≡ ends.line ++ 10 ∷ more = ap (λ l. l ++ more) ends.parts ∙ append_assoc ends.line (10 ∷ []) more in
-    let back : ends.line ++ 10 ∷ ended_part more ≡ text ++ ended_part more = sym (ap (λ l. l ++ ended_part more) ends.parts ∙ append_assoc ends.line (10 ∷ []) (ended_part more)) in
-    ap whole_lines whole ∙ ap told_lines (ended-first ends.line more) ∙ ap told_lines back ∙ told-ended text (ended_part more) line ends told
+    let back : ends.line ++ 10 ∷ up_to_newline more ≡ text ++ up_to_newline more = sym (ap (λ l. l ++ up_to_newline more) ends.parts ∙ append_assoc ends.line (10 ∷ []) (up_to_newline more)) in
+    ap whole_lines whole ∙ ap told_lines (whole-first ends.line more) ∙ ap told_lines back ∙ told-whole text (up_to_newline more) line ends told
 
 -- of a stream that isn't too long all lines are to come
 pub lines_left-all : (s : Stream) → s.passed + length s.bytes ≤ STREAM_LIMIT → lines_left s ≡ told_lines s.bytes
@@ -114,14 +114,14 @@ unfolding lines_left
 lines_left-some s h = cond-true _ _ _ (lt-ltb STREAM_LIMIT (s.passed + length s.bytes) h)
 
 -- how long a stream is stays the same behind its next line
-same_length : (old new : Stream) (line : Option (List ℕ)) → IsNext old new line → new.passed + length new.bytes ≡ old.passed + length old.bytes
+same_length : (old new : Stream) (line : Option (List ℕ)) → IsFrontLine old new line → new.passed + length new.bytes ≡ old.passed + length old.bytes
 same_length old new line h =
     let size : length old.bytes ≡ length h.text + length new.bytes = ap length h.parts ∙ length-append h.text new.bytes in
     omega (arith, h.passed, size)
 
 -- the next line stands in front of those that are to come behind it
-pub next-lines : (old new : Stream) (line : Option (List ℕ)) → IsNext old new line → lines_left old ≡ line ∷ lines_left new
-next-lines old new line h = elim (cases_lt STREAM_LIMIT (old.passed + length old.bytes)) [
+pub front-lines : (old new : Stream) (line : Option (List ℕ)) → IsFrontLine old new line → lines_left old ≡ line ∷ lines_left new
+front-lines old new line h = elim (cases_lt STREAM_LIMIT (old.passed + length old.bytes)) [
   | inl longer ↦
       let more : IsTooLong new = omega (arith, longer, same_length old new line h) in
       elim h.ends [
@@ -133,7 +133,7 @@ next-lines old new line h = elim (cases_lt STREAM_LIMIT (old.passed + length old
             ∙ ap (λ l. l ++ take (STREAM_LIMIT - old.passed - length h.text) new.bytes) (take_all (STREAM_LIMIT - old.passed) h.text all)
             ∙ ap (λ n. h.text ++ take n new.bytes) room in
             lines_left-some old longer ∙ ap whole_lines front
-            ∙ whole-ended h.text (take (STREAM_LIMIT - new.passed) new.bytes) line ends h.told ∙ ap (λ l. line ∷ l) (sym (lines_left-some new more))
+            ∙ whole-front h.text (take (STREAM_LIMIT - new.passed) new.bytes) line ends h.told ∙ ap (λ l. line ∷ l) (sym (lines_left-some new more))
         | inr last ↦
             let none : length new.bytes ≡ 0 = ap length last.last in
             absurd (omega (arith, more, none, h.within))
@@ -142,7 +142,7 @@ next-lines old new line h = elim (cases_lt STREAM_LIMIT (old.passed + length old
       let less : new.passed + length new.bytes ≤ STREAM_LIMIT = omega (arith, short, same_length old new line h) in
       elim h.ends [
         | inl ends ↦
-            lines_left-all old short ∙ ap told_lines h.parts ∙ told-ended h.text new.bytes line ends h.told
+            lines_left-all old short ∙ ap told_lines h.parts ∙ told-whole h.text new.bytes line ends h.told
             ∙ ap (λ l. line ∷ l) (sym (lines_left-all new less))
         | inr last ↦
             let whole : old.bytes ≡ h.text = h.parts ∙ ap (λ l. h.text ++ l) last.last ∙ append-nil h.text in
@@ -164,12 +164,12 @@ over-lines s h = elim (cases_lt STREAM_LIMIT (s.passed + length s.bytes)) [
 
 -- nor where none ends within the limit
 pub past-lines : (s : Stream) → IsPastLimit s → lines_left s ≡ []
-past-lines s h = lines_left-some s h.longer ∙ ap told_lines (ended-none (take (STREAM_LIMIT - s.passed) s.bytes) h.none)
+past-lines s h = lines_left-some s h.longer ∙ ap told_lines (whole-none (take (STREAM_LIMIT - s.passed) s.bytes) h.none)
 
 -- what an answer says of the lines that are to come
 pub tells_of : (result : Result NextLine StreamStop) (line : List ℕ) (old new : Stream) (left : List ℕ) → Answers result line old new left → Tells result line old new
-tells_of (Ok Line) line old new left h = next-lines old new (Some line) h
-tells_of (Ok LongLine) line old new left h = next-lines old new None h
+tells_of (Ok Line) line old new left h = front-lines old new (Some line) h
+tells_of (Ok LongLine) line old new left h = front-lines old new None h
 tells_of (Ok End) line old new left h = over-lines old h.0
 tells_of (Err TooLong) line old new left h = past-lines old h
 tells_of (Err Failed) line old new left h = tt
@@ -177,16 +177,16 @@ tells_of (Err Failed) line old new left h = tt
 -- ---- all answers
 
 -- lines that are answered one after the other stand in front of those that are to come
-pub answered-lines : (old new : Stream) (lines : List (Option (List ℕ))) → AreAnswered old lines new → lines_left old ≡ lines ++ lines_left new
+pub answered-lines : (old new : Stream) (lines : List (Option (List ℕ))) → AreFrontLines old lines new → lines_left old ≡ lines ++ lines_left new
 answered-lines old new [] h = ap lines_left (sym h)
-answered-lines old new (line ∷ lines) h = next-lines old h.0 line h.1 ∙ ap (λ l. line ∷ l) (answered-lines h.0 new lines h.2)
+answered-lines old new (line ∷ lines) h = front-lines old h.0 line h.1 ∙ ap (λ l. line ∷ l) (answered-lines h.0 new lines h.2)
 
-answered-length : (old new : Stream) (lines : List (Option (List ℕ))) → AreAnswered old lines new → new.passed + length new.bytes ≡ old.passed + length old.bytes
+answered-length : (old new : Stream) (lines : List (Option (List ℕ))) → AreFrontLines old lines new → new.passed + length new.bytes ≡ old.passed + length old.bytes
 answered-length old new [] h = ap (λ (s : Stream). s.passed + length s.bytes) h
 answered-length old new (line ∷ lines) h = answered-length h.0 new lines h.2 ∙ same_length old h.0 line h.1
 
 -- a stream is as long behind them
-pub answered-too_long : (old new : Stream) (lines : List (Option (List ℕ))) → AreAnswered old lines new → IsTooLong old ↔ IsTooLong new
+pub answered-too_long : (old new : Stream) (lines : List (Option (List ℕ))) → AreFrontLines old lines new → IsTooLong old ↔ IsTooLong new
 answered-too_long old new lines h =
     let same = answered-length old new lines h in
     (λ long. omega (arith, same, long), λ long. omega (arith, same, long))
@@ -195,39 +195,39 @@ pub over-nothing : (s : Stream) → IsOver s → lines_left s ≡ []
 over-nothing s (inl over) = over-lines s over
 over-nothing s (inr past) = past-lines s past
 
-pub answered-all : (old new : Stream) (lines : List (Option (List ℕ))) → AreAnswered old lines new → IsOver new → lines ≡ lines_left old
+pub answered-all : (old new : Stream) (lines : List (Option (List ℕ))) → AreFrontLines old lines new → IsOver new → lines ≡ lines_left old
 answered-all old new lines h over =
     sym (append-nil lines) ∙ ap (λ l. lines ++ l) (sym (over-nothing new over)) ∙ sym (answered-lines old new lines h)
 
 -- ---- what was taken whole
 
-nothing_next : (old new : Stream) (line : Option (List ℕ)) → old.bytes ≡ [] → IsNext old new line → ⊥
-nothing_next old new line none h = by h.text (sym none ∙ h.parts) h.ends
+nothing_in_front : (old new : Stream) (line : Option (List ℕ)) → old.bytes ≡ [] → IsFrontLine old new line → ⊥
+nothing_in_front old new line none h = by h.text (sym none ∙ h.parts) h.ends
   where
-    by : (text : List ℕ) → [] ≡ text ++ new.bytes → IsEnded text ⊎ IsUnended text new → ⊥
+    by : (text : List ℕ) → [] ≡ text ++ new.bytes → IsWholeLine text ⊎ IsLastLine text new → ⊥
     by [] e (inl ends) = let size = ap length ends.parts in omega (arith, size, length-append ends.line (10 ∷ []))
     by [] e (inr last) = last.some refl
     by (b ∷ bs) e ends = let size : 0 ≡ length (b ∷ bs ++ new.bytes) = ap length e in omega (arith, size)
 
-ended_stays : (old new : Stream) (lines : List (Option (List ℕ))) → old.bytes ≡ [] → old.ended ≡ true → AreAnswered old lines new → new.ended ≡ true
+ended_stays : (old new : Stream) (lines : List (Option (List ℕ))) → old.bytes ≡ [] → old.ended ≡ true → AreFrontLines old lines new → new.ended ≡ true
 ended_stays old new [] none over h = ap (λ (s : Stream). s.ended) h ∙ over
-ended_stays old new (line ∷ lines) none over h = absurd (nothing_next old h.0 line none h.1)
+ended_stays old new (line ∷ lines) none over h = absurd (nothing_in_front old h.0 line none h.1)
 
 -- where a pull fails, the lines that were answered are those that were taken whole
-pub answered-whole : (old new : Stream) (lines : List (Option (List ℕ))) (left : List ℕ) → AreAnswered old lines new → new.ended ≡ false → IsOpenLine new.bytes left
+pub answered-whole : (old new : Stream) (lines : List (Option (List ℕ))) (left : List ℕ) → AreFrontLines old lines new → new.ended ≡ false → IsOpenLine new.bytes left
     → (front : List ℕ) × (old.bytes ≡ front ++ left) × (lines ≡ whole_lines front)
 answered-whole old new [] left h goes_on open_line =
-    (open_line.line, ap (λ (s : Stream). s.bytes) (sym h) ∙ open_line.parts, sym (ap told_lines (ended-none open_line.line open_line.none)))
+    (open_line.line, ap (λ (s : Stream). s.bytes) (sym h) ∙ open_line.parts, sym (ap told_lines (whole-none open_line.line open_line.none)))
 answered-whole old new (line ∷ lines) left h goes_on open_line =
     let rest = answered-whole h.0 new lines left h.2 goes_on open_line in
     by h.1.ends rest
   where
-    by : IsEnded h.1.text ⊎ IsUnended h.1.text h.0
+    by : IsWholeLine h.1.text ⊎ IsLastLine h.1.text h.0
         → (front : List ℕ) × (h.0.bytes ≡ front ++ left) × (lines ≡ whole_lines front)
         → (front : List ℕ) × (old.bytes ≡ front ++ left) × (line ∷ lines ≡ whole_lines front)
     by (inl ends) rest = (
       h.1.text ++ rest.0,
       h.1.parts ∙ ap (λ l. h.1.text ++ l) rest.1 ∙ sym (append_assoc h.1.text rest.0 left),
-      ap (λ l. line ∷ l) rest.2 ∙ sym (whole-ended h.1.text rest.0 line ends h.1.told),
+      ap (λ l. line ∷ l) rest.2 ∙ sym (whole-front h.1.text rest.0 line ends h.1.told),
     )
     by (inr last) rest = absurd (both_ways new.ended goes_on (ended_stays h.0 new lines last.last last.ended h.2))

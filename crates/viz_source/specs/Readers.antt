@@ -1,12 +1,13 @@
 -- What contracts see of a reader of lines, and what its answers say (docs/DEFINITIONS.md,
 -- "Streams").
-use Rattle.std.specs.Prelude.{◌≡◌, ℕ, ◌+◌, ◌⊎◌, Bool, true, false, IsTrue, List, [], ◌∷◌, ◌++◌, length}
-use Rattle.std.specs.Prelude.{take, drop, Contains, Some, None, Result, Ok, Err, if◌then◌else◌}
+use Rattle.std.specs.Prelude.{◌≡◌, ℕ, ◌+◌, ◌⊎◌, Bool, true, false, IsTrue, List, [], ◌∷◌, ◌++◌}
+use Rattle.std.specs.Prelude.{length, take, drop, Contains, Some, None, Result, Ok, Err}
+use Rattle.std.specs.Prelude.{if◌then◌else◌}
 use Rattle.viz_source.specs.declared.next_line.NextLine.{NextLine}
 use Rattle.viz_source.specs.declared.next_line.NextLine.TheVariants.{Line, LongLine, End}
 use Rattle.viz_source.specs.declared.next_line.StreamStop.{StreamStop}
 use Rattle.viz_source.specs.declared.next_line.StreamStop.TheVariants.{TooLong, Failed}
-use Rattle.viz_source.specs.Streams.{Stream, lines_left, IsNext, IsPastLimit, IsOpenLine}
+use Rattle.viz_source.specs.Streams.{Stream, lines_left, IsFrontLine, IsPastLimit, IsOpenLine}
 
 -- the piece that was pulled last, how many of its bytes were answered, how many bytes of the stream
 -- stand before those that weren't, whether the input has ended, and the line that was answered last
@@ -38,8 +39,8 @@ abbrev pub fresh : Reader
 fresh = record { piece = []; place = 0; passed = 0; ended = false; line = [] }
 
 -- nothing has to be pulled for the next answer: a newline was taken, or the input has ended
-abbrev pub IsReady : Reader → Type 0
-IsReady r = IsTrue r.ended ⊎ Contains (held r) 10
+abbrev pub NeedsNoPull : Reader → Type 0
+NeedsNoPull r = IsTrue r.ended ⊎ Contains (held r) 10
 
 -- nothing was pulled behind what was answered: it ends with a newline of the piece that was pulled
 -- last, or the input has ended
@@ -50,8 +51,8 @@ IsPrompt r = IsTrue r.ended
 -- what an answer says of the stream before it and of the stream behind it, with the line that was
 -- answered and the bytes that the source has left
 abbrev pub Answers : Result NextLine StreamStop → List ℕ → Stream → Stream → List ℕ → Type 0
-Answers (Ok Line) line old new left = IsNext old new (Some line)
-Answers (Ok LongLine) line old new left = IsNext old new None
+Answers (Ok Line) line old new left = IsFrontLine old new (Some line)
+Answers (Ok LongLine) line old new left = IsFrontLine old new None
 Answers (Ok End) line old new left = (old.bytes ≡ []) × (new ≡ record old { ended = true })
 Answers (Err TooLong) line old new left = IsPastLimit old
 Answers (Err Failed) line old new left = (old.ended ≡ false) × IsOpenLine old.bytes left

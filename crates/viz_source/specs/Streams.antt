@@ -21,19 +21,19 @@ told_line line = if nat_le (length line) LINE_LIMIT then Some line else None
 abbrev pub told_lines : List ℕ → List (Option (List ℕ))
 told_lines bytes = map told_line (lines_of bytes)
 
--- a byte in front of a part that is empty or ends with a newline
-abbrev pub before_ended : ℕ → List ℕ → List ℕ
-before_ended b [] = if b == 10 then b ∷ [] else []
-before_ended b (c ∷ cs) = b ∷ c ∷ cs
+-- a byte in front of bytes that end with a newline, or of none
+abbrev pub before_newline : ℕ → List ℕ → List ℕ
+before_newline b [] = if b == 10 then b ∷ [] else []
+before_newline b (c ∷ cs) = b ∷ c ∷ cs
 
--- the bytes up to the last newline and with it
-abbrev pub ended_part : List ℕ → List ℕ
-ended_part [] = []
-ended_part (b ∷ bs) = before_ended b (ended_part bs)
+-- the bytes up to the last newline, with it
+abbrev pub up_to_newline : List ℕ → List ℕ
+up_to_newline [] = []
+up_to_newline (b ∷ bs) = before_newline b (up_to_newline bs)
 
--- the lines of bytes that a newline ends: those that were taken whole
+-- the whole lines of bytes: those that a newline ends
 abbrev pub whole_lines : List ℕ → List (Option (List ℕ))
-whole_lines bytes = told_lines (ended_part bytes)
+whole_lines bytes = told_lines (up_to_newline bytes)
 
 -- the stream has more than 1,073,741,824 bytes
 abbrev pub IsTooLong : Stream → Type 0
@@ -45,27 +45,27 @@ unfoldable pub lines_left : Stream → List (Option (List ℕ))
 lines_left s = if nat_lt STREAM_LIMIT (s.passed + length s.bytes)
     then whole_lines (take (STREAM_LIMIT - s.passed) s.bytes) else told_lines s.bytes
 
--- bytes that end with their only newline
-pub record IsEnded (text : List ℕ) : Type 0 where
+-- a whole line: bytes that end with their only newline
+pub record IsWholeLine (text : List ℕ) : Type 0 where
   pub line : List ℕ
   pub parts : text ≡ line ++ 10 ∷ []
   pub one : HasNoNewline line
 
--- the last bytes of a stream, which no newline ends, and what is behind them
-pub record IsUnended (text : List ℕ) (behind : Stream) : Type 0 where
+-- a last line: bytes that no newline ends, with nothing behind them
+pub record IsLastLine (text : List ℕ) (behind : Stream) : Type 0 where
   pub some : text ≢ []
   pub none : HasNoNewline text
   pub last : behind.bytes ≡ []
   pub ended : behind.ended ≡ true
 
--- this line is the next one: it ends within the first 1,073,741,824 bytes, and the new stream is
+-- this line stands in front: it ends within the first 1,073,741,824 bytes, and the new stream is
 -- what stands behind it
-pub record IsNext (old new : Stream) (line : Option (List ℕ)) : Type 0 where
+pub record IsFrontLine (old new : Stream) (line : Option (List ℕ)) : Type 0 where
   pub text : List ℕ
   pub parts : old.bytes ≡ text ++ new.bytes
   pub passed : new.passed ≡ old.passed + length text
   pub within : new.passed ≤ STREAM_LIMIT
-  pub ends : IsEnded text ⊎ IsUnended text new
+  pub ends : IsWholeLine text ⊎ IsLastLine text new
   pub told : told_lines text ≡ line ∷ []
 
 -- no further line ends within the first 1,073,741,824 bytes, and the stream has more
@@ -73,22 +73,22 @@ pub record IsPastLimit (s : Stream) : Type 0 where
   pub none : HasNoNewline (take (STREAM_LIMIT - s.passed) s.bytes)
   pub longer : IsTooLong s
 
--- the bytes that were taken of a line, of which no newline has come, and those behind them
+-- the bytes of a line whose newline hasn't come, and those behind them
 pub record IsOpenLine (bytes behind : List ℕ) : Type 0 where
   pub line : List ℕ
   pub parts : bytes ≡ line ++ behind
   pub none : HasNoNewline line
 
 -- these lines are answered one after the other, and this stream is to come behind them
-abbrev pub AreAnswered : Stream → List (Option (List ℕ)) → Stream → Type 0
-AreAnswered old [] new = new ≡ old
-AreAnswered old (line ∷ lines) new = (next : Stream) × IsNext old next line
-    × AreAnswered next lines new
+abbrev pub AreFrontLines : Stream → List (Option (List ℕ)) → Stream → Type 0
+AreFrontLines old [] new = new ≡ old
+AreFrontLines old (line ∷ lines) new = (next : Stream) × IsFrontLine old next line
+    × AreFrontLines next lines new
 
 -- no further line is answered
 abbrev pub IsOver : Stream → Type 0
 IsOver s = (s.bytes ≡ []) ⊎ IsPastLimit s
 
 -- a stream of which nothing was taken
-abbrev pub whole_stream : List ℕ → Stream
-whole_stream bytes = record { passed = 0; bytes = bytes; ended = false }
+abbrev pub untaken : List ℕ → Stream
+untaken bytes = record { passed = 0; bytes = bytes; ended = false }

@@ -5,7 +5,7 @@ ghost use Rattle.std.specs.Prelude.{vec_len, vec_capacity, IsTrue, IfOk, OnOk, O
 ghost use Rattle.viz_base.specs.Faults.{Rose};
 ghost use Rattle.viz_words.specs.Steps.Scans.{trimmed};
 ghost use Rattle.viz_source.specs.Readers.{fresh, held, taken, bytes_of, stream_of};
-ghost use Rattle.viz_source.specs.Readers.{IsReady, IsPrompt, Answers, Tells};
+ghost use Rattle.viz_source.specs.Readers.{NeedsNoPull, IsPrompt, Answers, Tells};
 ghost use Rattle.viz_source.specs.Steps.Reading.{FindsNewline, Looks, kept_on, ended_at};
 ghost use Rattle.viz_source.specs.Steps.Reading.{measured, last_measured};
 
@@ -137,7 +137,7 @@ impl LineReader {
 
         // Of every source.
         ensures prompt { OnOk result (IsPrompt self.new) }
-        ensures ready { IsReady self.old → source.new ≡ source.old }
+        ensures no_pull { NeedsNoPull self.old → source.new ≡ source.old }
         ensures passes { IfOk result (λ next. (next ≡ NextLine.End)
             ⊎ (self.old.passed < self.new.passed)) }
         ensures within { OnOk result (self.new.passed ≤ STREAM_LIMIT) }
@@ -187,7 +187,7 @@ impl LineReader {
         ensures after { OnOk result (self.new ≡ ended_at self.old len) }
         ensures within { OnOk result (self.new.passed ≤ STREAM_LIMIT) }
         ensures too_long { OnErr result (STREAM_LIMIT < self.old.passed + (len + 1)) }
-        ensures cause { OnErr result (result ≡ Err StreamStop.TooLong) }
+        ensures stop { OnErr result (result ≡ Err StreamStop.TooLong) }
         ensures err { OnErr result (self.new ≡ self.old) }
     {
         if self.passed + (len as u64 + 1) > STREAM_LIMIT {
@@ -224,7 +224,7 @@ impl LineReader {
         ensures passed { self.new.passed ≡ self.old.passed }
         ensures line { self.new.line ≡ self.old.line }
         ensures failed { OnErr result (Rose (S.faults source.old) (S.faults source.new)) }
-        ensures cause { OnErr result (result ≡ Err StreamStop.Failed) }
+        ensures stop { OnErr result (result ≡ Err StreamStop.Failed) }
         ensures err { IsTrue S.tells_bytes
             → OnErr result (S.left source.new ≡ S.left source.old) }
         ensures later { S.faults source.old ≤ S.faults source.new }

@@ -62,8 +62,8 @@ fn a_line_has_at_most_4096_bytes(rt: HostRuntime) {
     }
 }
 
-// A source of zeros with a newline at one place, counted from 1. The zeros of the first pull stay in
-// the piece.
+// A source of zeros with a newline at one place, counted from 1. The zeros of the first pull stay
+// in the piece.
 #[derive(Drop)]
 struct Zeros {
     given: u64,

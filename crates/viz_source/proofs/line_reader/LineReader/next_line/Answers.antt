@@ -4,10 +4,10 @@ use Rattle.viz_source.specs.declared.next_line.NextLine.{NextLine}
 use Rattle.viz_source.specs.declared.next_line.StreamStop.{StreamStop}
 use Rattle.viz_source.specs.declared.next_line.StreamStop.TheVariants.{Failed}
 use Rattle.viz_source.specs.Streams.{Stream}
-use Rattle.viz_source.specs.Readers.{Reader, stream_of, IsReady, Answers}
+use Rattle.viz_source.specs.Readers.{Reader, stream_of, NeedsNoPull, Answers}
 use Rattle.viz_source.specs.Steps.Reading.{Looks, last_measured}
 use Rattle.viz_source.proofs.StreamLemmas.{tells_of}
-use Rattle.viz_source.proofs.NextLemmas.{line_answers, line_is_prompt, last_answers, stop_answers, failed_answers, began_open, open_on, not_ready}
+use Rattle.viz_source.proofs.NextLemmas.{line_answers, line_is_prompt, last_answers, stop_answers, failed_answers, began_open, open_on, needs_a_pull}
 use Rattle.viz_source.proofs.line_reader.LineReader.next_line.Goals as goal
 
 -- a line that was found among the bytes that are held
@@ -77,7 +77,7 @@ returns-in_err-refill-clause-answers g c told =
     let goes_on : c.loop-self.self.ended ≡ false = sym (ap (λ (r : Reader). r.ended) c.self-in-loop-self.view_is) ∙ c.loop-self-test.true in
     let none = subst (λ (o : Option NextLine). Looks c.loop-self.self c.held_line.new.self (Ok o)) c.in_default.is c.in_ok-next.ensures in
     let p = err_from_is_err_and c.from_residual-in_err-refill.result c.from_residual-in_err-refill.ensures.1 in
-    let why : c.in_err-refill.field-0.0 ≡ Failed = let e = c.in_err-refill.ensures.cause in cc in
+    let why : c.in_err-refill.field-0.0 ≡ Failed = let e = c.in_err-refill.ensures.stop in cc in
     let stop : c.from_residual-in_err-refill.result ≡ Err Failed = p.1 ∙ ap Err (p.2 ∙ why) in
     let left = g.S.Source.left c.refill.new.source in
     let old : Stream = stream_of c.args.self.now (g.S.Source.left c.args.source.now) in
@@ -96,8 +96,8 @@ loop-self-preserved g c =
     let goes_on : c.loop-self.self.ended ≡ false = sym (ap (λ (r : Reader). r.ended) c.self-in-loop-self.view_is) ∙ c.loop-self-test.true in
     let none = subst (λ (o : Option NextLine). Looks c.loop-self.self c.held_line.new.self (Ok o)) c.in_default.is c.in_ok-next.ensures in
     let e = c.in_ok-refill.ensures in
-    let pulled : (r : Reader) → c.loop-self.self ≡ r → IsReady r → ⊥ = λ r same ready.
-    not_ready c.loop-self.self goes_on none.none (subst IsReady (sym same) ready) in
+    let pulled : (r : Reader) → c.loop-self.self ≡ r → NeedsNoPull r → ⊥ = λ r same ready.
+    needs_a_pull c.loop-self.self goes_on none.none (subst NeedsNoPull (sym same) ready) in
     record {
       open_line = open_on _ _ c.loop-self.self c.held_line.new.self c.refill.new.self _ _ _ c.loop-self.invariant.open_line goes_on none e.bytes e.line e.passed;
       over = λ _. omega (arith, e.passed, none.within);
