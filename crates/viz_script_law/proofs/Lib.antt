@@ -1,5 +1,6 @@
 pub mod Words
 pub mod FitLemmas
+pub mod PartLemmas
 pub mod SpellingLemmas
 pub mod LinesLemmas
 pub mod PlainLemmas

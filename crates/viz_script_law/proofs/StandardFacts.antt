@@ -7,9 +7,9 @@ use Rattle.viz_kinds.specs.declared.param.Param.TheVariants as param
 use Rattle.viz_kinds.specs.declared.param.Value.TheVariants.{Numbers}
 use Rattle.viz_network.specs.declared.edit.Edit.TheVariants as change
 use Rattle.viz_script.specs.Orders.{Asked, edit, load, update}
-use Rattle.viz_script.specs.Script.{Line, silent, begins_phase, asks, Stepped}
+use Rattle.viz_script.specs.Lines.{Line, silent, begins_phase, asks}
+use Rattle.viz_script.specs.Script.{Stepped, steps_of}
 use Rattle.viz_script_law.specs.Tokens.{plain_script}
-use Rattle.viz_script_law.specs.Says.{steps_of}
 
 abbrev add_src : Asked
 add_src = edit (change.Add kind.File (codes "src"))

@@ -4,11 +4,11 @@
 ghost use Rattle.std.specs.Prelude.{◌≡◌, ◌≤◌, ℕ, List, map, length, Ok, IsErr};
 ghost use Rattle.viz_network.specs.declared.edit.Edit.{Edit};
 ghost use Rattle.viz_journal.specs.Journal.{edit_words};
-ghost use Rattle.viz_script.specs.Script.{Line, Stepped, byte_limit, script_of};
+ghost use Rattle.viz_script.specs.Lines.{Line};
+ghost use Rattle.viz_script.specs.Script.{Stepped, byte_limit, steps_of, script_of};
 ghost use Rattle.viz_script_law.specs.Tokens.{edit_tokens, plain_word, plain_line, plain_script};
 ghost use Rattle.viz_script_law.specs.Spelling.{SpellsLine};
 ghost use Rattle.viz_script_law.specs.Fits.{FitsLineEdit, FitsLine, FitsScript};
-ghost use Rattle.viz_script_law.specs.Says.{steps_of};
 ghost use Rattle.viz_script_law.specs.Script.{SpellsScript};
 
 /// A script is read as the steps of its lines, however these are spelled: spaces and tabs between
