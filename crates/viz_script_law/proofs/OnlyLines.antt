@@ -5,7 +5,6 @@ use Rattle.std.specs.List.{AllZip, AllByRecursion}
 use Rattle.std.proofs.lemmas.Bool.{leb-true, ltb-false, eqb-false}
 use Rattle.viz_kinds.specs.Values.{is_text}
 use Rattle.viz_network.specs.declared.edit.Edit.{Edit}
-use Rattle.viz_words.specs.declared.refusal.ScriptRefusal.{ScriptRefusal}
 use Rattle.viz_words.specs.declared.refusal.ScriptRefusal.TheVariants as refusal
 use Rattle.viz_words.specs.declared.command.Command.{Command}
 use Rattle.viz_words.specs.declared.command.Command.TheVariants as command
@@ -222,7 +221,7 @@ all-lines actors earlier (text ∷ texts) lines few h =
       runs = λ actor a. (line-rests actor r.line earlier a r.stands.batch, rest.runs actor a);
     })
 
--- lines that have their words are spelled
+-- lines with their words are spelled
 lines-spell : (lines : List Line) (texts : List (List ℕ)) → AllZip HasLine lines texts → AllZip SpellsLine lines texts
 lines-spell [] [] h = tt
 lines-spell [] (text ∷ texts) h = absurd h

@@ -1,5 +1,5 @@
 -- An actor's lines are commands and whole batches just where no line breaks a batch.
-use Rattle.std.proofs.Common.{◌≡◌, ℕ, ◌+◌, ◌<◌, ◌≤◌, Bool, true, false, cond, ◌&&◌, true≢false, List, [], ◌∷◌, ◌++◌, map, length, flat_map, Option, None, Some, refl, sym, ap, subst, ◌∙◌, append_assoc, eqb-true, eq-eqb, false-eqb, length-append, arith}
+use Rattle.std.proofs.Common.{◌≡◌, ℕ, ◌+◌, ◌≤◌, Bool, true, false, cond, ◌&&◌, true≢false, List, [], ◌∷◌, ◌++◌, map, length, flat_map, Option, None, Some, refl, sym, ap, subst, ◌∙◌, append_assoc, eqb-true, eq-eqb, false-eqb, length-append, arith}
 use Rattle.std.specs.Prelude.{◌==◌, is_some, filter}
 use Rattle.std.specs.List.{AllByRecursion}
 use Rattle.std.proofs.lemmas.Bool.{ne_eqb}
@@ -54,10 +54,10 @@ and-left t u h = ap (λ x. x && u) h
 and-right : (t u : Bool) → t ≡ true → (t && u) ≡ false → u ≡ false
 and-right t u h f = sym (ap (λ x. x && u) h) ∙ f
 
-no : {A : Type 0} (t : Bool) (x y : A) → t ≡ false → cond t x y ≡ y
+pub no : {A : Type 0} (t : Bool) (x y : A) → t ≡ false → cond t x y ≡ y
 no t x y h = ap (λ b. cond b x y) h
 
-yes : {A : Type 0} (t : Bool) (x y : A) → t ≡ true → cond t x y ≡ x
+pub yes : {A : Type 0} (t : Bool) (x y : A) → t ≡ true → cond t x y ≡ x
 yes t x y h = ap (λ b. cond b x y) h
 
 -- ---- another actor's line
@@ -71,7 +71,7 @@ asked-other actor a (update node file pieces workers) now h = (and-left (a == ac
 asked-other actor a (audit node pieces workers) now h = (and-left (a == actor) (is_some now) h, refl)
 
 -- it breaks nothing, and leaves the batch
-other-line : (actor : ℕ) (line : Line) (now : Option (List Edit)) → is_own actor line ≡ false → (breaks actor now line ≡ false) × (batch_after actor line now ≡ now)
+pub other-line : (actor : ℕ) (line : Line) (now : Option (List Edit)) → is_own actor line ≡ false → (breaks actor now line ≡ false) × (batch_after actor line now ≡ now)
 other-line actor silent now h = (refl, refl)
 other-line actor begins_phase now h = absurd (true≢false h)
 other-line actor (begins_batch a) now h = (and-left (a == actor) (is_some now) h, no (a == actor) (Some []) now h)

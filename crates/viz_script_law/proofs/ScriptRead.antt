@@ -34,8 +34,16 @@ count-more line lines = sum_by-cons (λ l. cond (is_phase l) 1 0) line lines
 some-none : (earlier : List Line) → ((actor : ℕ) → IsActor actor → is_open actor earlier ≡ false) → some_open earlier ≡ false
 some-none earlier h =
     let at = λ (n : ℕ) (low : 1 ≤ n) (high : n ≤ 8). h n (record { least = low; most = high }) in
-    rw (at 1 (omega arith) (omega arith), at 2 (omega arith) (omega arith), at 3 (omega arith) (omega arith), at 4 (omega arith) (omega arith),
-        at 5 (omega arith) (omega arith), at 6 (omega arith) (omega arith), at 7 (omega arith) (omega arith), at 8 (omega arith) (omega arith)) refl
+    rw (
+      at 1 (omega arith) (omega arith),
+      at 2 (omega arith) (omega arith),
+      at 3 (omega arith) (omega arith),
+      at 4 (omega arith) (omega arith),
+      at 5 (omega arith) (omega arith),
+      at 6 (omega arith) (omega arith),
+      at 7 (omega arith) (omega arith),
+      at 8 (omega arith) (omega arith),
+    ) refl
 
 -- the actor of a line breaks its own batch
 own-breaks : (actor : ℕ) (t : Bool) → ((actor == actor) && t) ≡ false → t ≡ false
