@@ -24,7 +24,7 @@ use Rattle.viz_words.specs.Names.{is_node_name, is_file_name, is_array_name, nam
 use Rattle.viz_words.specs.Tables.{command_word, kind_word, kind_named, param_word}
 use Rattle.viz_words.specs.Commands.{kind_verb, param_verb, verb_of, one, two, three, four, fits_count, numbers_in, padded, text_in, value_in, set_in}
 use Rattle.viz_words.specs.Edits.{add_in, remove_in, connect_in, disconnect_in, value_set_in}
-use Rattle.viz_script.specs.Lines.{Line, asks, command_in}
+use Rattle.viz_script.specs.Lines.{asks, command_in}
 use Rattle.viz_script.specs.Orders.{Asked, edit, edits, load, update, audit, load_in, update_in, audit_in, order_in}
 use Rattle.viz_journal.proofs.AgainLemmas.{named-again, param-again}
 use Rattle.viz_script_law.specs.Tokens.{exact, number, value_tokens, edit_tokens, command_tokens}

@@ -1,5 +1,7 @@
 pub mod Words
 pub mod FitLemmas
+pub mod PartLemmas
+pub mod CommandsLemmas
 pub mod SpellingLemmas
 pub mod LinesLemmas
 pub mod PlainLemmas

@@ -21,7 +21,7 @@ use Rattle.viz_journal.proofs.OnlyLemmas.{same-text}
 use Rattle.viz_script_law.specs.Tokens.{Token, number, first_token, command_tokens}
 use Rattle.viz_script_law.specs.Fits.{IsActorOf, FitsLine}
 use Rattle.viz_script_law.proofs.Words.{Spelled, HasWords, HasLine, first-exact, first-number, no-more}
-use Rattle.viz_script_law.proofs.CommandRead.{Says, command-says}
+use Rattle.viz_script_law.proofs.CommandRead.{command-says}
 
 -- the first word begins with the first byte of a line that begins with a word
 first-byte : (b : ℕ) (t : Bool) (parts : List (List ℕ)) (word : List ℕ) (words : List (List ℕ)) → cond t (in_front b parts) ((b ∷ []) ∷ parts) ≡ word ∷ words

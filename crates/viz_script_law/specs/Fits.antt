@@ -85,4 +85,4 @@ pub record FitsScript (actors : ℕ) (lines : List Line) : Type 0 where
   pub few : length lines ≤ line_limit
   pub phases : count_by is_phase lines < phase_limit
   pub each : AllByRecursion (FitsLine actors) lines
-  pub batches : (actor : ℕ) → IsInParts actor lines
+  pub batches : (actor : ℕ) → 1 ≤ actor → actor ≤ actor_limit → IsInParts actor lines

@@ -4,11 +4,13 @@
 ghost use Rattle.std.specs.Prelude.{◌≡◌, ◌≤◌, ℕ, List, map, length, Ok, IsErr};
 ghost use Rattle.viz_network.specs.declared.edit.Edit.{Edit};
 ghost use Rattle.viz_journal.specs.Journal.{edit_words};
-ghost use Rattle.viz_script.specs.Script.{Line, Stepped, byte_limit, script_of};
+ghost use Rattle.viz_script.specs.Lines.{Line};
+ghost use Rattle.viz_script.specs.Script.{Stepped, byte_limit, steps_of, script_of};
 ghost use Rattle.viz_script_law.specs.Tokens.{edit_tokens, plain_word, plain_line, plain_script};
 ghost use Rattle.viz_script_law.specs.Spelling.{SpellsLine};
 ghost use Rattle.viz_script_law.specs.Fits.{FitsLineEdit, FitsLine, FitsScript};
-ghost use Rattle.viz_script_law.specs.Says.{steps_of};
+ghost use Rattle.viz_script_law.specs.Parts.{IsInParts, commands_in};
+ghost use Rattle.viz_script_law.specs.Says.{commands_by};
 ghost use Rattle.viz_script_law.specs.Script.{SpellsScript};
 
 /// A script is read as the steps of its lines, however these are spelled: spaces and tabs between
@@ -31,6 +33,13 @@ pub fn nothing_else_is_read()
     ensures refused { (actors : ℕ) (bytes : List ℕ)
         → ((lines : List Line) → ¬ SpellsScript actors lines bytes)
         → IsErr (script_of actors bytes) }
+{}
+
+/// What an actor's steps ask for, each in its phase, is what its lines are made of: commands, and
+/// batches, each of which is one step. Others' lines in between make no difference.
+pub fn a_batch_is_one_step()
+    ensures parts { (actor : ℕ) (lines : List Line) (p : IsInParts actor lines)
+        → commands_by actor (steps_of lines) ≡ commands_in 1 p.parts }
 {}
 
 /// The same bytes are a script of one list of lines alone.
