@@ -1,5 +1,5 @@
 -- What a line makes of the batch that an actor has open, and which lines may stand.
-use Rattle.std.proofs.Common.{◌≡◌, ◌≢◌, ℕ, ◌-◌, ◌<◌, ◌≤◌, Bool, true, false, cond, List, [], ◌∷◌, ◌++◌, length, get_or, Option, None, Some, Ok, Err, refl, sym, ap, subst, ◌∙◌, eqb-true, eq-eqb, false-eqb, true≢false, arith}
+use Rattle.std.proofs.Common.{◌≡◌, ◌≢◌, ℕ, ◌+◌, ◌-◌, ◌<◌, ◌≤◌, Bool, true, false, cond, List, [], ◌∷◌, ◌++◌, length, get_or, Option, None, Some, Ok, Err, refl, sym, ap, subst, ◌∙◌, eqb-true, eq-eqb, false-eqb, true≢false, arith}
 use Rattle.std.specs.Prelude.{◌==◌, option_map, is_some}
 use Rattle.std.specs.List.{range_with_len}
 use Rattle.std.proofs.lemmas.Bool.{ne_eqb}

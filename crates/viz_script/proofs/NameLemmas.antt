@@ -16,10 +16,10 @@ use Rattle.viz_words.specs.Names.{is_node_name, is_file_name, named_in}
 use Rattle.viz_words.specs.Numbers.{number_of, natural_in}
 use Rattle.viz_words.specs.Words.{words_of, is_skipped}
 use Rattle.viz_script.specs.declared.order.Step.{Step}
-use Rattle.viz_script.specs.Orders.{edit, seen, load_in, update_in, audit_in, order_in, NamesFile}
+use Rattle.viz_script.specs.Orders.{Asked, edit, edits, load, update, audit, seen, load_in, update_in, audit_in, order_in, NamesFile}
 use Rattle.viz_script.specs.Lines.{Line, silent, begins_phase, begins_batch, ends_batch, asks, is_actor, alone, command_in, actor_in, number_in_front, words_in, line_in}
 use Rattle.viz_script.specs.Batches.{phase_behind, breaks_phases, breaks_batch, is_open, some_open, standing}
-use Rattle.viz_script.specs.Script.{Stepped, stepped, Stop, with_line, then_lines, number_behind, lines_behind, step_of, steps_behind, told}
+use Rattle.viz_script.specs.Script.{Stepped, stepped, Stop, with_line, then_lines, number_behind, lines_behind, batch_in, step_of, steps_behind, steps_of, told}
 
 -- ---- steps one behind the other
 

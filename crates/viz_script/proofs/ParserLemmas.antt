@@ -1,19 +1,19 @@
 -- What is kept of the lines that were read stays so from line to line.
-use Rattle.std.proofs.Common.{◌≡◌, ◌≢◌, ℕ, zero, suc, ◌+◌, ◌-◌, ◌<◌, ◌≤◌, Bool, true, false, cond, List, [], ◌∷◌, ◌++◌, map, length, get_or, set, Option, None, Some, refl, sym, ap, ap₂, subst, ◌∙◌, eqb-true, false-eqb, append_assoc, append-nil, true≢false, flat_map, arith}
+use Rattle.std.proofs.Common.{◌≡◌, ◌≢◌, ℕ, zero, suc, ◌+◌, ◌-◌, ◌<◌, ◌≤◌, Bool, true, false, cond, List, [], ◌∷◌, ◌++◌, map, length, get_or, set, Option, None, Some, Result, Ok, Err, refl, sym, ap, ap₂, subst, ◌∙◌, eqb-true, eq-eqb, false-eqb, append_assoc, append-nil, true≢false, flat_map, arith}
 use Rattle.std.specs.Prelude.{◌==◌, option_map, is_some}
 use Rattle.std.proofs.lemmas.List.{get_or-set_same, get_or-set_other, get_or_append_left, get_or_default, map-append, length-set, length-append}
 use Rattle.std.proofs.Math.Seq.{get_or-append_seam}
 use Rattle.viz_network.specs.declared.edit.Edit.{Edit}
-use Rattle.viz_batches.specs.Batches.{batch_limit}
+use Rattle.viz_batches.specs.Batches.{IsBatch, batch_limit}
 use Rattle.viz_script.specs.declared.order.Order.{Order}
 use Rattle.viz_script.specs.declared.parser.OpenStep.{OpenStep}
 use Rattle.viz_script.specs.declared.parser.OpenBatch.{OpenBatch}
-use Rattle.viz_script.specs.Orders.{Asked, edit, edits, seen}
+use Rattle.viz_script.specs.Orders.{Asked, edit, edits, load, update, audit, seen}
 use Rattle.viz_script.specs.Lines.{Line, begins_batch, ends_batch, asks, actor_limit}
-use Rattle.viz_script.specs.Batches.{open_behind, is_open, phase_behind, some_open}
-use Rattle.viz_script.specs.Script.{Stepped, batch_in, step_behind, steps_behind, steps_of}
+use Rattle.viz_script.specs.Batches.{batch_after, open_behind, is_open, phase_behind, some_open, is_endless, is_full, standing}
+use Rattle.viz_script.specs.Script.{Stepped, batch_in, step_of, step_behind, steps_behind, steps_of}
 use Rattle.viz_script.specs.Steps.Heard.{IsActor}
-use Rattle.viz_script.specs.Steps.Parser.{batch_of, edits_of, index_of, so_far, asked_of, finished, with_order, step_with, step_in, in_order, IsStepOf, IsRead}
+use Rattle.viz_script.specs.Steps.Parser.{batch_of, edits_of, index_of, so_far, asked_of, finished, with_order, step_with, step_in, in_order, ArePlaced, IsStepOf, IsRead}
 use Rattle.viz_script.proofs.BatchLemmas.{who, yes-is, no-is, after-alone, in-alone, none-open}
 
 -- ---- lists

@@ -1,9 +1,10 @@
 -- The phases of a script's steps go up.
-use Rattle.std.proofs.Common.{◌≡◌, ℕ, ◌<◌, ◌≤◌, Bool, true, false, cond, List, [], ◌∷◌, ◌++◌, Ok, sym, subst, false-eqb, arith}
+use Rattle.std.proofs.Common.{◌≡◌, ℕ, ◌+◌, ◌<◌, ◌≤◌, Bool, true, false, cond, List, [], ◌∷◌, ◌++◌, Ok, refl, sym, subst, false-eqb, arith}
 use Rattle.viz_words.specs.Lines.{lines_of}
+use Rattle.viz_script.specs.Orders.{Asked, edits}
 use Rattle.viz_script.specs.Lines.{Line, silent, begins_phase, begins_batch, ends_batch, asks}
 use Rattle.viz_script.specs.Batches.{phase_behind, is_open, breaks_phases}
-use Rattle.viz_script.specs.Script.{Stepped, lines_behind, step_behind, step_of, steps_behind, script_of}
+use Rattle.viz_script.specs.Script.{Stepped, lines_behind, batch_in, step_behind, step_of, steps_behind, script_of}
 use Rattle.viz_script.proofs.LineLemmas.{lines-are, none-left, script-is}
 
 -- steps whose phases go up from this one, and are below 65

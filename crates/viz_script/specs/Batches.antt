@@ -8,7 +8,7 @@ use Rattle.viz_network.specs.declared.edit.Edit.{Edit}
 use Rattle.viz_batches.specs.Batches.{batch_limit}
 use Rattle.viz_words.specs.declared.refusal.ScriptRefusal.{ScriptRefusal}
 use Rattle.viz_words.specs.declared.refusal.ScriptRefusal.TheVariants as refusal
-use Rattle.viz_script.specs.Orders.{edit}
+use Rattle.viz_script.specs.Orders.{Asked, edit}
 use Rattle.viz_script.specs.Lines.{Line, silent, begins_phase, begins_batch, ends_batch, asks}
 use Rattle.viz_script.specs.Lines.{actor_limit}
 

@@ -1,4 +1,4 @@
-use Rattle.std.proofs.Common.{◌≡◌, ◌<◌, ◌∷◌, Some, None, Ok, refl, sym, ap, ◌∙◌, subst, length, arith}
+use Rattle.std.proofs.Common.{◌≡◌, ◌<◌, ◌∷◌, Some, None, Ok, refl, sym, ap, ◌∙◌, subst, length, rules, arith}
 use Rattle.viz_script.specs.declared.order.Order.{Order}
 use Rattle.viz_script.specs.declared.parser.OpenStep.{OpenStep}
 use Rattle.viz_script.specs.Orders.{seen, edit}

@@ -1,4 +1,4 @@
-use Rattle.std.proofs.Common.{◌≡◌, None, refl, sym, ap, ◌∙◌, length, rules}
+use Rattle.std.proofs.Common.{◌≡◌, ◌∷◌, [], Option, None, ℕ, refl, sym, ap, ◌∙◌, length, rules, arith}
 use Rattle.viz_script.specs.declared.parser.OpenStep.{OpenStep}
 use Rattle.viz_script.specs.declared.parser.OpenBatch.{OpenBatch}
 use Rattle.viz_script.specs.Lines.{begins_batch}

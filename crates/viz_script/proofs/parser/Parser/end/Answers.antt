@@ -1,4 +1,4 @@
-use Rattle.std.proofs.Common.{◌≡◌, Some, refl, sym, ap, ◌∙◌, arith}
+use Rattle.std.proofs.Common.{◌≡◌, ◌∷◌, Some, refl, sym, ap, ◌∙◌, rules, arith}
 use Rattle.viz_batches.specs.Batches.{IsBatch}
 use Rattle.viz_script.specs.declared.order.Order.TheVariants.{DoAll}
 use Rattle.viz_script.specs.Orders.{edits}
