@@ -13,6 +13,13 @@ returns-in-Some-Script-clause-fault g c = λ is.
     (subst (λ (w : Words). IsFault g.P.Port g.O.Out c.args.desk.now c.run_script.new.desk c.args.ports.now.items c.run_script.new.ports.items c.args.out.now c.run_script.new.out (Some (command_view w)))
     (sym c.in-Some-Script.field-0-is) (c.run_script.ensures.fault is))
 
+pub returns-in-Some-Migrate-clause-fault : goal.returns-in-Some-Migrate-clause-fault
+returns-in-Some-Migrate-clause-fault g c = λ is.
+    subst (λ (x : Option Command). IsFault g.P.Port g.O.Out c.args.desk.now c.run_migrate.new.desk c.args.ports.now.items c.run_migrate.new.ports.items c.args.out.now c.run_migrate.new.out x)
+    c.in-Some-Migrate.ensures
+    (subst (λ (w : Words). IsFault g.P.Port g.O.Out c.args.desk.now c.run_migrate.new.desk c.args.ports.now.items c.run_migrate.new.ports.items c.args.out.now c.run_migrate.new.out (Some (command_view w)))
+    (sym c.in-Some-Migrate.field-0-is) (c.run_migrate.ensures.fault is))
+
 pub returns-in-Some-Scratch-clause-cause : goal.returns-in-Some-Scratch-clause-cause
 returns-in-Some-Scratch-clause-cause g c = λ is. elim (c.run_scratch.ensures.cause is) [
   | inl desk ↦ inl desk
