@@ -1,4 +1,4 @@
-//! One pass that edits: what each edit comes to, and what a pin keeps.
+//! One pass that edits: what each batch comes to, and what a pin keeps.
 
 ghost use Rattle.std.specs.Prelude.{◌≤◌};
 
@@ -6,7 +6,7 @@ use std::alloc::{AllocError, Global};
 use std::marker::Model;
 use std::process::Abort;
 use std::test::Fail;
-use viz_base::Word;
+use viz_base::{NodeId, Word};
 use viz_batches::Batch;
 use viz_entries::Entry;
 use viz_history::{Core, EditAnswer, Pinned};
@@ -39,9 +39,9 @@ impl Actor {
         Ok(Actor { core })
     }
 
-    fn edit(&mut self, edit: Edit) -> EditAnswer {
+    fn edit(&mut self, batch: Batch) -> EditAnswer {
         let count = self.core.front() + 1;
-        let answer = self.core.edit(1, count, Batch::one(edit));
+        let answer = self.core.edit(1, count, batch);
         answer
     }
 
@@ -53,8 +53,8 @@ impl Actor {
         self.core.pin(alloc)
     }
 
-    fn finds(&self, node: Word) -> bool {
-        self.core.net().find(&node).is_some()
+    fn find(&self, node: Word) -> Option<NodeId> {
+        self.core.net().find(&node)
     }
 
     fn finish(self) -> (u32, Vec<Entry>) {
@@ -87,12 +87,29 @@ fn radius(node: Word, radius: i64) -> Edit {
 }
 
 fn refused(refusal: Refusal, at: u32) -> EditAnswer {
-    EditAnswer::Refused { index: 1, refusal, at }
+    EditAnswer::Refused {
+        index: 1,
+        refusal,
+        at,
+    }
 }
 
 fn wants(rt: &impl Abort, actor: &mut Actor, edit: Edit, want: EditAnswer) {
-    let got = actor.edit(edit);
+    let got = actor.edit(Batch::one(edit));
     assert!(rt; got == want, "{got:?}");
+}
+
+fn wants_both(
+    rt: &impl Abort,
+    alloc: Global,
+    actor: &mut Actor,
+    edits: [Edit; 2],
+    want: EditAnswer,
+) -> Result<(), Fail> {
+    let batch = Batch::new(Vec::from_array(alloc, edits)?).ok_or("no batch")?;
+    let got = actor.edit(batch);
+    assert!(rt; got == want, "{got:?}");
+    Ok(())
 }
 
 // Whether the entries are of pass 1, counted from 1.
@@ -143,6 +160,47 @@ fn a_pin_stays_as_it_was(rt: HostRuntime) -> Result<(), Fail> {
     assert_eq!(rt; (pinned.at, pinned.entries.list().len()), (1, 0));
     assert!(rt; pinned.net.find(&s).is_some());
     assert!(rt; pinned.net.find(&t).is_none());
-    assert!(rt; actor.finds(t));
+    assert_eq!(rt; actor.find(t), Some(NodeId(2)));
     Ok(())
+}
+
+#[test]
+fn a_batch_is_one_entry(rt: HostRuntime) -> Result<(), Fail> {
+    let (s, t, u) = (word("s")?, word("t")?, word("u")?);
+    let mut actor = Actor::new(rt.alloc(), 2)?;
+    let nodes = [addition(s), addition(t)];
+    wants_both(
+        &rt,
+        rt.alloc(),
+        &mut actor,
+        nodes,
+        EditAnswer::Done { at: 1 },
+    )?;
+    let bad = EditAnswer::Refused {
+        index: 2,
+        refusal: Refusal::BadValue,
+        at: 1,
+    };
+    wants_both(
+        &rt,
+        rt.alloc(),
+        &mut actor,
+        [addition(u), radius(s, -1)],
+        bad,
+    )?;
+    assert_eq!(rt; actor.find(u), None);
+    // The third edit.
+    wants(&rt, &mut actor, addition(u), EditAnswer::Done { at: 2 });
+    assert_eq!(rt;
+        (actor.find(t), actor.find(u)),
+        (Some(NodeId(2)), Some(NodeId(3)))
+    );
+    let full = EditAnswer::Full { at: 2 };
+    wants_both(
+        &rt,
+        rt.alloc(),
+        &mut actor,
+        [addition(u), radius(s, -1)],
+        full,
+    )
 }

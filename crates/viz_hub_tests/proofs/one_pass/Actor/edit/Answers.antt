@@ -6,4 +6,4 @@ pub edit-answer-requires : goal.edit-answer-requires
 edit-answer-requires c = record { next = ap (λ n. n + 1) (c.front-count.ensures.value ∙ ap length (sym c.self.invariant)) }
 
 pub invariant_of-self : goal.invariant_of-self
-invariant_of-self c = own_all 1 (c.front-count.result + 1) c.one.result c.self.inside.core c.edit-answer.result c.edit-answer.new.self c.edit-answer.ensures.replies c.self.invariant
+invariant_of-self c = own_all 1 (c.front-count.result + 1) c.args.batch c.self.inside.core c.edit-answer.result c.edit-answer.new.self c.edit-answer.ensures.replies c.self.invariant
