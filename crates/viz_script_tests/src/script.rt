@@ -134,9 +134,18 @@ const BATCHES: [Row; 21] = [
     (b"1 begin\nphase 1\n", Some((2, Arity))),
     (b"1 begin\n1 remove a-\n", Some((2, Name))),
     // Batches of two actors, and others' commands in between.
-    (b"1 begin\n1 remove a\n1 end\n1 begin\n1 remove b\n1 end\nphase\n", None),
-    (b"1 begin\n2 load s f\n1 remove a\n2 audit s 1 1\n1 end\n", None),
-    (b"1 begin\n2 begin\n2 remove a\n1 remove b\n1 end\n2 end\n", None),
+    (
+        b"1 begin\n1 remove a\n1 end\n1 begin\n1 remove b\n1 end\nphase\n",
+        None,
+    ),
+    (
+        b"1 begin\n2 load s f\n1 remove a\n2 audit s 1 1\n1 end\n",
+        None,
+    ),
+    (
+        b"1 begin\n2 begin\n2 remove a\n1 remove b\n1 end\n2 end\n",
+        None,
+    ),
 ];
 
 #[test]
@@ -195,7 +204,13 @@ fn edits_of_a_batch_are_bounded(rt: HostRuntime) -> Result<(), Fail> {
     let alloc = rt.alloc();
     let rows: [(&[u8], &[u8], usize, &[u8], Refused); 3] = [
         (b"1 begin\n", b"1 remove a\n", 64, b"1 end\n", None),
-        (b"1 begin\n", b"1 remove a\n", 65, b"1 end\n", Some((66, Batch))),
+        (
+            b"1 begin\n",
+            b"1 remove a\n",
+            65,
+            b"1 end\n",
+            Some((66, Batch)),
+        ),
         (b"", b"phase\n", 63, b"1 begin\nphase\n", Some((65, Phase))),
     ];
     for (front, piece, count, behind, want) in rows {
