@@ -119,7 +119,7 @@ fn put_row(text: &mut Vec<u8>, row: &Row) -> Result<(), AllocError>
 
 /// The text of rows.
 pub fn report_text(alloc: Global, rows: &[Row]) -> Result<Bytes, AllocError>
-    ensures { IfOk result (λ text. text ≡ rows_text rows.now) }
+    ensures value { IfOk result (λ text. text ≡ rows_text rows.now) }
 {
     let mut text = Vec::new(alloc);
     for row in rows {

@@ -94,7 +94,7 @@ pub fn refused_line(
     line: u32,
     refusal: &ScriptRefusal,
 ) -> Result<Vec<u8>, AllocError>
-    ensures { IfOk result (λ text. text.items ≡ refused_script line refusal.now) }
+    ensures value { IfOk result (λ text. text.items ≡ refused_script line refusal.now) }
 {
     let mut text = Vec::from_slice(alloc, b"script line ")?;
     put_whole(&mut text, i128::from(line))?;
