@@ -2,7 +2,7 @@
 //!
 //! Contract: `parse` gives just the steps that the definition gives, or the first refusal of the
 //! first line that has one. Definition: `specs/Script.antt`; the rules are those of
-//! docs/FORMATS.md, "Scripts".
+//! docs/FORMATS-OF-SCRIPTS.md, "Scripts".
 #![tactic(auto)]
 
 mod line;
