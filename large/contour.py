@@ -6,13 +6,16 @@ A volume is cut into slabs that share a plane. Each slab is contoured on whateve
 the pieces are joined to one BINARY file for each volume and level.
 """
 import argparse
+import logging
 import os
 import shutil
+import subprocess
 import sys
 import time
 
 import numpy
 from distributed import Client, LocalCluster, as_completed, get_worker
+from distributed.scheduler import KilledWorker
 
 import join
 import pieces
@@ -50,7 +53,7 @@ def connect(asked):
         client = Client(asked.scheduler)
     else:
         client = Client(LocalCluster(n_workers=asked.workers, threads_per_worker=1, memory_limit=0,
-                                     dashboard_address=None))
+                                     dashboard_address=None, silence_logs=logging.ERROR))
     for name in ("volume.py", "slabs.py", "pieces.py", "join.py"):
         client.upload_file(os.path.join(HERE, name))
     return client
@@ -97,33 +100,33 @@ class Run:
         return self.client.submit(tried, tries, work, *given, retries=self.asked.retries,
                                   pure=False)
 
-    def rows_of(self, volume):
-        """The cut edges of all planes for each level, which all workers count."""
+    def count(self, volume):
+        """Has the cut edges of all planes counted for each level, on all workers."""
         planes, levels = volume.size[2], self.asked.level
         step = -(-planes // (4 * max(1, len(self.client.ncores()))))
-        counts = [self.submit("%s-count%d" % (volume.name, first), slabs.survey, volume, levels,
-                              first, min(first + step, planes)) for first in range(0, planes, step)]
-        parts = [future.result()[3] for future in counts]
-        return {level: numpy.concatenate([part[level] for part in parts]) for level in levels}
+        return [self.submit("%s-count%d" % (volume.name, first), slabs.survey, volume, levels,
+                            first, min(first + step, planes)) for first in range(0, planes, step)]
 
-    def plan(self, volume):
+    def plan(self, volume, counts):
         """Cuts a volume, and says what a slab takes. Gives the slabs with the points of each."""
-        rows = self.rows_of(volume)
+        parts = [future.result()[3] for future in counts]
+        rows = {level: numpy.concatenate([part[level] for part in parts])
+                for level in self.asked.level}
         memory = self.asked.memory * 10 ** 6
         cut = slabs.cut_volume(volume, rows, memory, self.asked.planes or volume.size[2])
         points = [{level: slabs.points_between(rows[level], *planes) for level in rows}
                   for planes in cut]
         needs = [slabs.memory_of((last - first + 1) * volume.plane_bytes, max(count.values()))
                  for (first, last), count in zip(cut, points)]
-        self.log.say("%s: %d x %d x %d %s, %d slabs, at most %d planes and %d MB each" % (
+        self.log.say("%s: %d x %d x %d %s, %d slabs of at most %d planes, and %d MB at most" % (
             volume.name, *volume.size, volume.type, len(cut),
             max(last - first + 1 for first, last in cut), max(needs) // 10 ** 6 + 1))
         return list(zip(cut, points))
 
-    def start(self, volume):
+    def start(self, volume, counts):
         """Hands all slabs of a volume to the cluster."""
         asked, started = self.asked, []
-        for at, (planes, points) in enumerate(self.plan(volume)):
+        for at, (planes, points) in enumerate(self.plan(volume, counts)):
             name = "%s-slab%d" % (volume.name, at)
             future = self.submit(name, pieces.contour_slab, volume, planes, asked.level,
                                  asked.digits, os.path.abspath(asked.vizrun),
@@ -145,37 +148,45 @@ class Run:
                                  % (at, volume.name, it.points, level, points[level]))
         return found
 
-    def finish(self, volume, found):
-        """Has the pieces of a volume joined, and says what came: points and triangles add up."""
+    def join(self, volume, found):
+        """Has the pieces of a volume joined, a file for each level."""
         joins = []
         for at, level in enumerate(self.asked.level):
             path = os.path.abspath(os.path.join(self.asked.out, "%s-%d.vtk" % (volume.name, level)))
             mine = [slab[at] for slab in found]
-            joins.append((level, path, mine, self.submit("%s-join%d" % (volume.name, at),
-                                                         join.join, mine, self.asked.digits, path)))
-        for level, path, mine, future in joins:
-            points, triangles, seams = future.result()[3]
-            if (points + seams, triangles) != (sum(it.points for it in mine),
-                                               sum(it.triangles for it in mine)):
-                raise ValueError("%s doesn't add up" % path)
-            self.log.say("%s at %d: %d triangles, %d points, %d more at seams, %s" % (
-                volume.name, level, triangles, points, seams, path))
+            joins.append((volume, level, path, mine, self.submit(
+                "%s-join%d" % (volume.name, at), join.join, mine, self.asked.digits, path)))
+        return joins
+
+    def told_join(self, volume, level, path, mine, future):
+        """Says what came of the pieces of a surface: points and triangles add up."""
+        points, triangles, seams = future.result()[3]
+        if (points + seams, triangles) != (sum(it.points for it in mine),
+                                           sum(it.triangles for it in mine)):
+            raise ValueError("%s doesn't add up" % path)
+        self.log.say("%s at %d: %d triangles, %d points, %d more at seams, %s" % (
+            volume.name, level, triangles, points, seams, path))
 
     def all(self):
-        """Contours all volumes: slabs of one run beside those of the next."""
+        """Contours all volumes: the slabs of all are handed out before the first is waited for."""
         chosen = [self.volume(path) for path in self.asked.volume]
         names = [volume.name for volume in chosen]
         if len(set(names)) < len(names):
             raise ValueError("two volumes have one name: %s" % " ".join(names))
-        started = [slab for volume in chosen for slab in self.start(volume)]
-        by_future = {slab[0]: slab for slab in started}
-        found = {}
-        for done, future in enumerate(as_completed(list(by_future)), 1):
-            _, volume, at, _, _ = slab = by_future[future]
-            found[volume.name, at] = self.told(slab, done, len(started))
-        for volume in chosen:
-            count = sum(name == volume.name for name, _ in found)
-            self.finish(volume, [found[volume.name, at] for at in range(count)])
+        counts = [self.count(volume) for volume in chosen]
+        waiting, joins, found = {}, [], {}
+        for volume, count in zip(chosen, counts):
+            slabs_of = self.start(volume, count)
+            found[volume.name] = [None] * len(slabs_of)
+            waiting.update({slab[0]: slab for slab in slabs_of})
+        for done, future in enumerate(as_completed(list(waiting)), 1):
+            slab = waiting[future]
+            volume, mine = slab[1], found[slab[1].name]
+            mine[slab[2]] = self.told(slab, done, len(waiting))
+            if None not in mine:
+                joins += self.join(volume, mine)
+        for one in joins:
+            self.told_join(*one)
         if not self.asked.keep:
             shutil.rmtree(self.folder)
 
@@ -195,7 +206,7 @@ def main():
     client = connect(asked)
     try:
         Run(asked, client).all()
-    except (OSError, ValueError, RuntimeError) as error:
+    except (OSError, ValueError, RuntimeError, KilledWorker, subprocess.SubprocessError) as error:
         sys.exit("contour: %s" % error)
     finally:
         client.close()
