@@ -9,13 +9,11 @@ import argparse
 import logging
 import os
 import shutil
-import subprocess
 import sys
 import time
 
 import numpy
 from distributed import Client, LocalCluster, as_completed, get_worker
-from distributed.scheduler import KilledWorker
 
 import join
 import pieces
@@ -137,7 +135,10 @@ class Run:
     def told(self, slab, done, all_slabs):
         """Says what a slab came to, and compares its points with those that were counted."""
         future, volume, at, planes, points = slab
-        tries, worker, seconds, found = future.result()
+        try:
+            tries, worker, seconds, found = future.result()
+        except Exception as error:
+            raise RuntimeError("slab %d of %s: %s" % (at, volume.name, error)) from error
         surfaces = ["level %d: %d triangles, %d points" % (level, it.triangles, it.points)
                     for level, it in zip(self.asked.level, found)]
         self.log.say("slab %d of %s, planes %d to %d, by %s, try %d, %.1f s; %s (%d of %d)" % (
@@ -206,7 +207,7 @@ def main():
     client = connect(asked)
     try:
         Run(asked, client).all()
-    except (OSError, ValueError, RuntimeError, KilledWorker, subprocess.SubprocessError) as error:
+    except (OSError, ValueError, RuntimeError) as error:
         sys.exit("contour: %s" % error)
     finally:
         client.close()
