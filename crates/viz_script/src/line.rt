@@ -62,9 +62,9 @@ fn audit_in(text: &[u8]) -> Result<Order, ScriptRefusal>
     Ok(Order::Audit { node, shape })
 }
 
-/// The order of a command with the words behind it.
-fn order_in(verb: Verb, text: &[u8]) -> Result<Order, ScriptRefusal>
-    ensures { Gives seen result (order_in verb (words_of text.now)) }
+/// The order of a command with the words behind it, or its first refusal.
+pub fn order_in(verb: Verb, text: &[u8]) -> Result<Order, ScriptRefusal>
+    ensures value { Gives seen result (order_in verb (words_of text.now)) }
 {
     match verb {
         Verb::Load => load_in(text),

@@ -71,8 +71,9 @@ impl<T: Drop> From<AllocFailed<T>> for ScriptStop {
     }
 }
 
-fn refusal_word(refusal: &ScriptRefusal) -> &'static str
-    ensures { result.now ≡ refusal_word refusal.now }
+/// The word of a refusal.
+pub fn refusal_word(refusal: &ScriptRefusal) -> &'static str
+    ensures value { result.now ≡ refusal_word refusal.now }
 {
     match refusal {
         ScriptRefusal::Word => "Word",
