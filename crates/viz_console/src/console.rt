@@ -11,7 +11,7 @@ use std::sync::Wait;
 use std::thread::Threads;
 use viz_account::{audit_lines_are_closed, lines_count_edits};
 use viz_base::{CACHE, Gate, HISTORY, Out, Port};
-use viz_hub::Hub;
+use viz_hub::{Hub, journal_is_of_joined_passes};
 use viz_source::{LineReader, Source};
 
 /// Serves a session: answers each line of the source before the next one is waited for, by one
@@ -48,6 +48,7 @@ pub fn serve<
     let Ok((hub, pass)) = Hub::start(alloc, HISTORY, CACHE) else {
         return End::Memory;
     };
+    journal_is_of_joined_passes();
     lines_count_edits::<P>();
     audit_lines_are_closed::<P>();
     let (pass, end) = serve_lines(rt, alloc, &hub, pass, reader, source, port, out, gate);

@@ -45,9 +45,9 @@ Puts o text (Some end.Memory) before after = IsTrue o.tells_text
 Puts o text (Some e) before after = ⊥
 
 -- the same, where a quit puts nothing
-abbrev pub PutsBy : {O : Type 0} → out.Ghosts O → Bool → List ℕ → Option End → O → O → Type 0
-PutsBy o true text came before after = (came ≡ Some end.Quit) × (after ≡ before)
-PutsBy o false text came before after = Puts o text came before after
+abbrev pub PutsBy : {O : Type 0} → out.Ghosts O → Bool → List Reply → Option End → O → O → Type 0
+PutsBy o true replies came before after = (came ≡ Some end.Quit) × (after ≡ before) × (replies ≡ [])
+PutsBy o false replies came before after = Puts o (text_of replies) came before after
 
 -- what was due by an act was answered, up to the end that came at it
 pub record AnswersAct {P O : Type 0} (m : port.Ghosts P) (o : out.Ghosts O) (limit : ℕ) (a : Act)
@@ -57,7 +57,7 @@ pub record AnswersAct {P O : Type 0} (m : port.Ghosts P) (o : out.Ghosts O) (lim
   pub due : map due_of replies ≡ due_in a
   pub served : ServesAll m limit old.number (commands replies) (lines_told replies) old.seen
       new.seen port_old port_new
-  pub put : PutsBy o (quits_by a) (text_of replies) came before after
+  pub put : PutsBy o (quits_by a) replies came before after
 
 -- where a session stands behind lines
 abbrev pub place_behind : Place → List (Option (List ℕ)) → Place

@@ -1,0 +1,4 @@
+mod LineLemmas
+mod ReplyLemmas
+mod EndLemmas
+mod AccountLemmas
