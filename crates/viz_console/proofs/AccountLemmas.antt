@@ -12,7 +12,7 @@ use Rattle.viz_entries.specs.declared.entry.Entry.{Entry}
 use Rattle.viz_entries.specs.History.{by_of, IsLegal}
 use Rattle.viz_script.specs.Orders.{Asked}
 use Rattle.viz_report.specs.declared.line.Line.{Line}
-use Rattle.viz_account.specs.Account.{IsAccountOf, AreActors, IsActor, edited}
+use Rattle.viz_account.specs.Account.{IsAccountOf, RoseBy, faults_told, edited}
 use Rattle.viz_account.specs.Laws.{CountEdits, LinesCountEdits, IsClosedLine, AuditLinesAreClosed, AsksAlone}
 use Rattle.viz_account.specs.Served.{ServesAll}
 use Rattle.viz_account.proofs.AccountLemmas.{served_none}
@@ -50,7 +50,7 @@ module _ {P : Type 0} (m : port.Ghosts P) where
           (served.gained.1, served.gained.0, [], sym (append-nil served.gained.0), served.gained.3, served.gained.4, omega arith, refl),
         );
         own = served.own ∙ sym (append-nil (flat_map edited ls));
-        faults = subst (λ (l : List Line). _) (sym (append-nil ls)) served.faults;
+        faults = subst (λ (l : List Line). RoseBy (faults_told l) (m.faults before) (m.faults after)) (sym (append-nil ls)) served.faults;
         idle = λ e. served.idle (sym (append-nil os) ∙ e);
       },
       refl,

@@ -41,6 +41,9 @@ pub fn serve<
     ensures cause { result ≡ End.Fault → Rose (S.faults source.old) (S.faults source.new)
         ⊎ Rose (O.faults out.old) (O.faults out.new) }
 {
+    journal_is_of_joined_passes();
+    lines_count_edits::<P>();
+    audit_lines_are_closed::<P>();
     let alloc = rt.alloc();
     let Ok(reader) = LineReader::new(alloc) else {
         return End::Memory;
@@ -48,9 +51,6 @@ pub fn serve<
     let Ok((hub, pass)) = Hub::start(alloc, HISTORY, CACHE) else {
         return End::Memory;
     };
-    journal_is_of_joined_passes();
-    lines_count_edits::<P>();
-    audit_lines_are_closed::<P>();
     let (pass, end) = serve_lines(rt, alloc, &hub, pass, reader, source, port, out, gate);
     let _journal = hub.close(rt, pass);
     end
