@@ -20,6 +20,10 @@ HELP = [b"\n  once IN OUT threshold LO HI ", b"\n  once IN OUT contour V ", b"\n
         b"\n  clip IN OUT A B C R ", b"\n  run SCRIPT JOURNAL ", b"\n  scratch JOURNAL N SINK OUT ",
         b"\n  migrate JOURNAL OUT ", b"\n  make NUMBER NX NY NZ OUT ", b"--dir", b"--progress"]
 HELP += [b"\n  %d  " % status for status in range(6)]
+VERSION = b"""vizrun 0.9.0
+Before 1.0 scripts, journals, reports and written files may change with the
+second number; CHANGES.md says how. Journals of earlier versions are read.
+"""
 # Words that are no command.
 NONE = [[], ["--help", "x"], ["x", "--help"], ["--version", "--help"], ["--dir"], ["--dir", "folder"],
         ["--dir", "-x"] + ONCE, ["--dir=folder"] + ONCE, ["--dir", "folder", "--dir", "folder"] + ONCE,
@@ -61,7 +65,7 @@ def check_texts(program, folder):
     lost = [part for part in HELP if part not in text]
     if status != 0 or lost:
         errors.append("--help: status %d, without %s" % (status, lost))
-    check("--version", run(program, ["--version"], folder), (0, b"vizrun 0.1.0\n"))
+    check("--version", run(program, ["--version"], folder), (0, VERSION))
 
 
 def files(folder):

@@ -11,7 +11,12 @@ PROVED = ["docs/PROVED%s.md" % it for it in ("", "-OF-UPDATES", "-OF-DATA", "-OF
 PAGES = ["README.md", "bench/README.md"] + PROVED + [
     "docs/%s.md" % page for page in
     ("ARCHITECTURE", "DEFINITIONS", "DEFINITIONS-OF-DATA", "DEFINITIONS-OF-FILES", "FORMATS",
-     "FILTERS", "USING", "DECISIONS", "GLOSSARY", "PROOF-NOTES", "MEASURED")]
+     "FORMATS-OF-FILES", "FORMATS-OF-FILTERS", "FORMATS-OF-OUTPUT", "FORMATS-OF-SCRIPTS", "FILTERS",
+     "USING", "USING-SCRIPTS", "USING-FILES", "DECISIONS", "GLOSSARY", "PROOF-NOTES", "MEASURED")]
+# The pages whose blocks `.ci/examples.py` types.
+TYPED = ["README.md", "docs/USING.md", "docs/USING-SCRIPTS.md", "docs/USING-FILES.md"]
+# A page is no longer than this many lines.
+MOST_LINES = 400
 SUFFIXES = (".md", ".rt", ".antt", ".txt", ".py", ".vtk", ".edit", ".sh")
 errors = []
 
@@ -124,6 +129,16 @@ def check_names(page, known):
             errors.append("%s: no page %s" % (page, link))
 
 
+def check_pages():
+    """Every page is looked at here, and none is too long."""
+    here = glob.glob(os.path.join(TOP, "*.md")) + glob.glob(os.path.join(TOP, "docs/*.md"))
+    for path in sorted(os.path.relpath(it, TOP) for it in here):
+        if path not in PAGES:
+            errors.append("%s: .ci/documents.py doesn't look at it" % path)
+        if len(text(path).splitlines()) > MOST_LINES:
+            errors.append("%s: it has more than %d lines" % (path, MOST_LINES))
+
+
 def headings(page):
     """The headings of a page, each with the name that links have for it."""
     body = re.sub(r"```.*?```", "", text(page), flags=re.S)
@@ -191,10 +206,10 @@ def check_proved(known):
 def shown(wanted, which):
     """Says which of these texts no block of README or USING has: a whole block, or a command with
     what it puts. `.ci/examples.py` types them; here they are rows that others have counted."""
-    blocks = re.findall(r"```text\n(.*?)```", text("README.md") + text("docs/USING.md"), re.S)
+    blocks = re.findall(r"```text\n(.*?)```", "".join(text(it) for it in TYPED), re.S)
     for block in wanted:
         if not any(block == it or block.startswith("$ ") and block in it for it in blocks):
-            errors.append("README.md, docs/USING.md: %s isn't there:\n%s" % (which, block))
+            errors.append("%s: %s isn't there:\n%s" % (", ".join(TYPED), which, block))
 
 
 def typed(words, answer):
@@ -256,6 +271,7 @@ def check_kit():
 
 
 known = Clauses()
+check_pages()
 for page in PAGES:
     check_names(page, known)
     check_anchors(page)

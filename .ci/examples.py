@@ -1,8 +1,9 @@
 #!/usr/bin/env python3
-"""Types the examples of README, FILTERS and USING at the built program, and compares what comes.
+"""Types the examples of README, FILTERS and the pages of USING at the built program, and compares
+what comes.
 
-The program is crates/viz_cli/out/viz_cli, or the one that is named. All three pages are typed in
-one fresh folder, where the program lies as `vizrun` beside `docs`:
+The program is crates/viz_cli/out/viz_cli, or the one that is named. All these pages are typed
+in one fresh folder, where the program lies as `vizrun` beside `docs`:
 
 - A block is a file where the line in front of it ends with the file's name in ticks and a colon.
 - In any other block a line that begins with "$ " is typed in bash. The lines behind it, up to the
@@ -10,7 +11,7 @@ one fresh folder, where the program lies as `vizrun` beside `docs`:
 - A file has one content on all pages: none is shown twice, and none is written over.
 
 Then the kinds of node: each has a row in README's table, and in FILTERS a part with the ports,
-values and defaults that FORMATS has, the class of VTK that README has, and a script that adds a
+values and defaults that FORMATS-OF-FILTERS has, the class of VTK that README has, and a script that adds a
 node of it.
 """
 import os
@@ -21,8 +22,10 @@ import tempfile
 
 TOP = os.path.dirname(os.path.dirname(os.path.abspath(__file__)))
 PROGRAM = os.path.join(TOP, "crates/viz_cli/out/viz_cli")
-README, FILTERS, USING = "README.md", "docs/FILTERS.md", "docs/USING.md"
-FORMATS = "docs/FORMATS.md"
+README, FILTERS = "README.md", "docs/FILTERS.md"
+USING = ["docs/USING.md", "docs/USING-SCRIPTS.md", "docs/USING-FILES.md"]
+TYPED_PAGES = [README, FILTERS] + USING
+KINDS = "docs/FORMATS-OF-FILTERS.md"
 # Lines that are shown and not typed: their first words, and why. No line that is typed reads a file
 # that such a line writes.
 NOT_TYPED = {
@@ -122,7 +125,7 @@ def check_examples(program):
     with tempfile.TemporaryDirectory() as folder:
         os.symlink(program, os.path.join(folder, "vizrun"))
         os.symlink(os.path.join(TOP, "docs"), os.path.join(folder, "docs"))
-        for block in (it for page in (README, FILTERS, USING) for it in blocks_of(page)):
+        for block in (it for page in TYPED_PAGES for it in blocks_of(page)):
             status = 0
             if block.file:
                 show(block, folder)
@@ -179,7 +182,7 @@ def check_part(kind, ports, parameters, values, classes, part):
 
 
 def check_kinds():
-    """README and FILTERS have the kinds of the code, in its order, as FORMATS says them."""
+    """README and FILTERS have the kinds of the code, in its order, as the page of filters says them."""
     code = text("crates/viz_kinds/src/kind.rt").split("pub enum Kind {")[1].split("}")[0]
     kinds = re.findall(r"^    (\w+),$", code, re.M)
     shown = table(README, "| Kind | Makes | VTK |")
@@ -188,8 +191,8 @@ def check_kinds():
     for page, names in ((README, here), (FILTERS, parts[1::2])):
         if names != [kind.lower() for kind in kinds]:
             errors.append("%s: its kinds of node are %s, and not %s" % (page, names, kinds))
-    values = {row[0]: row[1:] for row in table(FORMATS, "| Parameter | Values | Default |")}
-    said = {row[0]: row[1:] for row in table(FORMATS, "| Kind | Ports | Parameters |")}
+    values = {row[0]: row[1:] for row in table(KINDS, "| Parameter | Values | Default |")}
+    said = {row[0]: row[1:] for row in table(KINDS, "| Kind | Ports | Parameters |")}
     for kind, row, part in zip(kinds, shown, parts[2::2]):
         ports, parameters = said[kind]
         check_part(kind, ports, re.findall(r"\w+", parameters), values, row[-1], part)
@@ -205,7 +208,7 @@ def main():
         print("examples:", error)
     if errors:
         sys.exit(1)
-    print("examples: %d lines of three pages put what the pages say" % count)
+    print("examples: %d lines of %d pages put what the pages say" % (count, len(TYPED_PAGES)))
 
 
 if __name__ == "__main__":

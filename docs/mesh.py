@@ -1,4 +1,4 @@
-"""Simple cells at whole points, which vizrun reads (docs/USING.md).
+"""Simple cells at whole points, which vizrun reads (docs/USING-FILES.md).
 
 python3 mesh.py IN OUT SCALE [ARRAY FACTOR]
 

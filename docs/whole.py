@@ -1,4 +1,4 @@
-"""Whole numbers of one array of an image, which vizrun reads (docs/USING.md).
+"""Whole numbers of one array of an image, which vizrun reads (docs/USING-FILES.md).
 
 python3 whole.py IN OUT ARRAY SCALE   multiplies the array by SCALE, rounds, and writes it alone
 """

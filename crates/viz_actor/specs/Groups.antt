@@ -1,4 +1,4 @@
--- The commands of a script by actor and phase (docs/FORMATS.md, "Scripts").
+-- The commands of a script by actor and phase (docs/FORMATS-OF-SCRIPTS.md, "Scripts").
 use Rattle.std.specs.Prelude.{ℕ, zero, suc, ◌+◌, Bool, ◌==◌, ◌&&◌, min, List, [], ◌∷◌, length, map}
 use Rattle.std.specs.Prelude.{cond}
 use Rattle.viz_script.specs.declared.order.Step.{Step}

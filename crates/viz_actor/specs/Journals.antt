@@ -1,4 +1,4 @@
--- The journal of a history whose passes belong to actors (docs/FORMATS.md, "Journals").
+-- The journal of a history whose passes belong to actors (docs/FORMATS-OF-SCRIPTS.md, "Journals").
 use Rattle.std.specs.Prelude.{ℕ, ◌+◌, List, [], ◌∷◌, ◌++◌, length, if◌then◌else◌}
 use Rattle.viz_turn.specs.Tales.{has, entries_of}
 use Rattle.viz_entries.specs.declared.entry.Entry.{Entry}

@@ -9,7 +9,7 @@
 //! Definitions:
 //! `specs/Updating.antt`, `specs/Served.antt`, `specs/Serving.antt`, `specs/Groups.antt`,
 //! `specs/Deeds.antt`, and those of viz_account and viz_hub that they name; the rules are those of
-//! docs/FORMATS.md, "Scripts" and "Report".
+//! docs/FORMATS-OF-SCRIPTS.md, "Scripts", and docs/FORMATS.md, "Report".
 #![tactic(auto)]
 
 mod copies;

@@ -1,5 +1,5 @@
 -- The arrays of an attribute part by rules, one a keyword (VTK User's Guide, "Simple legacy
--- formats"; docs/FORMATS.md, "Attribute parts").
+-- formats"; docs/FORMATS-OF-FILES.md, "Attribute parts").
 use Rattle.std.specs.Prelude.{ℕ, Bool, true, false, not, ◌||◌, List, [], ◌∷◌, ◌++◌, codes}
 use Rattle.viz_column.specs.declared.kind.Kind8.TheVariants.{U8}
 use Rattle.viz_lex.specs.declared.fault.FileKind.TheVariants.{Keyword}

@@ -1,4 +1,4 @@
--- What the public calls promise of attribute parts (docs/FORMATS.md, "Attribute parts").
+-- What the public calls promise of attribute parts (docs/FORMATS-OF-FILES.md, "Attribute parts").
 use Rattle.std.specs.Prelude.{◌≡◌, ◌↔◌, ◌*◌, not, length, IfSome, ℕ, Bool, true, false, List, ◌∷◌}
 use Rattle.std.specs.Prelude.{◌++◌, Option, Some, None, Result, Ok, Err}
 use Rattle.viz_column.specs.Numbers.{Numbers}

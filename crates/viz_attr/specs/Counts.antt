@@ -1,4 +1,5 @@
--- Counts in an attribute part, and where each is at fault (docs/FORMATS.md, "Attribute parts").
+-- Counts in an attribute part, and where each is at fault (docs/FORMATS-OF-FILES.md, "Attribute
+-- parts").
 use Rattle.std.specs.Prelude.{ℕ, ℤ, pos, negsuc, ◌^◌, Bool, false, ◌&&◌, ◌==◌, nat_le, nat_lt}
 use Rattle.std.specs.Prelude.{unsigned_abs}
 use Rattle.viz_lex.specs.declared.fault.FileKind.TheVariants.{Count, TooMany}

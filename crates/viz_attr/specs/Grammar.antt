@@ -1,5 +1,5 @@
 -- The attribute parts of a file by rules (VTK User's Guide, "Simple legacy formats";
--- docs/FORMATS.md, "Attribute parts").
+-- docs/FORMATS-OF-FILES.md, "Attribute parts").
 use Rattle.std.specs.Prelude.{◌≡◌, ℕ, Bool, true, false, ◌||◌, List, [], ◌∷◌, length, codes}
 use Rattle.std.specs.Prelude.{Option, Some, None}
 use Rattle.std.specs.List.{flat_map}

@@ -1,5 +1,5 @@
 -- A FIELD that stands among the lines of a file's geometry: its arrays are passed over
--- (docs/FORMATS.md, "Reading").
+-- (docs/FORMATS-OF-FILES.md, "Reading").
 use Rattle.std.specs.Prelude.{ℕ, Bool, true, false, not, ◌||◌, List, [], ◌∷◌, codes}
 use Rattle.viz_lex.specs.declared.fault.FileKind.TheVariants.{Keyword}
 use Rattle.viz_lex.specs.Reading.{fault_at}

@@ -1,5 +1,5 @@
 -- The readers of a FIELD that is passed over, which proofs compare with the rules
--- (docs/FORMATS.md, "Reading").
+-- (docs/FORMATS-OF-FILES.md, "Reading").
 use Rattle.std.specs.Prelude.{ℕ, zero, suc, ◌*◌, Bool, true, false, not, ◌||◌, codes, Result, Ok}
 use Rattle.std.specs.Prelude.{Err, if◌then◌else◌}
 use Rattle.viz_lex.specs.declared.fault.FileKind.TheVariants.{Keyword}

@@ -1,4 +1,4 @@
--- The picked array: the first that fits the pick (docs/FORMATS.md, "Attribute parts").
+-- The picked array: the first that fits the pick (docs/FORMATS-OF-FILES.md, "Attribute parts").
 use Rattle.std.specs.Prelude.{ℕ, Bool, true, false, not, ◌&&◌, ◌||◌, ◌==◌, List, [], ◌∷◌, ◌++◌}
 use Rattle.std.specs.Prelude.{Option, Some, None, option_map, if◌then◌else◌}
 use Rattle.viz_base.specs.declared.node.Pick.{Pick}

@@ -1,4 +1,4 @@
--- What a reader of the code gave, beside what reading gives (docs/FORMATS.md, "Reading").
+-- What a reader of the code gave, beside what reading gives (docs/FORMATS-OF-FILES.md, "Reading").
 use Rattle.std.specs.Prelude.{◌≡◌, ℕ, Bool, Option, Result, Ok, Err}
 use Rattle.viz_base.specs.declared.node.Pick.{Pick}
 use Rattle.viz_lex.specs.declared.fault.FileFault.{FileFault}

@@ -1,5 +1,5 @@
 -- The readers of attribute parts, which proofs compare with the rules: each keeps what is known of
--- the parts before it (docs/FORMATS.md, "Attribute parts").
+-- the parts before it (docs/FORMATS-OF-FILES.md, "Attribute parts").
 pub mod Before
 pub mod Counts
 pub mod Values

@@ -1,5 +1,5 @@
 -- The types of an array's values in a file (VTK User's Guide, "Simple legacy formats";
--- docs/FORMATS.md, "Types").
+-- docs/FORMATS-OF-FILES.md, "Types").
 use Rattle.std.specs.Prelude.{ℕ, Bool, true, false, not, ◌&&◌, ◌||◌, List, codes, Option, Some}
 use Rattle.std.specs.Prelude.{None, unwrap_or, if◌then◌else◌}
 use Rattle.viz_column.specs.declared.kind.Kind8.{Kind8}

@@ -1,5 +1,5 @@
 -- The values of an array: numbers where it is picked, and else words or bytes that are passed over
--- (docs/FORMATS.md, "Attribute parts").
+-- (docs/FORMATS-OF-FILES.md, "Attribute parts").
 use Rattle.std.specs.Prelude.{ℕ, ℤ, pos, zero, get_or, suc, ◌-◌, ◌*◌, Bool, true, false, List, []}
 use Rattle.std.specs.Prelude.{◌∷◌, drop, Option, Some, None}
 use Rattle.viz_column.specs.declared.kind.Kind8.{Kind8}

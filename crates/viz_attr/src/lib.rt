@@ -2,7 +2,7 @@
 //!
 //! Contract: `attributes` gives just what the rules of the parts say, or the first fault.
 //! Definitions: `specs/Attributes.antt`, what the calls promise, and `specs/Grammar.antt` with the
-//! files that it names; the rules are those of docs/FORMATS.md, "Attribute parts".
+//! files that it names; the rules are those of docs/FORMATS-OF-FILES.md, "Attribute parts".
 #![tactic(auto)]
 
 mod all_parts;

@@ -1,4 +1,4 @@
-//! The table of docs/FORMATS.md, "Kinds of node", typed in again by hand.
+//! The table of docs/FORMATS-OF-FILTERS.md, "Kinds of node", typed in again by hand.
 
 use std::test::Fail;
 use viz_base::Word;

@@ -1,4 +1,4 @@
--- Batches: edits that take effect as one, all or none (docs/FORMATS.md, "Batches").
+-- Batches: edits that take effect as one, all or none (docs/FORMATS-OF-SCRIPTS.md, "Batches").
 use Rattle.std.specs.Prelude.{ℕ, ◌+◌, ◌≤◌, List, [], ◌∷◌, length, Result, Ok, Err}
 use Rattle.viz_network.specs.declared.edit.Edit.{Edit}
 use Rattle.viz_network.specs.declared.refusal.Refusal.{Refusal}

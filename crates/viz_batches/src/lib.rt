@@ -2,7 +2,7 @@
 //!
 //! Contract: a batch has 1 to 64 edits; `apply_all` gives just the network of its definition, or
 //! refuses at the first edit that is refused and changes nothing. Definitions: `specs/Batches.antt`;
-//! the rules are those of docs/FORMATS.md, "Batches".
+//! the rules are those of docs/FORMATS-OF-SCRIPTS.md, "Batches".
 #![tactic(auto)]
 
 mod apply;

@@ -1,5 +1,5 @@
--- Names of the cells in a cell: those of the edges of it that are cut (docs/FORMATS.md, "Names of
--- a section").
+-- Names of the cells in a cell: those of the edges of it that are cut (docs/FORMATS-OF-FILTERS.md,
+-- "Names of a section").
 use Rattle.std.specs.Prelude.{◌≡◌, ◌≢◌, ℕ, Bool, List, All, Contains}
 use Rattle.std.specs.List.{flat_map}
 use Rattle.viz_sheet.specs.Sheet.{IsNamedCell}

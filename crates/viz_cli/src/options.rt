@@ -28,6 +28,12 @@ The program ends with the status
   4  a file or the output failed
   5  memory ran out";
 
+/// The version of the program, and what its number means.
+const VERSION: &str = "\
+0.9.0
+Before 1.0 scripts, journals, reports and written files may change with the
+second number; CHANGES.md says how. Journals of earlier versions are read.";
+
 /// What the options ask for.
 #[derive(Clone, Copy, Debug)]
 pub struct LineOptions<'a> {
@@ -51,7 +57,7 @@ fn command<'a>(alloc: Global) -> Result<Command<'a>, AllocError> {
         .default_value(".")
         .help("The folder of all files");
     Command::new(alloc, "vizrun")
-        .version("0.1.0")
+        .version(VERSION)
         .about("Cuts surfaces out of volumes, proved")
         .override_usage("vizrun [--dir DIR] [--progress] WORDS")
         .after_help(COMMANDS)

@@ -1,5 +1,5 @@
 -- The clip of an image, which is taken through its tetrahedra, and how its facets fit together
--- (Kuhn 1960; Dompierre et al. 1999; docs/FORMATS.md, "Clipped volumes").
+-- (Kuhn 1960; Dompierre et al. 1999; docs/FORMATS-OF-FILTERS.md, "Clipped volumes").
 use Rattle.std.specs.Prelude.{◌≡◌, ◌⊎◌, ◌↔◌, ℕ, ◌<◌, ◌≤◌, ◌||◌, IsTrue, [], ◌∷◌}
 use Rattle.std.specs.declared.cmp.Ordering.TheVariants.{Less}
 use Rattle.std.specs.List.{flat_map, list_all}

@@ -1,5 +1,5 @@
 -- Facets of the tetrahedra of a clipped volume, and how they fit together (Dompierre et al. 1999;
--- docs/FORMATS.md, "Clipped volumes").
+-- docs/FORMATS-OF-FILTERS.md, "Clipped volumes").
 use Rattle.std.specs.Prelude.{◌≡◌, ◌⊎◌, ◌↔◌, ℕ, ◌<◌, ◌≤◌, Bool, true, false, IsTrue, List, [], ◌∷◌}
 use Rattle.std.specs.Prelude.{All, Contains, count_by, length, nat_eq}
 use Rattle.std.specs.declared.cmp.Ordering.TheVariants.{Less}

@@ -1,5 +1,5 @@
 -- A clipped volume: the part of tetrahedra where a linear form is at least 0, as tetrahedra that
--- fit together (VTK's vtkClipDataSet; docs/FORMATS.md, "Clipped volumes").
+-- fit together (VTK's vtkClipDataSet; docs/FORMATS-OF-FILTERS.md, "Clipped volumes").
 use Rattle.std.specs.Prelude.{◌≡◌, ℕ, List, [], ◌∷◌, length, map, count_by, All}
 use Rattle.std.specs.List.{flat_map}
 use Rattle.std.specs.Ordering.{is_lt}

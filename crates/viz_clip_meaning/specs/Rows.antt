@@ -1,5 +1,5 @@
--- What the rule for prisms gives where the corners of a cell ascend, row by row (docs/FORMATS.md,
--- "Clipped volumes").
+-- What the rule for prisms gives where the corners of a cell ascend, row by row
+-- (docs/FORMATS-OF-FILTERS.md, "Clipped volumes").
 use Rattle.std.specs.Prelude.{◌≡◌, ℕ, Bool, not, List, [], ◌∷◌, length, map}
 use Rattle.std.specs.Prelude.{if◌then◌else◌}
 use Rattle.std.specs.List.Sorted.{IsStrictlySortedBy}

@@ -1,5 +1,5 @@
--- Vertices of a clipped volume: corners of its cells, and cuts of their edges (docs/FORMATS.md,
--- "Clipped volumes").
+-- Vertices of a clipped volume: corners of its cells, and cuts of their edges
+-- (docs/FORMATS-OF-FILTERS.md, "Clipped volumes").
 use Rattle.std.specs.Prelude.{ℕ, min, max, List, [], ◌∷◌}
 use Rattle.std.specs.declared.cmp.Ordering.{Ordering}
 use Rattle.std.specs.Cmp.Lexicographic.{slice_cmp}

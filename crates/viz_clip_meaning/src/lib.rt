@@ -3,7 +3,7 @@
 //!
 //! Contract: the laws of the definitions. With the corners of a cell in ascending order the rule
 //! for prisms gives the rows of `specs/Rows.antt`. Definitions: `specs/Clip.antt`, whose table of
-//! kept solids and rule for prisms are those of docs/FORMATS.md, "Clipped volumes".
+//! kept solids and rule for prisms are those of docs/FORMATS-OF-FILTERS.md, "Clipped volumes".
 #![tactic(auto)]
 
 mod laws;

@@ -1,4 +1,5 @@
-//! Clips of few tetrahedra, by hand from the table of docs/FORMATS.md, "Clipped volumes".
+//! Clips of few tetrahedra, by hand from the table of docs/FORMATS-OF-FILTERS.md, "Clipped
+//! volumes".
 
 use crate::sheets::{Five, has_cells, has_points, is_level_0, sheet};
 use std::alloc::Global;

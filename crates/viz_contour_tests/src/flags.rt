@@ -1,4 +1,4 @@
-//! Sections of small grids, counted by hand from the tables of docs/FORMATS.md.
+//! Sections of small grids, counted by hand from the tables of docs/FORMATS-OF-FILTERS.md.
 
 use std::alloc::{AllocError, Global};
 use std::process::Abort;

@@ -1,5 +1,5 @@
 -- The cells of a section in BINARY by their bytes, which proofs compare with the readers
--- (docs/FORMATS.md, "Grids and polydata").
+-- (docs/FORMATS-OF-FILES.md, "Grids and polydata").
 use Rattle.std.specs.Prelude.{◌≡◌, ◌≤◌, ◌<◌, ◌*◌, ℕ, pos, true, List, [], ◌∷◌, length, drop, Ok}
 use Rattle.viz_column.specs.declared.kind.Kind8.TheVariants.{I32}
 use Rattle.viz_column.specs.Bytes.{number_in}

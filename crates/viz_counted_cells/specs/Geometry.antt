@@ -1,4 +1,5 @@
--- What the public calls promise of the geometry of a file (docs/FORMATS.md, "Grids and polydata").
+-- What the public calls promise of the geometry of a file (docs/FORMATS-OF-FILES.md, "Grids and
+-- polydata").
 use Rattle.std.specs.Prelude.{Result, Ok, Err}
 use Rattle.viz_lex.specs.Reading.{Reading}
 use Rattle.viz_lex.specs.Rules.{Rule}

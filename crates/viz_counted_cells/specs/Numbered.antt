@@ -1,5 +1,5 @@
--- The numbers of the cells of a section, and the arrays that keep them (docs/FORMATS.md, "Grids and
--- polydata").
+-- The numbers of the cells of a section, and the arrays that keep them (docs/FORMATS-OF-FILES.md,
+-- "Grids and polydata").
 use Rattle.std.specs.Prelude.{ℕ, List, [], ◌∷◌, length, take, drop}
 use Rattle.std.specs.List.{flat_map}
 use Rattle.viz_counted_cells.specs.declared.cell_numbers.CellArrays.{CellArrays}

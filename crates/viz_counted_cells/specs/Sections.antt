@@ -1,5 +1,5 @@
 -- The cells of a grid or polydata file, section by section (VTK User's Guide, "Simple legacy
--- formats"; docs/FORMATS.md, "Grids and polydata").
+-- formats"; docs/FORMATS-OF-FILES.md, "Grids and polydata").
 use Rattle.std.specs.Prelude.{◌≡◌, ◌<◌, ℕ, ℤ, pos, negsuc, zero, suc, ◌+◌, ◌-◌, ◌^◌, All, Bool}
 use Rattle.std.specs.Prelude.{false, not, ◌&&◌, ◌||◌, ◌==◌, nat_le, nat_lt, unsigned_abs, List, []}
 use Rattle.std.specs.Prelude.{◌∷◌, length}

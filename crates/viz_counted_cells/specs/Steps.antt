@@ -1,5 +1,5 @@
--- The readers of counted cells, which proofs compare with the rules (docs/FORMATS.md, "Grids and
--- polydata").
+-- The readers of counted cells, which proofs compare with the rules (docs/FORMATS-OF-FILES.md,
+-- "Grids and polydata").
 use Rattle.std.specs.Prelude.{ℕ, ℤ, zero, suc, ◌-◌, ◌^◌, Bool, not, ◌||◌, ◌==◌, unsigned_abs, List}
 use Rattle.std.specs.Prelude.{[], ◌∷◌, ◌++◌, length, Result, Ok, if◌then◌else◌}
 use Rattle.viz_column.specs.declared.kind.Kind8.TheVariants.{I32}

@@ -2,7 +2,7 @@
 //!
 //! Contract: `section` gives just the cells of the rule, or the first fault. Definitions:
 //! `specs/Sections.antt`, and `specs/Numbered.antt` with the arrays that keep their numbers; the
-//! rules are those of docs/FORMATS.md, "Grids and polydata".
+//! rules are those of docs/FORMATS-OF-FILES.md, "Grids and polydata".
 #![tactic(auto)]
 
 mod blocks;

@@ -2,7 +2,7 @@
 //!
 //! Contract: an image keeps the rule of an image, its points lie where the formula says, and
 //! `restrict` gives the same numbers on a part of the extent.
-//! Definitions: `specs/Images.antt`; the rule is that of docs/FORMATS.md, "Images".
+//! Definitions: `specs/Images.antt`; the rule is that of docs/FORMATS-OF-FILES.md, "Images".
 #![tactic(auto)]
 
 mod dataset;

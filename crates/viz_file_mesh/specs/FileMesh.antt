@@ -1,4 +1,4 @@
--- The mesh of a file: its points, in a unit, and its pieces (docs/FORMATS.md, "Grids and
+-- The mesh of a file: its points, in a unit, and its pieces (docs/FORMATS-OF-FILES.md, "Grids and
 -- polydata").
 use Rattle.std.specs.Prelude.{◌≡◌, ℕ, ℤ, pos, ◌+◌, ◌*◌, ◌^◌, ◌<◌, ◌*ℤ◌, List, [], ◌∷◌, length, map}
 use Rattle.std.specs.Prelude.{slice_index_or, Option, Some, None, IfSome}

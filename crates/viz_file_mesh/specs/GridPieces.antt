@@ -1,5 +1,5 @@
 -- The pieces of the cells of a grid: each cell is one, unless it repeats an index (VTK User's
--- Guide, "Simple legacy formats"; docs/FORMATS.md, "Grids and polydata").
+-- Guide, "Simple legacy formats"; docs/FORMATS-OF-FILES.md, "Grids and polydata").
 use Rattle.std.specs.Prelude.{ℕ, Bool, true, false, not, ◌&&◌, ◌||◌, ◌==◌, List, [], ◌∷◌}
 use Rattle.std.specs.List.{flat_map}
 use Rattle.viz_mesh_read.specs.Pieces.{kept, in_cells}

@@ -1,7 +1,7 @@
 //! The mesh of a grid or polydata file: one sheet of its points and pieces.
 //!
 //! Contract: the mesh is that of the definition. Definitions: `specs/FileMesh.antt`; the rule is
-//! that of docs/FORMATS.md, "Grids and polydata".
+//! that of docs/FORMATS-OF-FILES.md, "Grids and polydata".
 #![tactic(auto)]
 
 mod cells;

@@ -1,4 +1,4 @@
-//! Sections of few cells, by hand from the table of docs/FORMATS.md.
+//! Sections of few cells, by hand from the table of docs/FORMATS-OF-FILTERS.md.
 
 mod fit;
 mod many;

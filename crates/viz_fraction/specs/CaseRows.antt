@@ -111,6 +111,6 @@ rows_of_four =
     ∷ case_row 4 (2 ∷ 3 ∷ []) (triangle e02 e12 e13 ∷ triangle e02 e13 e03 ∷ [])
     ∷ []
 
--- the table (docs/FORMATS.md, "Cases of a section")
+-- the table (docs/FORMATS-OF-FILTERS.md, "Cases of a section")
 abbrev pub rows : List Row
 rows = rows_of_two ++ rows_of_three ++ rows_of_four

@@ -1,5 +1,5 @@
--- Fixed-point numbers: the floor of a fraction at so many decimal places (docs/FORMATS.md, "Exact
--- points").
+-- Fixed-point numbers: the floor of a fraction at so many decimal places
+-- (docs/FORMATS-OF-FILTERS.md, "Exact points").
 use Rattle.std.specs.Prelude.{ℕ, ◌^◌, ℤ, pos, ◌+ℤ◌, ◌*ℤ◌, ◌≤ℤ◌, ◌<ℤ◌}
 use Rattle.std.specs.Int.{int_div_euclid}
 

@@ -1,4 +1,5 @@
--- Five numbers of the code, as the point that they stand for (docs/FORMATS.md, "Exact points").
+-- Five numbers of the code, as the point that they stand for (docs/FORMATS-OF-FILTERS.md, "Exact
+-- points").
 use Rattle.viz_fraction.specs.declared.numbers.Numbers.{Numbers}
 use Rattle.viz_fraction.specs.Points.{Point, numbers}
 

@@ -1,4 +1,5 @@
--- Crossings whose weighted sums fit a machine word of 64 bits (docs/FORMATS.md, "Exact points").
+-- Crossings whose weighted sums fit a machine word of 64 bits (docs/FORMATS-OF-FILTERS.md, "Exact
+-- points").
 use Rattle.std.specs.Prelude.{◌+◌, ◌^◌, ◌<◌, ℤ, FitsSigned}
 use Rattle.std.specs.Int.{w32}
 use Rattle.viz_fraction.specs.Points.{Point}

@@ -1,4 +1,4 @@
--- Points whose numbers fit a machine word of 64 bits (docs/FORMATS.md, "Exact points").
+-- Points whose numbers fit a machine word of 64 bits (docs/FORMATS-OF-FILTERS.md, "Exact points").
 use Rattle.std.specs.Prelude.{FitsSigned}
 use Rattle.std.specs.Int.{w64}
 use Rattle.viz_fraction.specs.Points.{Point}

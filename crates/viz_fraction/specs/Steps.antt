@@ -1,4 +1,4 @@
--- What a divisor of a crossing's numbers divides (docs/FORMATS.md, "Exact points").
+-- What a divisor of a crossing's numbers divides (docs/FORMATS-OF-FILTERS.md, "Exact points").
 use Rattle.std.specs.Prelude.{◌≡◌, ℕ, pos, ◌-ℤ◌, unsigned_abs}
 use Prim.Native.Nat.{◌∣◌}
 use Rattle.viz_fraction.specs.Points.{Point}

@@ -1,5 +1,5 @@
 -- Five numbers and two weights of 64 bits, as those that are reckoned with elsewhere
--- (docs/FORMATS.md, "Exact points").
+-- (docs/FORMATS-OF-FILTERS.md, "Exact points").
 use Rattle.std.specs.Prelude.{pos}
 use Rattle.viz_fraction.specs.declared.crossings.Weights.{Weights}
 use Rattle.viz_fraction.specs.declared.numbers.Numbers.{Numbers}

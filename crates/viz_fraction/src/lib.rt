@@ -2,8 +2,8 @@
 //!
 //! Contract: each call is its formula on whole numbers without bound, `TooWide` comes exactly where
 //! a number of that formula exceeds 2^120 in magnitude, and `cells_of` gives the row of the table.
-//! No memory is taken. Definitions: `specs/`; the rules are those of docs/FORMATS.md, "Exact
-//! points" and "Cases of a section".
+//! No memory is taken. Definitions: `specs/`; the rules are those of docs/FORMATS-OF-FILTERS.md,
+//! "Exact points" and "Cases of a section".
 #![tactic(auto)]
 
 mod case_laws;

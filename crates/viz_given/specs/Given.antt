@@ -1,5 +1,5 @@
--- What holds of each mesh that a node gives in whole numbers without bound (docs/FORMATS.md,
--- "Exact points").
+-- What holds of each mesh that a node gives in whole numbers without bound
+-- (docs/FORMATS-OF-FILTERS.md, "Exact points").
 use Rattle.std.specs.Prelude.{List, Option}
 use Rattle.std.specs.List.{All}
 use Rattle.viz_dataset.specs.declared.dataset.Dataset.TheVariants.{Mesh}

@@ -1,5 +1,5 @@
--- What the edges of cells are: the set of the cells' edges, in ascending order (docs/FORMATS.md,
--- "Names of a section").
+-- What the edges of cells are: the set of the cells' edges, in ascending order
+-- (docs/FORMATS-OF-FILTERS.md, "Names of a section").
 use Rattle.std.specs.Prelude.{◌≡◌, ℕ, ◌<◌, List, length, slice_index_or, ◌↔◌, Contains}
 use Rattle.std.specs.List.{flat_map}
 use Rattle.viz_grid_section.specs.Edges.{Edge, edges_of, rank_of, AreAscending}

@@ -1,5 +1,5 @@
 -- Edges between the points of a grid: unordered pairs of leaves, lesser first, ascending
--- (docs/FORMATS.md, "Names of a section").
+-- (docs/FORMATS-OF-FILTERS.md, "Names of a section").
 use Rattle.std.specs.Prelude.{ℕ, ◌&&◌, ◌||◌, ◌==◌, Bool, min, max, nat_lt, List, [], ◌∷◌, IsTrue}
 use Rattle.std.specs.Prelude.{count_by, if◌then◌else◌}
 use Rattle.std.specs.List.{flat_map}

@@ -3,7 +3,7 @@
 //! Contract: a call gives the part `out` of what its filter makes of the whole image, from inputs
 //! that contain what `out` asks for, and refuses nothing but for want of memory.
 //! Definitions: `viz_meaning`'s `specs/ImageFilters.antt` and `specs/WholeImages.antt`; the rules
-//! are those of docs/FORMATS.md, "What a node gives".
+//! are those of docs/FORMATS-OF-FILTERS.md, "What a node gives".
 #![tactic(auto)]
 
 mod arithmetic;

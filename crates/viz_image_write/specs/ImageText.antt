@@ -1,5 +1,5 @@
--- The text of a written image (VTK User's Guide, "Simple legacy formats"; docs/FORMATS.md,
--- "Written files").
+-- The text of a written image (VTK User's Guide, "Simple legacy formats";
+-- docs/FORMATS-OF-OUTPUT.md, "Written files").
 use Rattle.std.specs.Prelude.{ℕ, ℤ, zero, suc, ◌*◌, Bool, true, false, List, [], ◌∷◌, ◌++◌}
 use Rattle.std.specs.Prelude.{take, drop, codes}
 use Rattle.std.specs.List.{flat_map}

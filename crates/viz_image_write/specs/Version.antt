@@ -1,5 +1,5 @@
--- The version of a written file (VTK's documentation, "VTK File Formats"; docs/FORMATS.md, "Written
--- files").
+-- The version of a written file (VTK's documentation, "VTK File Formats";
+-- docs/FORMATS-OF-OUTPUT.md, "Written files").
 use Rattle.std.specs.Prelude.{ℕ, ◌==◌, ◌||◌, Bool, true, false, List, codes}
 
 -- whether files of this version are written: 3 is version 3.0, and 5 is version 5.1

@@ -2,7 +2,7 @@
 //!
 //! Contract: `write_image` gives the text of the definition, or the refusal that it names; what a
 //! mesh is written as is `viz_mesh_write`. Definitions: `specs/ImageText.antt`,
-//! `specs/Version.antt`; the rule is that of docs/FORMATS.md, "Written files".
+//! `specs/Version.antt`; the rule is that of docs/FORMATS-OF-OUTPUT.md, "Written files".
 #![tactic(auto)]
 
 mod counts;

@@ -1,5 +1,5 @@
 -- The edits of a batch as the lines of a journal say them, or the first refusal of the first line
--- that has one (docs/FORMATS.md, "Journals").
+-- that has one (docs/FORMATS-OF-SCRIPTS.md, "Journals").
 use Rattle.std.specs.Prelude.{ℕ, zero, suc, ◌+◌, Bool, ◌&&◌, List, [], ◌∷◌, ◌++◌, Result}
 use Rattle.std.specs.Prelude.{Ok, Err}
 use Rattle.viz_kinds.specs.Values.{is_text}

@@ -1,4 +1,4 @@
--- The entries of a journal, and their edits (docs/FORMATS.md, "Journals").
+-- The entries of a journal, and their edits (docs/FORMATS-OF-SCRIPTS.md, "Journals").
 use Rattle.std.specs.Prelude.{ℕ, ◌+◌, Bool, ◌&&◌, ◌==◌, nat_le, List, flat_map, length, count_by}
 use Rattle.std.specs.Prelude.{is_ok}
 use Rattle.viz_network.specs.declared.edit.Edit.{Edit}

@@ -1,4 +1,4 @@
--- Entries that a journal can have (docs/FORMATS.md, "Journals").
+-- Entries that a journal can have (docs/FORMATS-OF-SCRIPTS.md, "Journals").
 use Rattle.std.specs.Prelude.{◌≡◌, ℕ, ◌+◌, ◌^◌, ◌<◌, ◌≤◌, true, ◌&&◌, int_le, List, [], ◌∷◌}
 use Rattle.std.specs.Prelude.{◌++◌, length, Some}
 use Rattle.std.specs.List.{list_all, AllByRecursion}

@@ -1,4 +1,4 @@
--- The text of a journal (docs/FORMATS.md, "Journals").
+-- The text of a journal (docs/FORMATS-OF-SCRIPTS.md, "Journals").
 use Rattle.std.specs.Prelude.{ℕ, List, [], ◌∷◌, ◌++◌, map, take, length, flat_map, codes}
 use Rattle.std.specs.Fmt.{decimal, signed_decimal}
 use Rattle.viz_kinds.specs.declared.param.Value.{Value}

@@ -1,5 +1,5 @@
--- What a line of a journal says, however it is spelled, with its refusals (docs/FORMATS.md,
--- "Journals").
+-- What a line of a journal says, however it is spelled, with its refusals
+-- (docs/FORMATS-OF-SCRIPTS.md, "Journals").
 use Rattle.std.specs.Prelude.{ℕ, ℤ, pos, negsuc, List, [], ◌∷◌, codes, ok_or, Result, Ok, Err}
 use Rattle.std.specs.Prelude.{if◌then◌else◌}
 use Rattle.viz_kinds.specs.Values.{is_text}

@@ -1,4 +1,4 @@
--- A line of a journal, and the bytes behind it (docs/FORMATS.md, "Journals").
+-- A line of a journal, and the bytes behind it (docs/FORMATS-OF-SCRIPTS.md, "Journals").
 use Rattle.std.specs.Prelude.{ℕ, pos, int_le, ◌+◌, Bool, true, false, not, ◌==◌, List, [], ◌∷◌}
 use Rattle.std.specs.Prelude.{take, drop, length, if◌then◌else◌}
 use Rattle.viz_network.specs.declared.edit.Edit.{Edit}

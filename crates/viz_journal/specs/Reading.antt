@@ -1,5 +1,5 @@
 -- The entries of a journal, or the first refusal of its first line that has one
--- (docs/FORMATS.md, "Journals").
+-- (docs/FORMATS-OF-SCRIPTS.md, "Journals").
 use Rattle.std.specs.Prelude.{◌≡◌, ℕ, zero, suc, ◌+◌, not, ◌==◌, List, [], ◌∷◌, ◌++◌, take, drop}
 use Rattle.std.specs.Prelude.{length, Option, None, Some, Result, Ok, Err, if◌then◌else◌}
 use Rattle.viz_kinds.specs.Values.{is_text}

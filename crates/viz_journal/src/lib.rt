@@ -3,7 +3,7 @@
 //! Contract: `journal_text` writes just the text of its definition, and `read_journal` reads just
 //! what its definition reads, or gives the first refusal of the first line that has one; what is
 //! written is read again, and nothing else is. Definitions: `specs/Journal.antt`,
-//! `specs/Reading.antt`; the rules are those of docs/FORMATS.md, "Journals".
+//! `specs/Reading.antt`; the rules are those of docs/FORMATS-OF-SCRIPTS.md, "Journals".
 #![tactic(auto)]
 
 mod draft;

@@ -222,8 +222,8 @@ fn entries_of(
 ///
 /// # Errors
 ///
-/// The refusals of docs/FORMATS.md, "Journals": the first refusal of the first line that has one.
-/// Want of memory may come in place of a result.
+/// The refusals of docs/FORMATS-OF-SCRIPTS.md, "Journals": the first refusal of the first line that
+/// has one. Want of memory may come in place of a result.
 pub fn read_journal(alloc: Global, bytes: &[u8]) -> Result<Vec<JournalEntry>, ScriptStop>
     ensures reads { Reads (λ entries. entries.items) result (journal_read bytes.now) }
 {

@@ -1,4 +1,5 @@
--- The kinds of node: their ports and their parameters (docs/FORMATS.md, "Kinds of node").
+-- The kinds of node: their ports and their parameters (docs/FORMATS-OF-FILTERS.md, "Kinds of
+-- node").
 use Rattle.std.specs.Prelude.{ℕ, Bool, true, false, nat_le, ◌&&◌}
 use Rattle.viz_kinds.specs.declared.kind.Kind.{Kind}
 use Rattle.viz_kinds.specs.declared.kind.Kind.TheVariants.{File, Crop, Sample, Threshold, Smooth}

@@ -1,4 +1,4 @@
--- The parameters of a node, typed by its kind (docs/FORMATS.md, "Kinds of node").
+-- The parameters of a node, typed by its kind (docs/FORMATS-OF-FILTERS.md, "Kinds of node").
 use Rattle.std.specs.Prelude.{ℕ, Bool, true, false, ◌&&◌, if◌then◌else◌, ℤ, pos, int_le}
 use Rattle.std.specs.Prelude.{unsigned_abs, List, ◌∷◌, replicate, codes, Option, None, Some}
 use Rattle.std.specs.Ordering.{int_eq}

@@ -1,4 +1,4 @@
--- The values that each parameter may have (docs/FORMATS.md, "Kinds of node").
+-- The values that each parameter may have (docs/FORMATS-OF-FILTERS.md, "Kinds of node").
 use Rattle.std.specs.Prelude.{ℕ, Bool, true, false, not, nat_le, nat_eq, ◌&&◌, ◌||◌, ℤ, pos}
 use Rattle.std.specs.Prelude.{negsuc, int_le, List, take, drop, codes, slice_index_or, Option}
 use Rattle.std.specs.Prelude.{None, Some}

@@ -3,7 +3,7 @@
 //! Contract: which ports and parameters a kind has, which values a parameter may have, and what a
 //! node is set to are just those of one table. It stands in `specs/Kinds.antt`,
 //! `specs/Values.antt` and
-//! `specs/Settings.antt`, and as a text in docs/FORMATS.md, "Kinds of node".
+//! `specs/Settings.antt`, and as a text in docs/FORMATS-OF-FILTERS.md, "Kinds of node".
 #![tactic(auto)]
 
 mod assign;

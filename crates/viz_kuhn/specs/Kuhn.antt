@@ -15,7 +15,7 @@ pub record Row : Type 0 where
 abbrev pub row : List Axis → Bool → List Corner → Row
 row axes even corners = record { axes = axes; even = even; corners = corners }
 
--- the six tetrahedra in the order of docs/FORMATS.md, "Kuhn's subdivision"
+-- the six tetrahedra in the order of docs/FORMATS-OF-FILTERS.md, "Kuhn's subdivision"
 unfoldable pub rows : List Row
 rows =
     -- x y z

@@ -2,8 +2,8 @@
 //!
 //! Contract: `tet` gives one tetrahedron of the list of all, by the numbers of its points, and each
 //! is positively oriented and goes along a path of the three axes.
-//! Definitions: `specs/Kuhn.antt` and `specs/Cubes.antt`; the table is that of docs/FORMATS.md,
-//! "Kuhn's subdivision".
+//! Definitions: `specs/Kuhn.antt` and `specs/Cubes.antt`; the table is that of
+//! docs/FORMATS-OF-FILTERS.md, "Kuhn's subdivision".
 #![tactic(auto)]
 
 mod laws;

@@ -1,4 +1,4 @@
--- A whole file (VTK User's Guide, "Simple legacy formats"; docs/FORMATS.md, "Reading").
+-- A whole file (VTK User's Guide, "Simple legacy formats"; docs/FORMATS-OF-FILES.md, "Reading").
 use Rattle.std.specs.Prelude.{ℕ}
 use Rattle.viz_base.specs.declared.node.Pick.{Pick}
 use Rattle.viz_dataset.specs.declared.dataset.Dataset.{Dataset}

@@ -1,5 +1,5 @@
 -- The header of a file: up to the word of the dataset, and of an image up to its third header line
--- (VTK User's Guide, "Simple legacy formats"; docs/FORMATS.md, "Images").
+-- (VTK User's Guide, "Simple legacy formats"; docs/FORMATS-OF-FILES.md, "Images").
 use Rattle.std.specs.Prelude.{ℕ, ℤ, pos, negsuc, ◌-◌, ◌*◌, ◌^◌, Bool, true, false, not, ◌&&◌, ◌||◌}
 use Rattle.std.specs.Prelude.{nat_le, nat_lt, List, [], ◌∷◌, codes, fold, Option, Some, None}
 use Rattle.std.specs.Prelude.{unwrap_or, unsigned_abs}

@@ -1,4 +1,4 @@
--- An image file (VTK User's Guide, "Simple legacy formats"; docs/FORMATS.md, "Images").
+-- An image file (VTK User's Guide, "Simple legacy formats"; docs/FORMATS-OF-FILES.md, "Images").
 use Rattle.std.specs.Prelude.{ℕ, pos, ◌-◌, ◌*◌, Option, Some, None, replicate, max}
 use Rattle.viz_base.specs.declared.node.Pick.{Pick}
 use Rattle.viz_column.specs.declared.kind.Kind8.TheVariants.{U8}

@@ -1,5 +1,5 @@
--- The two lines in front of a file (VTK User's Guide, "Simple legacy formats"; docs/FORMATS.md,
--- "Reading").
+-- The two lines in front of a file (VTK User's Guide, "Simple legacy formats";
+-- docs/FORMATS-OF-FILES.md, "Reading").
 use Rattle.std.specs.Prelude.{◌≡◌, ℕ, suc, ◌+◌, Bool, false, ◌&&◌, ◌||◌, ◌==◌, nat_le, nat_lt}
 use Rattle.std.specs.Prelude.{nat_eq, List, [], ◌∷◌, length, take, drop, codes, if◌then◌else◌}
 use Rattle.std.specs.List.{list_all, starts_with}

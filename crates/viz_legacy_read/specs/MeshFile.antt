@@ -1,5 +1,5 @@
 -- The file of a grid or of polydata, behind the word of its dataset (VTK User's Guide, "Simple
--- legacy formats"; docs/FORMATS.md, "Grids and polydata").
+-- legacy formats"; docs/FORMATS-OF-FILES.md, "Grids and polydata").
 use Rattle.std.specs.Prelude.{ℕ, ◌+◌, Bool, true, false, List, length}
 use Rattle.viz_base.specs.declared.node.Pick.{Pick}
 use Rattle.viz_attr.specs.Picks.{Given}

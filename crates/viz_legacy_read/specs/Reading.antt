@@ -1,5 +1,5 @@
 -- What a file is read as, and where its first fault is (VTK User's Guide, "Simple legacy formats";
--- docs/FORMATS.md, "Reading").
+-- docs/FORMATS-OF-FILES.md, "Reading").
 use Rattle.std.specs.Prelude.{◌≡◌, ℕ, List, All}
 use Rattle.viz_base.specs.declared.node.Pick.{Pick}
 use Rattle.viz_extent.specs.Extent.{Bounds}

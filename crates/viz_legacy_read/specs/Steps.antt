@@ -1,4 +1,4 @@
--- The readers of a file, which proofs compare with the rules (docs/FORMATS.md, "Reading").
+-- The readers of a file, which proofs compare with the rules (docs/FORMATS-OF-FILES.md, "Reading").
 use Rattle.std.specs.Prelude.{ℕ, ℤ, ◌+◌, ◌*◌, ◌^◌, Bool, true, false, not, ◌&&◌, ◌||◌, nat_le}
 use Rattle.std.specs.Prelude.{nat_lt, List, length, drop, codes, Some, ok_or, Result, Ok, Err}
 use Rattle.std.specs.Prelude.{unsigned_abs, if◌then◌else◌}

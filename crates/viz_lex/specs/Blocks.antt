@@ -1,4 +1,5 @@
--- Bytes by their number, as the values of a binary file stand (docs/FORMATS.md, "Reading").
+-- Bytes by their number, as the values of a binary file stand (docs/FORMATS-OF-FILES.md,
+-- "Reading").
 use Rattle.std.specs.Prelude.{◌≡◌, ℕ, nat_le, ◌++◌, length, Result, Ok, Err, if◌then◌else◌}
 use Rattle.viz_lex.specs.declared.fault.FileFault.{FileFault}
 use Rattle.viz_lex.specs.declared.fault.FileKind.TheVariants.{Truncated}

@@ -1,4 +1,4 @@
--- Decimals as words, in billionths (docs/FORMATS.md, "Reading").
+-- Decimals as words, in billionths (docs/FORMATS-OF-FILES.md, "Reading").
 use Rattle.std.specs.Prelude.{◌≡◌, ◌≢◌, ℕ, ℤ, pos, negsuc, neg_ℤ, suc, ◌+◌, ◌*◌, ◌/◌, ◌^◌, ◌≤◌}
 use Rattle.std.specs.Prelude.{Bool, true, false, ◌||◌, ◌⊎◌, ◌==◌, nat_le, unsigned_abs, List, []}
 use Rattle.std.specs.Prelude.{◌∷◌, ◌++◌, length, take, drop, Option, Some, None, option_map, ok_or}

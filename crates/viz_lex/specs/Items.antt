@@ -1,5 +1,5 @@
 -- The items of a file as rules: words, whole numbers and keywords that are due, the end of a line,
--- blocks of bytes, and what is passed over (docs/FORMATS.md, "Reading").
+-- blocks of bytes, and what is passed over (docs/FORMATS-OF-FILES.md, "Reading").
 use Rattle.std.specs.Prelude.{◌≡◌, ◌≢◌, ◌⊎◌, ℕ, ℤ, ◌+◌, ◌<◌, false, List, ◌∷◌, ◌++◌, length, codes}
 use Rattle.std.specs.Prelude.{Option, Some, None}
 use Rattle.viz_lex.specs.declared.fault.FileKind.TheVariants.{Keyword, Number, ValueRange}

@@ -1,4 +1,4 @@
--- What is passed over: words by their number, and the lines of METADATA (docs/FORMATS.md,
+-- What is passed over: words by their number, and the lines of METADATA (docs/FORMATS-OF-FILES.md,
 -- "Reading").
 use Rattle.std.specs.Prelude.{◌≡◌, ◌≢◌, ℕ, zero, suc, Bool, false, ◌&&◌, ◌==◌, nat_lt, List, []}
 use Rattle.std.specs.Prelude.{◌∷◌, ◌++◌, length, All, ◌⊎◌, ok_or, Result, Ok, if◌then◌else◌}

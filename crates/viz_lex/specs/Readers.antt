@@ -1,5 +1,5 @@
 -- The readers of what stands one behind the other, which proofs compare with the rules
--- (docs/FORMATS.md, "Reading").
+-- (docs/FORMATS-OF-FILES.md, "Reading").
 use Rattle.std.specs.Prelude.{Bool, ℕ, zero, suc, List, [], ◌∷◌, ◌++◌, codes, Result, Ok}
 use Rattle.std.specs.Prelude.{if◌then◌else◌}
 use Rattle.viz_lex.specs.declared.fault.FileFault.{FileFault}

@@ -1,5 +1,5 @@
 -- Rules one behind the other: so many, so many of which each knows those before it, and all to the
--- end of the text (docs/FORMATS.md, "Reading").
+-- end of the text (docs/FORMATS-OF-FILES.md, "Reading").
 use Rattle.std.specs.Prelude.{◌≡◌, ◌⊎◌, ℕ, zero, suc, ◌<◌, Bool, true, false, List, [], ◌∷◌, ◌++◌}
 use Rattle.std.specs.Prelude.{length, Result}
 use Rattle.viz_lex.specs.declared.fault.FileFault.{FileFault}

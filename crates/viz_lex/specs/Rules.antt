@@ -1,5 +1,5 @@
 -- Rules of a format: what stands between two places, and which first fault is met where it doesn't
--- (docs/FORMATS.md, "Reading").
+-- (docs/FORMATS-OF-FILES.md, "Reading").
 use Rattle.std.specs.Prelude.{◌≡◌, ◌⊎◌, ◌<◌, ◌≤◌, length, Bool, true, false, Result, Ok, Err}
 use Rattle.viz_lex.specs.declared.fault.FileFault.{FileFault}
 use Rattle.viz_lex.specs.Reading.{Reading}

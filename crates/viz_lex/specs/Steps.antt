@@ -1,5 +1,5 @@
 -- The steps of reading a file: a word, a number or a keyword that is due, a test (VTK User's
--- Guide, "Simple legacy formats"; docs/FORMATS.md, "Reading").
+-- Guide, "Simple legacy formats"; docs/FORMATS-OF-FILES.md, "Reading").
 use Rattle.std.specs.Prelude.{ℕ, ℤ, Bool, true, false, ◌||◌, List, [], ◌∷◌, ◌==◌, length, codes}
 use Rattle.std.specs.Prelude.{Option, Some, None, option_map, unwrap_or, ok_or, Result, Ok, Err}
 use Rattle.std.specs.Prelude.{if◌then◌else◌}

@@ -1,4 +1,4 @@
--- Decimals as they are written, from billionths (docs/FORMATS.md, "Written files").
+-- Decimals as they are written, from billionths (docs/FORMATS-OF-OUTPUT.md, "Written files").
 use Rattle.std.specs.Prelude.{◌≡◌, ℕ, ℤ, pos, negsuc, zero, suc, ◌+◌, ◌/◌, ◌%◌, ◌^◌, ◌==◌, List}
 use Rattle.std.specs.Prelude.{[], ◌∷◌, ◌++◌, if◌then◌else◌}
 use Rattle.std.specs.Fmt.{decimal}

@@ -3,7 +3,7 @@
 //! Contract: each reader gives just what a definition on the bytes gives, or the fault that it
 //! gives. A rule says what stands between two places and which first fault is met; laws say that a
 //! reader decides it. Definitions: `specs/`, the rules first in `specs/Rules.antt`; they are those
-//! of docs/FORMATS.md, "Reading".
+//! of docs/FORMATS-OF-FILES.md, "Reading".
 #![tactic(auto)]
 
 mod decimal;

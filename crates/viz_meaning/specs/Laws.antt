@@ -1,5 +1,5 @@
 -- What the names of a section are: the set of the names of its cells, in ascending order
--- (docs/FORMATS.md, "Names of a section").
+-- (docs/FORMATS-OF-FILTERS.md, "Names of a section").
 use Rattle.std.specs.Prelude.{◌≡◌, ◌↔◌, ℕ, List, ◌++◌, length, Contains}
 use Rattle.std.specs.List.{flat_map}
 use Rattle.viz_fraction.specs.declared.forms.Form.{Form}

@@ -1,5 +1,5 @@
 -- Names of the points of a section: pairs of names, the lesser one first, each once and ascending
--- (docs/FORMATS.md, "Names of a section").
+-- (docs/FORMATS-OF-FILTERS.md, "Names of a section").
 use Rattle.std.specs.Prelude.{ℕ, ◌/◌, Bool, List, [], ◌∷◌, ◌++◌, length, take, drop, if◌then◌else◌}
 use Rattle.std.specs.List.{flat_map}
 use Rattle.std.specs.Cmp.Lexicographic.{slice_cmp}

@@ -1,4 +1,4 @@
--- A section in which no number is wide (docs/FORMATS.md, "Exact points").
+-- A section in which no number is wide (docs/FORMATS-OF-FILTERS.md, "Exact points").
 use Rattle.std.specs.Prelude.{ℕ, pos, ◌≤ℤ◌, ◌<ℤ◌, List, All}
 use Rattle.viz_fraction.specs.declared.forms.Form.{Form}
 use Rattle.viz_fraction.specs.Points.{Point}

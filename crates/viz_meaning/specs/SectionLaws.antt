@@ -1,5 +1,5 @@
--- A section of a sheet is a sheet again, and wide just where it is in some cell (docs/FORMATS.md,
--- "Exact points").
+-- A section of a sheet is a sheet again, and wide just where it is in some cell
+-- (docs/FORMATS-OF-FILTERS.md, "Exact points").
 use Rattle.std.specs.Prelude.{◌↔◌, ℕ, ◌+◌, All}
 use Rattle.viz_fraction.specs.declared.forms.Form.{Form}
 use Rattle.viz_sheet.specs.PairNames.{AreNames}

@@ -1,5 +1,5 @@
--- The sheets of a dataset: an image is taken through its tetrahedra (docs/FORMATS.md, "Kuhn's
--- subdivision").
+-- The sheets of a dataset: an image is taken through its tetrahedra (docs/FORMATS-OF-FILTERS.md,
+-- "Kuhn's subdivision").
 use Rattle.std.specs.Prelude.{ℕ, ◌+◌, ◌/◌, ◌%◌, List, [], ◌∷◌, map}
 use Rattle.std.specs.List.{range_with_len}
 use Rattle.viz_extent.specs.Extent.{size_x, size_y, count_of}

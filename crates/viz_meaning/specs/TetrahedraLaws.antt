@@ -1,4 +1,4 @@
--- The tetrahedra of an image are a sheet (docs/FORMATS.md, "Kuhn's subdivision").
+-- The tetrahedra of an image are a sheet (docs/FORMATS-OF-FILTERS.md, "Kuhn's subdivision").
 use Rattle.viz_dataset.specs.Images.{ImageData, IsImage}
 use Rattle.viz_sheet.specs.PairNames.{AreNames}
 use Rattle.viz_sheet.specs.Sheet.{IsFit, IsSheet}

@@ -1,5 +1,5 @@
 -- The threshold of an image: a number between two bounds stays, and every other becomes 0
--- (docs/FORMATS.md, "Filters").
+-- (docs/FORMATS-OF-FILTERS.md, "Filters").
 use Rattle.std.specs.Prelude.{ℤ, pos, Bool, ◌&&◌, int_le, map, if◌then◌else◌}
 use Rattle.viz_column.specs.Numbers.{Numbers}
 use Rattle.viz_dataset.specs.Images.{ImageData}

@@ -5,8 +5,8 @@
 //! cells, and each has a point; a section of a sheet is a sheet, fits if the sheet does, and has a
 //! wide number just where some cell has one. `WorkStop` is the answer of a section, or of a
 //! contour, that has no result. Definitions: `specs/Section.antt`, `specs/Narrow.antt`
-//! and `specs/ImageFilters.antt`; the table of cells is that of docs/FORMATS.md, "Cases of a
-//! section".
+//! and `specs/ImageFilters.antt`; the table of cells is that of docs/FORMATS-OF-FILTERS.md, "Cases
+//! of a section".
 #![tactic(auto)]
 
 mod laws;

@@ -1,6 +1,6 @@
 -- The cells of a section in either form of the format (VTK User's Guide, "Simple legacy formats", and
--- VTK's documentation, "VTK File Formats", legacy files of version 5.1; docs/FORMATS.md, "Grids and
--- polydata").
+-- VTK's documentation, "VTK File Formats", legacy files of version 5.1; docs/FORMATS-OF-FILES.md,
+-- "Grids and polydata").
 use Rattle.std.specs.Prelude.{ℕ, Bool, List, length}
 use Rattle.viz_lex.specs.Rules.{Rule, gives, choose, ◌>>=◌}
 use Rattle.viz_counted_cells.specs.Sections.{section, numbers_of_cells}

@@ -1,5 +1,5 @@
 -- The geometry of an unstructured grid (VTK User's Guide, "Simple legacy formats";
--- docs/FORMATS.md, "Grids and polydata").
+-- docs/FORMATS-OF-FILES.md, "Grids and polydata").
 use Rattle.std.specs.Prelude.{ℕ, ℤ, pos, negsuc, Bool, ◌==◌, List, [], ◌∷◌, length}
 use Rattle.std.specs.Prelude.{codes, Option, Some, None, unwrap_or, if◌then◌else◌}
 use Rattle.viz_lex.specs.declared.fault.FileKind.TheVariants.{Count, CellType}

@@ -1,4 +1,4 @@
--- The readers of a grid, which proofs compare with the rules (docs/FORMATS.md, "Grids and
+-- The readers of a grid, which proofs compare with the rules (docs/FORMATS-OF-FILES.md, "Grids and
 -- polydata").
 use Rattle.std.specs.Prelude.{ℕ, zero, suc, ◌+◌, Bool, ◌==◌, List, length, codes, unwrap_or}
 use Rattle.std.specs.Prelude.{Result, Ok}

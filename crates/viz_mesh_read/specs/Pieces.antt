@@ -1,5 +1,5 @@
 -- The pieces of the cells of polydata: vertices, lines and triangles (VTK User's Guide, "Simple
--- legacy formats"; docs/FORMATS.md, "Grids and polydata").
+-- legacy formats"; docs/FORMATS-OF-FILES.md, "Grids and polydata").
 use Rattle.std.specs.Prelude.{ℕ, zero, suc, ◌+◌, ◌-◌, ◌%◌, Bool, true, false, not, ◌&&◌, ◌==◌}
 use Rattle.std.specs.Prelude.{List, [], ◌∷◌, ◌++◌, length, slice_index, if◌then◌else◌}
 use Rattle.std.specs.List.{flat_map}

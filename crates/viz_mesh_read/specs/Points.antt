@@ -1,5 +1,5 @@
 -- The points of a grid or polydata file (VTK User's Guide, "Simple legacy formats";
--- docs/FORMATS.md, "Grids and polydata").
+-- docs/FORMATS-OF-FILES.md, "Grids and polydata").
 use Rattle.std.specs.Prelude.{ℕ, ℤ, ◌*◌, Bool, true, codes}
 use Rattle.viz_column.specs.declared.kind.Kind8.{Kind8}
 use Rattle.viz_column.specs.Kinds.{size_of, fits}

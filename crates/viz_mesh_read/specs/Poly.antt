@@ -1,5 +1,5 @@
--- The geometry of polydata (VTK User's Guide, "Simple legacy formats"; docs/FORMATS.md, "Grids and
--- polydata").
+-- The geometry of polydata (VTK User's Guide, "Simple legacy formats"; docs/FORMATS-OF-FILES.md,
+-- "Grids and polydata").
 use Rattle.std.specs.Prelude.{ℕ, zero, suc, Bool, true, false, not, ◌&&◌, ◌||◌, List, []}
 use Rattle.std.specs.Prelude.{codes, if◌then◌else◌}
 use Rattle.viz_lex.specs.Reading.{Reading}

@@ -1,5 +1,5 @@
--- The readers of polydata, which proofs compare with the rules (docs/FORMATS.md, "Grids and
--- polydata").
+-- The readers of polydata, which proofs compare with the rules (docs/FORMATS-OF-FILES.md, "Grids
+-- and polydata").
 use Rattle.std.specs.Prelude.{ℕ, zero, suc, Bool, List, [], Result, Ok, if◌then◌else◌}
 use Rattle.viz_lex.specs.declared.fault.FileFault.{FileFault}
 use Rattle.viz_lex.specs.Reading.{Reading, ◌>>=◌}

@@ -1,5 +1,5 @@
--- The readers of points and sections, which proofs compare with the rules (docs/FORMATS.md, "Grids
--- and polydata").
+-- The readers of points and sections, which proofs compare with the rules
+-- (docs/FORMATS-OF-FILES.md, "Grids and polydata").
 use Rattle.std.specs.Prelude.{ℕ, ℤ, ◌*◌, Bool, true, List, codes, Result, Ok, if◌then◌else◌}
 use Rattle.viz_column.specs.declared.kind.Kind8.{Kind8}
 use Rattle.viz_column.specs.Kinds.{size_of, fits}

@@ -2,7 +2,7 @@
 //!
 //! Contract: each reader gives just what the rules say, or the first fault. Definitions:
 //! `specs/Points.antt`, `specs/Grid.antt` and `specs/Poly.antt`, and `specs/CellSections.antt` for
-//! sections in both forms; the rules are those of docs/FORMATS.md, "Grids and polydata".
+//! sections in both forms; the rules are those of docs/FORMATS-OF-FILES.md, "Grids and polydata".
 #![tactic(auto)]
 
 mod arrays;

@@ -1,5 +1,5 @@
 -- The points and cells of a mesh, as a file numbers them (VTK User's Guide, "Simple legacy
--- formats"; docs/FORMATS.md, "Written meshes").
+-- formats"; docs/FORMATS-OF-OUTPUT.md, "Written meshes").
 use Rattle.std.specs.Prelude.{ℕ, ◌+◌, ◌==◌, Bool, List, [], ◌∷◌, ◌++◌, length, map}
 use Rattle.std.specs.List.{flat_map, filter, list_any}
 use Rattle.viz_fraction.specs.Points.{Point}

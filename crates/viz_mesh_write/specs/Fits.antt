@@ -1,4 +1,4 @@
--- What a written mesh may hold (docs/FORMATS.md, "Written meshes").
+-- What a written mesh may hold (docs/FORMATS-OF-OUTPUT.md, "Written meshes").
 use Rattle.std.specs.Prelude.{ℕ, ◌^◌, ◌<◌, ℤ, List, [], ◌∷◌, length, All, FitsSigned, if◌then◌else◌}
 use Rattle.std.specs.Int.{w64}
 use Rattle.viz_fraction.specs.Points.{Point}

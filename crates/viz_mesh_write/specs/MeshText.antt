@@ -1,5 +1,5 @@
--- The text of a written mesh (VTK User's Guide, "Simple legacy formats"; docs/FORMATS.md, "Written
--- meshes").
+-- The text of a written mesh (VTK User's Guide, "Simple legacy formats"; docs/FORMATS-OF-OUTPUT.md,
+-- "Written meshes").
 use Rattle.std.specs.Prelude.{ℕ, ◌==◌, ℤ, pos, Bool, true, false, List, [], ◌∷◌, ◌++◌, length, map}
 use Rattle.std.specs.Prelude.{codes, if◌then◌else◌}
 use Rattle.std.specs.Fmt.{decimal}

@@ -1,5 +1,5 @@
 -- Rows of numbers, as words or as bytes (VTK User's Guide, "Simple legacy formats";
--- docs/FORMATS.md, "Written meshes").
+-- docs/FORMATS-OF-OUTPUT.md, "Written meshes").
 use Rattle.std.specs.Prelude.{ℕ, ◌==◌, ℤ, Bool, true, false, List, [], ◌∷◌, ◌++◌, length}
 use Rattle.std.specs.Prelude.{if◌then◌else◌}
 use Rattle.std.specs.List.{flat_map}

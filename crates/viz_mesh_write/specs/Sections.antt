@@ -1,5 +1,5 @@
 -- Sections of cells, of version 3.0 and of version 5.1 (VTK's documentation, "VTK File Formats";
--- docs/FORMATS.md, "Written meshes").
+-- docs/FORMATS-OF-OUTPUT.md, "Written meshes").
 use Rattle.std.specs.Prelude.{ℕ, ◌+◌, ℤ, pos, Bool, true, false, List, [], ◌∷◌, ◌++◌, length, map}
 use Rattle.std.specs.Prelude.{codes}
 use Rattle.std.specs.List.{flat_map}

@@ -4,7 +4,8 @@
 //! `write_owned_mesh` gives the same, and gives the mesh up on the way; `write_mesh_by_workers`
 //! gives it in parts, whatever the number of workers. There is no other writer of
 //! meshes, surfaces among them. Definitions: `specs/MeshText.antt`, `specs/Sections.antt`,
-//! `specs/Cells.antt`, `specs/Fits.antt`; the rule is that of docs/FORMATS.md, "Written meshes".
+//! `specs/Cells.antt`, `specs/Fits.antt`; the rule is that of docs/FORMATS-OF-OUTPUT.md, "Written
+//! meshes".
 #![tactic(auto)]
 
 mod by_workers;

@@ -3,7 +3,7 @@
 //! Contract: a run has one outcome, and is accounted for by it: what desk and first port were
 //! asked, the line put, and the status; what was written is read as the entries that were read.
 //! Definitions: `specs/Migrate.antt` and the files that it names; the rules are those of
-//! docs/FORMATS.md, "Journals" and "Report".
+//! docs/FORMATS-OF-SCRIPTS.md, "Journals", and docs/FORMATS.md, "Report".
 #![tactic(auto)]
 
 mod came;

@@ -1,4 +1,4 @@
--- What an edit makes of a network, or why it is refused (docs/FORMATS.md, "Edits").
+-- What an edit makes of a network, or why it is refused (docs/FORMATS-OF-SCRIPTS.md, "Edits").
 use Rattle.std.specs.Prelude.{ℕ, ◌-◌, Bool, true, false, not, nat_eq, nat_le, ◌||◌, if◌then◌else◌}
 use Rattle.std.specs.Prelude.{List, [], ◌∷◌, ◌++◌, length, replicate, slice_set, Option, None}
 use Rattle.std.specs.Prelude.{Some, is_some, Result, Ok, Err}

@@ -1,4 +1,4 @@
--- What the readers tell of a node (docs/FORMATS.md, "Kinds of node").
+-- What the readers tell of a node (docs/FORMATS-OF-FILTERS.md, "Kinds of node").
 use Rattle.std.specs.Prelude.{ℕ, if◌then◌else◌, Option, None}
 use Rattle.viz_base.specs.declared.node.NodeId.{NodeId}
 use Rattle.viz_kinds.specs.declared.kind.Kind.{Kind}

@@ -2,7 +2,8 @@
 //!
 //! Contract: an edit gives just the network of its definition, or is refused as the definition
 //! refuses it and changes nothing; equal stamps are equal cones. Definitions: `specs/Edits.antt`,
-//! `specs/Cone.antt`, `specs/EqualStamps.antt`; the rules are those of docs/FORMATS.md, "Edits".
+//! `specs/Cone.antt`, `specs/EqualStamps.antt`; the rules are those of docs/FORMATS-OF-SCRIPTS.md,
+//! "Edits".
 #![tactic(auto)]
 
 mod changes;

@@ -80,8 +80,8 @@ impl Net {
     ///
     /// # Errors
     ///
-    /// The refusals of docs/FORMATS.md, "Edits", in their order; then want of memory, which only
-    /// an Add and a Load can meet.
+    /// The refusals of docs/FORMATS-OF-SCRIPTS.md, "Edits", in their order; then want of memory,
+    /// which only an Add and a Load can meet.
     pub fn apply(&mut self, at: u32, edit: &Edit) -> Result<(), ApplyStop>
         requires later { IsPast at self.old }
         ensures applies { Applies result self.old self.new (apply at edit.now self.old) }

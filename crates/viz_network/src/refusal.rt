@@ -6,7 +6,7 @@ use std::alloc::{AllocError, AllocFailed};
 use thiserror::Error;
 
 /// Why an edit is refused. A report gives the word of the variant; for one edit they are asked in
-/// the order of docs/FORMATS.md, "Edits".
+/// the order of docs/FORMATS-OF-SCRIPTS.md, "Edits".
 #[derive(Clone, Copy, PartialEq, Eq, Debug, Error)]
 pub enum Refusal {
     /// Exactly where the name of an Add is taken.

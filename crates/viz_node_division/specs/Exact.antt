@@ -1,5 +1,5 @@
 -- What a node makes in whole numbers without bound: sections are made also where a number is wide
--- (docs/FORMATS.md, "Exact points").
+-- (docs/FORMATS-OF-FILTERS.md, "Exact points").
 use Rattle.std.specs.Prelude.{◌≡◌, ℕ, List, Option, None, Some, Result, Ok, Err}
 use Rattle.viz_dataset.specs.declared.dataset.Dataset.{Dataset}
 use Rattle.viz_dataset.specs.declared.dataset.Dataset.TheVariants.{Mesh}

@@ -1,6 +1,6 @@
 -- A node whose information is told and whose file is read gives a dataset in whole numbers without
--- bound (VTK User's Guide, "The visualization pipeline": the data pass; docs/FORMATS.md, "Exact
--- points").
+-- bound (VTK User's Guide, "The visualization pipeline": the data pass; docs/FORMATS-OF-FILTERS.md,
+-- "Exact points").
 use Rattle.std.specs.Prelude.{ℕ, List, [], ◌∷◌, Option, None, Some, Ok}
 use Rattle.viz_dataset.specs.declared.dataset.Dataset.{Dataset}
 use Rattle.viz_kinds.specs.declared.settings.Settings.{Settings}

@@ -1,5 +1,5 @@
 -- What a node's dataset is, from the datasets at its ports (VTK User's Guide, "The visualization
--- pipeline": the data pass; docs/FORMATS.md, "What a node gives").
+-- pipeline": the data pass; docs/FORMATS-OF-FILTERS.md, "What a node gives").
 use Rattle.std.specs.Prelude.{◌≡◌, ℕ, ℤ, List, [], ◌∷◌, map, take, min, Option, None, Some, Result}
 use Rattle.std.specs.Prelude.{Ok, Err}
 use Rattle.std.specs.Option.{option_map}

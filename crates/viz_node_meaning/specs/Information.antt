@@ -1,5 +1,5 @@
 -- What is known of a node's dataset before its numbers are (VTK User's Guide, "The visualization
--- pipeline": the information pass; docs/FORMATS.md, "What a node gives").
+-- pipeline": the information pass; docs/FORMATS-OF-FILTERS.md, "What a node gives").
 use Rattle.std.specs.Prelude.{◌≡◌, ℕ, suc, ◌-◌, ◌^◌, Bool, true, false, ◌&&◌, nat_le, nat_eq}
 use Rattle.std.specs.Prelude.{int_le, ℤ, pos, ◌*ℤ◌, if◌then◌else◌, min, max, List, [], ◌∷◌}
 use Rattle.std.specs.Prelude.{slice_index_or, Option, None, Some, Result, Ok, Err}

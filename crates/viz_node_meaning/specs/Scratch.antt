@@ -1,6 +1,6 @@
 -- Evaluation from scratch: what a node of a network gives, by recursion over all that lies
--- upstream of it (VTK User's Guide, "The visualization pipeline"; docs/FORMATS.md, "What a node
--- gives").
+-- upstream of it (VTK User's Guide, "The visualization pipeline"; docs/FORMATS-OF-FILTERS.md, "What
+-- a node gives").
 use Rattle.std.specs.Prelude.{◌≡◌, ℕ, Option, Result, Ok, Err}
 use Rattle.viz_dataset.specs.declared.dataset.Dataset.{Dataset}
 use Rattle.viz_network.specs.declared.fault.Fault.{Fault}

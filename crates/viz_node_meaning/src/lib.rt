@@ -3,7 +3,7 @@
 //!
 //! Contract: each rule has one result, and so has evaluation from scratch, which depends on the
 //! node's cone alone. Definitions: `specs/Information.antt`, `specs/Data.antt`, `specs/Rules.antt`,
-//! `specs/Scratch.antt`; the rules are those of docs/FORMATS.md, "What a node gives".
+//! `specs/Scratch.antt`; the rules are those of docs/FORMATS-OF-FILTERS.md, "What a node gives".
 #![tactic(auto)]
 
 mod information;

@@ -1,4 +1,4 @@
--- At which nodes no number of a section is wide (docs/FORMATS.md, "Exact points").
+-- At which nodes no number of a section is wide (docs/FORMATS-OF-FILTERS.md, "Exact points").
 use Rattle.std.specs.Prelude.{List, Option, None, Some, Ok}
 use Rattle.viz_dataset.specs.declared.dataset.Dataset.{Dataset}
 use Rattle.viz_fraction.specs.declared.forms.Form.{Form}

@@ -1,5 +1,5 @@
--- Which sections of pieces have no wide number (docs/FORMATS.md, "Exact points"; VTK User's Guide,
--- "Streaming").
+-- Which sections of pieces have no wide number (docs/FORMATS-OF-FILTERS.md, "Exact points"; VTK
+-- User's Guide, "Streaming").
 use Rattle.std.specs.Prelude.{ℕ, ◌<◌, List, [], ◌∷◌, All}
 use Rattle.viz_dataset.specs.Images.{ImageData, IsImage}
 use Rattle.viz_fraction.specs.declared.forms.Form.{Form}

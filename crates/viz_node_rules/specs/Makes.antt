@@ -1,4 +1,4 @@
--- What a rule makes, unless memory runs out (docs/FORMATS.md, "What a node gives").
+-- What a rule makes, unless memory runs out (docs/FORMATS-OF-FILTERS.md, "What a node gives").
 use Rattle.std.specs.Prelude.{Result, Ok, Err}
 use Rattle.viz_network.specs.declared.fault.Cause.{Cause}
 use Rattle.viz_node_rules.specs.declared.stop.OwnStop.{OwnStop}

@@ -1,5 +1,5 @@
--- Files of bytes, upstream of a node, in a network and in a history (docs/FORMATS.md, "Reading";
--- docs/DEFINITIONS.md, "Networks").
+-- Files of bytes, upstream of a node, in a network and in a history (docs/FORMATS-OF-FILES.md,
+-- "Reading"; docs/DEFINITIONS.md, "Networks").
 use Rattle.std.specs.Prelude.{ℕ, List, Option, None, Some}
 use Rattle.std.specs.List.{AllByRecursion}
 use Rattle.viz_column.specs.Bytes.{AreBytes}

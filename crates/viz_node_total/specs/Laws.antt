@@ -1,5 +1,5 @@
 -- Each node of a network gives something: information and a dataset, or a fault (VTK User's Guide,
--- "The visualization pipeline"; docs/FORMATS.md, "What a node gives").
+-- "The visualization pipeline"; docs/FORMATS-OF-FILTERS.md, "What a node gives").
 use Rattle.std.specs.Prelude.{◌≡◌, ℕ, List, Some, Result, Ok}
 use Rattle.viz_dataset.specs.declared.dataset.Dataset.{Dataset}
 use Rattle.viz_network.specs.Cone.{Tree, cone_of}

@@ -1,5 +1,5 @@
 -- Offsets and indices of 64 bits each by their bytes, which proofs compare with the readers
--- (docs/FORMATS.md, "Sections of version 5.1").
+-- (docs/FORMATS-OF-FILES.md, "Sections of version 5.1").
 use Rattle.std.specs.Prelude.{◌≡◌, ◌≤◌, ◌<◌, ℕ, zero, suc, ◌+◌, ◌*◌, true, List, [], ◌∷◌, length}
 use Rattle.std.specs.Prelude.{drop, Ok}
 use Rattle.byteorder.specs.Endian.{big_number}

@@ -1,5 +1,5 @@
 -- The cells of a section of version 5.1 (VTK's documentation, "VTK File Formats", legacy files of
--- version 5.1; docs/FORMATS.md, "Sections of version 5.1").
+-- version 5.1; docs/FORMATS-OF-FILES.md, "Sections of version 5.1").
 use Rattle.std.specs.Prelude.{ℕ, ℤ, pos, negsuc, ◌+◌, ◌-◌, Bool, false, not, ◌&&◌, ◌||◌, ◌==◌}
 use Rattle.std.specs.Prelude.{nat_le, unsigned_abs, get_or, List, [], length, codes, Option, Some}
 use Rattle.std.specs.Prelude.{None, unwrap_or, if◌then◌else◌}

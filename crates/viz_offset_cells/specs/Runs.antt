@@ -1,5 +1,5 @@
--- The runs of a list between offsets (VTK User's Guide, "Simple legacy formats"; docs/FORMATS.md,
--- "Sections of version 5.1").
+-- The runs of a list between offsets (VTK User's Guide, "Simple legacy formats";
+-- docs/FORMATS-OF-FILES.md, "Sections of version 5.1").
 use Rattle.std.specs.Prelude.{ℕ, ◌-◌, List, [], ◌∷◌, take, drop}
 
 -- the run of a list from the place of one offset to that of another

@@ -1,5 +1,5 @@
--- The readers of a section of version 5.1, which proofs compare with the rules (docs/FORMATS.md,
--- "Sections of version 5.1").
+-- The readers of a section of version 5.1, which proofs compare with the rules
+-- (docs/FORMATS-OF-FILES.md, "Sections of version 5.1").
 use Rattle.std.specs.Prelude.{◌≡◌, ◌≤◌, ℕ, ℤ, ◌-◌, Bool, not, List, [], ◌∷◌, ◌++◌, length}
 use Rattle.std.specs.Prelude.{codes, unwrap_or, unsigned_abs, Result, Ok, if◌then◌else◌}
 use Rattle.viz_column.specs.declared.kind.Kind8.{Kind8}

@@ -1,8 +1,8 @@
 //! The cells of a section of version 5.1, which are cut from one list of indices at offsets.
 //!
 //! Contract: `offset_section` gives just the cells of the rule, or the first fault. Definitions:
-//! `specs/Offsets.antt` and `specs/Runs.antt`; the rules are those of docs/FORMATS.md, "Sections of
-//! version 5.1".
+//! `specs/Offsets.antt` and `specs/Runs.antt`; the rules are those of docs/FORMATS-OF-FILES.md,
+//! "Sections of version 5.1".
 #![tactic(auto)]
 
 mod blocks;

@@ -147,9 +147,9 @@ LOOKUP_TABLE default
 pub const MIXED_REPORT: &str = "file cells 76 points 58\n";
 
 // Its contour at 11. A plain program with exact fractions outside the repository made the text from
-// the rules of docs/FORMATS.md alone; that 58 edges are cut, and the numbers of tetrahedra with
-// one, two or three corners inside make 76 triangles, was counted once more without its list of
-// cells.
+// the rules of docs/FORMATS-OF-FILTERS.md and docs/FORMATS-OF-OUTPUT.md alone; that 58 edges are
+// cut, and the numbers of tetrahedra with one, two or three corners inside make 76 triangles, was
+// counted once more without its list of cells.
 pub const MIXED_SURFACE: &str = "# vtk DataFile Version 3.0
 vizrun fixed 10^-3
 ASCII

@@ -1,5 +1,5 @@
 -- Which sections of pieces have wide numbers: just where the sections of their mesh have
--- (docs/FORMATS.md, "Exact points").
+-- (docs/FORMATS-OF-FILTERS.md, "Exact points").
 use Rattle.std.specs.Prelude.{ℕ, ◌<◌, List, All, map}
 use Rattle.viz_fraction.specs.declared.forms.Form.{Form}
 use Rattle.viz_meaning.specs.Narrow.{AreNarrowSections}

@@ -1,5 +1,5 @@
--- The section of a sheet whose leaves have other numbers in the same order (docs/FORMATS.md,
--- "Names of a section").
+-- The section of a sheet whose leaves have other numbers in the same order
+-- (docs/FORMATS-OF-FILTERS.md, "Names of a section").
 use Rattle.std.specs.Prelude.{◌≡◌, ℕ, List}
 use Rattle.viz_fraction.specs.declared.forms.Form.{Form}
 use Rattle.viz_meaning.specs.Section.{section_of}

@@ -1,5 +1,5 @@
 -- What a task that failed tells of its node (VTK User's Guide, the executive: the data pass;
--- docs/FORMATS.md, "Exact points").
+-- docs/FORMATS-OF-FILTERS.md, "Exact points").
 use Rattle.std.specs.Prelude.{◌⊎◌, ℕ, ◌<◌, List, Contains, Option, None, Some, Ok, Err}
 use Rattle.viz_dataset.specs.Images.{ImageData}
 use Rattle.viz_dataset.specs.declared.dataset.Dataset.{Dataset}

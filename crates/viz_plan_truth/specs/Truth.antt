@@ -1,5 +1,5 @@
 -- Parts that the tasks of a plan make, and what they tell of wide numbers (VTK User's Guide, the
--- executive: the data pass; docs/FORMATS.md, "Exact points").
+-- executive: the data pass; docs/FORMATS-OF-FILTERS.md, "Exact points").
 use Rattle.std.specs.Prelude.{◌≡◌, ◌⊎◌, ℕ, ◌<◌, List, ◌∷◌, All, Contains, map, Option, None, Some}
 use Rattle.std.specs.Prelude.{Ok}
 use Rattle.std.specs.List.{range_with_len}

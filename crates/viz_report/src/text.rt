@@ -60,7 +60,7 @@ fn put_counts(
     Ok(())
 }
 
-/// Puts what stands behind the front of a line.
+/// Puts what stands behind the number of a line's command: its position, cause and counts.
 pub fn put_behind(text: &mut Vec<u8>, line: &Line) -> Result<(), AllocError>
     ensures value { OnOk result (text.new.items ≡ text.old.items ++ behind line.now) }
 {
@@ -96,7 +96,7 @@ pub fn put_behind(text: &mut Vec<u8>, line: &Line) -> Result<(), AllocError>
     }
 }
 
-/// The first word of a line.
+/// The word that a line begins with.
 pub fn word_of(line: &Line) -> &'static str
     ensures value { result.now ≡ word_of line.now }
 {

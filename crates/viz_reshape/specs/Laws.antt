@@ -1,4 +1,4 @@
--- What is made of a file is one (docs/FORMATS.md, "Strips and clips of a file").
+-- What is made of a file is one (docs/FORMATS-OF-OUTPUT.md, "Strips and clips of a file").
 use Rattle.std.specs.Prelude.{◌≡◌, ℕ, List, Result}
 use Rattle.viz_network.specs.declared.fault.Fault.{Fault}
 use Rattle.viz_reshape.specs.declared.reshape.Reshape.{Reshape}

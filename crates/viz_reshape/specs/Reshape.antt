@@ -1,5 +1,5 @@
 -- Strips and clips of a file, as VTK's vtkStripper and vtkClipDataSet make them of a dataset, and
--- their text (docs/FORMATS.md, "Strips and clips of a file").
+-- their text (docs/FORMATS-OF-OUTPUT.md, "Strips and clips of a file").
 use Rattle.std.specs.Prelude.{◌≡◌, ◌⊎◌, ℕ, ◌≤◌, false, List, [], ◌∷◌, length, All, Some, Result}
 use Rattle.std.specs.Prelude.{Ok, Err}
 use Rattle.viz_base.specs.declared.node.Pick.TheVariants.{First}

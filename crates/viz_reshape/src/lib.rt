@@ -3,8 +3,8 @@
 //!
 //! Contract: `reshape_file` gives the text of the definition with what is counted of it, or the fault
 //! that it names, of the file at one node or of the work at another; there is one of both.
-//! Definitions: `specs/Reshape.antt`; the rules are those of docs/FORMATS.md, "Strips and clips of
-//! a file".
+//! Definitions: `specs/Reshape.antt`; the rules are those of docs/FORMATS-OF-OUTPUT.md, "Strips and
+//! clips of a file".
 #![tactic(auto)]
 
 mod clips;

@@ -1,4 +1,4 @@
--- A mesh as it is read again (docs/FORMATS.md, "Written meshes").
+-- A mesh as it is read again (docs/FORMATS-OF-OUTPUT.md, "Written meshes").
 use Rattle.std.specs.Prelude.{ℕ, ◌^◌, ◌≤◌, pos, ◌*ℤ◌, List, [], ◌∷◌, ◌++◌, length, map}
 use Rattle.std.specs.Prelude.{All, Some, if◌then◌else◌}
 use Rattle.std.specs.List.{flat_map}

@@ -1,5 +1,5 @@
--- An image as it is read again: its points stand where they stood (docs/FORMATS.md, "Written
--- files").
+-- An image as it is read again: its points stand where they stood (docs/FORMATS-OF-OUTPUT.md,
+-- "Written files").
 use Rattle.std.specs.Prelude.{◌≡◌}
 use Rattle.viz_extent.specs.Extent.{Bounds, size_x, size_y, size_z}
 use Rattle.viz_dataset.specs.Images.{ImageData, corner}

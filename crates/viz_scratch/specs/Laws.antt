@@ -1,4 +1,4 @@
--- The file of a node is one (docs/FORMATS.md, "Written files").
+-- The file of a node is one (docs/FORMATS-OF-OUTPUT.md, "Written files").
 use Rattle.std.specs.Prelude.{◌≡◌, ℕ, List, Result}
 use Rattle.viz_network.specs.declared.fault.Fault.{Fault}
 use Rattle.viz_network.specs.Network.{Network}

@@ -1,5 +1,5 @@
--- The written file of a node: the text of what it gives from scratch (docs/FORMATS.md, "Written
--- files" and "Written meshes").
+-- The written file of a node: the text of what it gives from scratch (docs/FORMATS-OF-OUTPUT.md,
+-- "Written files" and "Written meshes").
 use Rattle.std.specs.Prelude.{◌≡◌, ℕ, Bool, false, List, Option, None, Some, Result, Ok, Err}
 use Rattle.viz_dataset.specs.Images.{IsOrigin, corner}
 use Rattle.viz_dataset.specs.declared.dataset.Dataset.{Dataset}

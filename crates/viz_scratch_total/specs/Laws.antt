@@ -1,5 +1,5 @@
 -- Each node of a network has a file: a text, or the fault of what it gives or of its writing
--- (docs/FORMATS.md, "Written files" and "Written meshes").
+-- (docs/FORMATS-OF-OUTPUT.md, "Written files" and "Written meshes").
 use Rattle.std.specs.Prelude.{◌≡◌, ℕ, List, Some, Result}
 use Rattle.viz_network.specs.History.{net_of}
 use Rattle.viz_network.specs.Network.{Network, node_of}

@@ -1,5 +1,6 @@
 -- Where a line of a script may stand: how many phases it may begin, and what batches take
--- (docs/FORMATS.md, "Scripts"). The lines in front of it are told with the nearest first.
+-- (docs/FORMATS-OF-SCRIPTS.md, "Scripts"). The lines in front of it are told with the nearest
+-- first.
 use Rattle.std.specs.Prelude.{ℕ, ◌+◌, Bool, true, false, ◌==◌, List, [], ◌∷◌, ◌++◌, length}
 use Rattle.std.specs.Prelude.{Option, None, Some, option_map, is_some, Result, Ok, Err}
 use Rattle.std.specs.Prelude.{if◌then◌else◌}

@@ -1,4 +1,4 @@
--- What a line of a script says, or its own first refusal (docs/FORMATS.md, "Scripts").
+-- What a line of a script says, or its own first refusal (docs/FORMATS-OF-SCRIPTS.md, "Scripts").
 use Rattle.std.specs.Prelude.{ℕ, ℤ, pos, Bool, ◌&&◌, int_le, unsigned_abs, List, [], ◌∷◌, codes}
 use Rattle.std.specs.Prelude.{Option, None, Some, Result, Ok, Err, if◌then◌else◌}
 use Rattle.viz_kinds.specs.Values.{is_text}

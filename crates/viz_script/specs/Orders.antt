@@ -1,4 +1,4 @@
--- The commands of a script, with their refusals (docs/FORMATS.md, "Scripts").
+-- The commands of a script, with their refusals (docs/FORMATS-OF-SCRIPTS.md, "Scripts").
 use Rattle.std.specs.Prelude.{◌≡◌, ℕ, true, List, Result, Ok}
 use Rattle.viz_network.specs.declared.edit.Edit.{Edit}
 use Rattle.viz_words.specs.declared.refusal.ScriptRefusal.{ScriptRefusal}

@@ -1,5 +1,5 @@
--- The steps of a script, or the first refusal of its first line that has one (docs/FORMATS.md,
--- "Scripts").
+-- The steps of a script, or the first refusal of its first line that has one
+-- (docs/FORMATS-OF-SCRIPTS.md, "Scripts").
 use Rattle.std.specs.Prelude.{◌≡◌, ℕ, ◌+◌, Bool, ◌||◌, ◌==◌, nat_lt, List, [], ◌∷◌, ◌++◌, map}
 use Rattle.std.specs.Prelude.{length, Result, Ok, Err, if◌then◌else◌}
 use Rattle.std.specs.List.{AllByRecursion}

@@ -1,8 +1,8 @@
 //! Scripts: the commands of actors, in phases.
 //!
 //! Contract: `parse` gives just the steps that the definition gives, or the first refusal of the
-//! first line that has one; `order_in` reads the words of one command. Definition: `specs/Script.antt`; the rules are those of
-//! docs/FORMATS.md, "Scripts".
+//! first line that has one. Definition: `specs/Script.antt`; the rules are those of
+//! docs/FORMATS-OF-SCRIPTS.md, "Scripts".
 #![tactic(auto)]
 
 mod line;

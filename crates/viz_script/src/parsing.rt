@@ -60,8 +60,9 @@ fn steps_of(alloc: Global, text: &[u8], actors: u32, lines: usize) -> Result<Vec
 ///
 /// # Errors
 ///
-/// The refusals of docs/FORMATS.md, "Scripts": TooLong with line 0, before all others; else the
-/// first refusal of the first line that has one. Want of memory may come in place of a result.
+/// The refusals of docs/FORMATS-OF-SCRIPTS.md, "Scripts": TooLong with line 0, before all others;
+/// else the first refusal of the first line that has one. Want of memory may come in place of a
+/// result.
 #[tactic(auto, using(crate::proofs::NameLemmas::read_names))]
 pub fn parse(alloc: Global, bytes: &[u8], actors: u32) -> Result<Script, ScriptStop>
     ensures reads { Reads result (script_of actors bytes.now) }

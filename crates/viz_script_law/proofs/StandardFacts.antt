@@ -1,4 +1,5 @@
--- The whole script of docs/FORMATS.md, "Scripts": its plain spelling, and the steps that its lines say.
+-- The whole script of docs/FORMATS-OF-SCRIPTS.md, "Scripts": its plain spelling, and the steps that
+-- its lines say.
 use Rattle.std.proofs.Common.{◌≡◌, ℕ, pos, List, [], ◌∷◌, replicate, refl}
 use Rattle.std.specs.Prelude.{codes}
 use Rattle.std.specs.Fmt.{digits}

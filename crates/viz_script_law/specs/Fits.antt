@@ -1,4 +1,4 @@
--- Lines that a script can have (docs/FORMATS.md, "Scripts").
+-- Lines that a script can have (docs/FORMATS-OF-SCRIPTS.md, "Scripts").
 use Rattle.std.specs.Prelude.{◌≡◌, ℕ, ℤ, pos, ◌-◌, ◌<◌, ◌≤◌, Bool, true, false, List, take, drop}
 use Rattle.std.specs.Prelude.{replicate, length, count_by, Option, None, Some}
 use Rattle.std.specs.List.{AllByRecursion}

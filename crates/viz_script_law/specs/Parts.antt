@@ -1,4 +1,5 @@
--- What the lines of an actor are made of: commands, and whole batches (docs/FORMATS.md, "Scripts").
+-- What the lines of an actor are made of: commands, and whole batches (docs/FORMATS-OF-SCRIPTS.md,
+-- "Scripts").
 use Rattle.std.specs.Prelude.{◌≡◌, ℕ, ◌+◌, Bool, true, false, ◌==◌, List, [], ◌∷◌, ◌++◌, map, filter}
 use Rattle.std.specs.Prelude.{flat_map}
 use Rattle.std.specs.List.{AllByRecursion}

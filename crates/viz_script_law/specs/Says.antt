@@ -1,4 +1,4 @@
--- What the steps of a script are of an actor (docs/FORMATS.md, "Scripts").
+-- What the steps of a script are of an actor (docs/FORMATS-OF-SCRIPTS.md, "Scripts").
 use Rattle.std.specs.Prelude.{ℕ, ◌==◌, List, [], ◌∷◌, if◌then◌else◌}
 use Rattle.viz_script.specs.Orders.{Asked}
 use Rattle.viz_script.specs.Script.{Stepped}

@@ -1,4 +1,4 @@
--- A script: bytes that spell lines which a script can have (docs/FORMATS.md, "Scripts").
+-- A script: bytes that spell lines which a script can have (docs/FORMATS-OF-SCRIPTS.md, "Scripts").
 use Rattle.std.specs.Prelude.{ℕ, ◌≤◌, List, length}
 use Rattle.std.specs.List.{AllZip}
 use Rattle.viz_script.specs.Lines.{Line}

@@ -1,4 +1,5 @@
--- Which bytes spell a token, a line, and the lines of a script (docs/FORMATS.md, "Scripts").
+-- Which bytes spell a token, a line, and the lines of a script (docs/FORMATS-OF-SCRIPTS.md,
+-- "Scripts").
 use Rattle.std.specs.Prelude.{◌≡◌, ◌<◌, ◌⊎◌, ℕ, true, false, ◌==◌, List, [], ◌∷◌, ◌++◌, length}
 use Rattle.std.specs.Prelude.{Some, if◌then◌else◌}
 use Rattle.std.specs.List.{list_all}

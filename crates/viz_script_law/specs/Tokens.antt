@@ -1,5 +1,5 @@
--- The words of a line, numbers apart from all others, and their plain spelling (docs/FORMATS.md,
--- "Scripts").
+-- The words of a line, numbers apart from all others, and their plain spelling
+-- (docs/FORMATS-OF-SCRIPTS.md, "Scripts").
 use Rattle.std.specs.Prelude.{ℕ, ℤ, pos, List, [], ◌∷◌, ◌++◌, map, take, flat_map, codes}
 use Rattle.std.specs.Fmt.{signed_decimal}
 use Rattle.viz_kinds.specs.declared.param.Value.{Value}

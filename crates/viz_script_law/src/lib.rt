@@ -5,7 +5,7 @@
 //! the batches that its lines are made of. Definitions: `specs/Script.antt`, which is built of the
 //! tokens of a line (`specs/Tokens.antt`), their spelling (`specs/Spelling.antt`), what the lines
 //! of an actor are made of (`specs/Parts.antt`) and what fits (`specs/Fits.antt`), and knows no
-//! reader; the rules are those of docs/FORMATS.md, "Scripts".
+//! reader; the rules are those of docs/FORMATS-OF-SCRIPTS.md, "Scripts".
 #![tactic(auto)]
 
 mod laws;

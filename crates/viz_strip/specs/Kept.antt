@@ -1,4 +1,4 @@
--- What strips keep of the triangles that they are made of (docs/FORMATS.md, "Strips").
+-- What strips keep of the triangles that they are made of (docs/FORMATS-OF-OUTPUT.md, "Strips").
 use Rattle.std.specs.Prelude.{◌≡◌, ℕ, true, false, List, [], ◌∷◌, length, All, count_by}
 use Rattle.viz_strip.specs.Strips.{IsTriangle, AreStrips, all_pieces, continues, is_same, runs}
 

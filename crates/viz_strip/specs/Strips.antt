@@ -1,5 +1,5 @@
 -- Strips of triangles: each name behind the second one makes a triangle with the two before it
--- (VTK User's Guide, "Simple legacy formats"; docs/FORMATS.md, "Strips").
+-- (VTK User's Guide, "Simple legacy formats"; docs/FORMATS-OF-OUTPUT.md, "Strips").
 use Rattle.std.specs.Prelude.{◌≡◌, ℕ, ◌==◌, Bool, true, false, not, ◌&&◌, ◌||◌, List, [], ◌∷◌, ◌++◌}
 use Rattle.std.specs.Prelude.{length, All, if◌then◌else◌}
 use Rattle.std.specs.List.{flat_map, list_any}

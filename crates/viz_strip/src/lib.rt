@@ -4,7 +4,7 @@
 //! Contract: `strips` gives just the strips of the definition, which begin with the first triangle
 //! that is left and take, again and again, the first that continues them; so they have the oriented
 //! triangles that were given, each as often. Definitions: `specs/Strips.antt`, `specs/Kept.antt`;
-//! the rule is that of docs/FORMATS.md, "Strips".
+//! the rule is that of docs/FORMATS-OF-OUTPUT.md, "Strips".
 #![tactic(auto)]
 
 mod beginning;

@@ -1,4 +1,5 @@
--- A mesh that is written with strips, as it is read again (docs/FORMATS.md, "Written strips").
+-- A mesh that is written with strips, as it is read again (docs/FORMATS-OF-OUTPUT.md, "Written
+-- strips").
 use Rattle.std.specs.Prelude.{◌≡◌, ℕ, ◌^◌, pos, List, map, All}
 use Rattle.viz_base.specs.declared.node.Pick.TheVariants.{Zero}
 use Rattle.viz_dataset.specs.declared.dataset.Dataset.TheVariants.{Mesh}

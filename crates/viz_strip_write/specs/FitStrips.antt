@@ -1,4 +1,4 @@
--- What a mesh that is written with strips may hold (docs/FORMATS.md, "Written strips").
+-- What a mesh that is written with strips may hold (docs/FORMATS-OF-OUTPUT.md, "Written strips").
 use Rattle.std.specs.Prelude.{◌≡◌, ℕ, ◌*◌, ◌^◌, ◌<◌, List, length}
 use Rattle.viz_sheet.specs.Sheet.{SheetData}
 use Rattle.viz_mesh_write.specs.Cells.{points_of, cells_of, of_size}

@@ -1,5 +1,5 @@
 -- The text of a mesh whose triangles are written as strips (VTK User's Guide, "Simple legacy
--- formats"; docs/FORMATS.md, "Written strips").
+-- formats"; docs/FORMATS-OF-OUTPUT.md, "Written strips").
 use Rattle.std.specs.Prelude.{◌≡◌, ℕ, ◌≤◌, false, List, [], ◌∷◌, ◌++◌, length, All, codes}
 use Rattle.viz_fraction.specs.Points.{Point}
 use Rattle.viz_sheet.specs.Sheet.{SheetData}

@@ -3,7 +3,7 @@
 //! Contract: `strip_text` gives the text of the definition, or the refusal that it names;
 //! `counted_strip_text` gives it with how many strips and triangles it has.
 //! Definitions: `specs/StripText.antt`, `specs/FitStrips.antt`; the rule is that of
-//! docs/FORMATS.md, "Written strips".
+//! docs/FORMATS-OF-OUTPUT.md, "Written strips".
 #![tactic(auto)]
 
 mod cells;

@@ -1,5 +1,5 @@
--- Sheets of triangles between edges of a grid, and their cells by edges (docs/FORMATS.md, "Names
--- of a section").
+-- Sheets of triangles between edges of a grid, and their cells by edges
+-- (docs/FORMATS-OF-FILTERS.md, "Names of a section").
 use Rattle.std.specs.Prelude.{◌≡◌, ℕ, ◌<◌, List, map, length, slice_index, All}
 use Rattle.viz_extent.specs.Extent.{Bounds, count_of}
 use Rattle.viz_grid_section.specs.Edges.{Edge}

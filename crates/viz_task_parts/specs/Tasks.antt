@@ -1,5 +1,5 @@
 -- What the tasks of a plan take, and what they make of it (VTK User's Guide, the executive: the
--- data pass; docs/FORMATS.md, "Exact points").
+-- data pass; docs/FORMATS-OF-FILTERS.md, "Exact points").
 use Rattle.std.specs.Prelude.{◌≡◌, ℕ, List, Option, Some, Ok}
 use Rattle.std.specs.List.{All, Contains}
 use Rattle.viz_dataset.specs.declared.dataset.Dataset.{Dataset}

@@ -1,4 +1,4 @@
--- The words of a command, with their refusals (docs/FORMATS.md, "Scripts").
+-- The words of a command, with their refusals (docs/FORMATS-OF-SCRIPTS.md, "Scripts").
 use Rattle.std.specs.Prelude.{ℕ, ℤ, pos, ◌-◌, Bool, ◌&&◌, ◌==◌, nat_le, List, [], ◌∷◌, ◌++◌}
 use Rattle.std.specs.Prelude.{length, replicate, Option, None, Some, Result, Ok, Err}
 use Rattle.viz_kinds.specs.declared.kind.Kind.{Kind}

@@ -1,4 +1,4 @@
--- The edit that the words behind a command tell (docs/FORMATS.md, "Scripts").
+-- The edit that the words behind a command tell (docs/FORMATS-OF-SCRIPTS.md, "Scripts").
 use Rattle.std.specs.Prelude.{ℕ, List, Result, Ok, Err}
 use Rattle.viz_kinds.specs.declared.kind.Kind.{Kind}
 use Rattle.viz_kinds.specs.declared.param.Param.{Param}

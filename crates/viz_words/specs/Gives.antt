@@ -1,5 +1,5 @@
--- What a reader answers: what its definition gives, or the refusal that it gives (docs/FORMATS.md,
--- "Scripts").
+-- What a reader answers: what its definition gives, or the refusal that it gives
+-- (docs/FORMATS-OF-SCRIPTS.md, "Scripts").
 use Rattle.std.specs.Prelude.{◌≡◌, Bool, Result, Ok, Err, if◌then◌else◌}
 use Rattle.viz_words.specs.declared.refusal.ScriptRefusal.{ScriptRefusal}
 

@@ -1,5 +1,5 @@
 -- Numbers of scripts: an optional minus sign and one or more digits, within 64 bits
--- (docs/FORMATS.md, "Scripts").
+-- (docs/FORMATS-OF-SCRIPTS.md, "Scripts").
 use Rattle.std.specs.Prelude.{ℕ, ℤ, pos, neg_ℤ, int_le, unsigned_abs, ◌&&◌, ◌==◌, List, [], ◌∷◌}
 use Rattle.std.specs.Prelude.{Option, Some, None, option_map, ok_or, Result, Ok, Err}
 use Rattle.std.specs.Prelude.{if◌then◌else◌}

@@ -1,4 +1,5 @@
--- The words of commands, kinds and parameters (docs/FORMATS.md, "Scripts" and "Kinds of node").
+-- The words of commands, kinds and parameters (docs/FORMATS-OF-SCRIPTS.md, "Scripts", and
+-- docs/FORMATS-OF-FILTERS.md, "Kinds of node").
 use Rattle.std.specs.Prelude.{ℕ, List, [], ◌∷◌, codes, Option, None, Some, if◌then◌else◌}
 use Rattle.viz_kinds.specs.Values.{is_text}
 use Rattle.viz_kinds.specs.declared.kind.Kind.{Kind}

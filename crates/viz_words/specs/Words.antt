@@ -1,4 +1,4 @@
--- The words of a line (docs/FORMATS.md, "Scripts").
+-- The words of a line (docs/FORMATS-OF-SCRIPTS.md, "Scripts").
 use Rattle.std.specs.Prelude.{ℕ, Bool, true, false, not, ◌||◌, ◌==◌, List, [], ◌∷◌, ◌++◌, flat_map}
 use Rattle.std.specs.Prelude.{if◌then◌else◌}
 use Rattle.viz_words.specs.Lines.{in_front}

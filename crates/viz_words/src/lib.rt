@@ -3,7 +3,7 @@
 //! Contract: each line, word, name and number is that of its definition, and each command is read
 //! as its definition says, or refused with the first refusal that the definition has. Definitions:
 //! `specs/Lines.antt`, `specs/Words.antt`, `specs/Tables.antt`, `specs/Commands.antt`; the rules
-//! are those of docs/FORMATS.md, "Scripts".
+//! are those of docs/FORMATS-OF-SCRIPTS.md, "Scripts".
 #![tactic(auto)]
 
 mod arity;

@@ -7,7 +7,8 @@ use std::alloc::{AllocError, AllocFailed, Global};
 use thiserror::Error;
 use viz_lex::put_whole;
 
-/// What is wrong with a line; of one line they are asked in the order of docs/FORMATS.md.
+/// What is wrong with a line; of one line they are asked in the order of
+/// docs/FORMATS-OF-SCRIPTS.md.
 #[derive(Clone, Copy, PartialEq, Eq, Debug, Error)]
 pub enum ScriptRefusal {
     /// A byte that may not stand there, or a word that isn't known where one is due.
@@ -71,7 +72,7 @@ impl<T: Drop> From<AllocFailed<T>> for ScriptStop {
     }
 }
 
-/// The word of a refusal.
+/// The word of a refusal, as reports spell it.
 pub fn refusal_word(refusal: &ScriptRefusal) -> &'static str
     ensures value { result.now ≡ refusal_word refusal.now }
 {

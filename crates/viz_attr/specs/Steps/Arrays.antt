@@ -1,5 +1,5 @@
 -- The readers of an array behind its keyword, which proofs compare with the rules: each keeps what
--- is known of the parts before it (docs/FORMATS.md, "Attribute parts").
+-- is known of the parts before it (docs/FORMATS-OF-FILES.md, "Attribute parts").
 use Rattle.std.specs.Prelude.{ℕ, false, codes, Result, Ok, Err}
 use Rattle.viz_column.specs.declared.kind.Kind8.TheVariants.{U8}
 use Rattle.viz_lex.specs.declared.fault.FileFault.{FileFault}

@@ -1,4 +1,5 @@
--- What is known of the parts before, as the readers keep it (docs/FORMATS.md, "Attribute parts").
+-- What is known of the parts before, as the readers keep it (docs/FORMATS-OF-FILES.md, "Attribute
+-- parts").
 use Rattle.std.specs.Prelude.{Bool, false, not, ◌&&◌, ◌||◌, List, fold, Option, Some, None}
 use Rattle.std.specs.Prelude.{if◌then◌else◌}
 use Rattle.viz_column.specs.Numbers.{Numbers}

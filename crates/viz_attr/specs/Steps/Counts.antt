@@ -1,4 +1,4 @@
--- The readers of types and counts, which proofs compare with the rules (docs/FORMATS.md,
+-- The readers of types and counts, which proofs compare with the rules (docs/FORMATS-OF-FILES.md,
 -- "Attribute parts").
 use Rattle.std.specs.Prelude.{ℕ, ◌^◌, Bool, not, ◌&&◌, Result, Ok, unsigned_abs, if◌then◌else◌}
 use Rattle.viz_lex.specs.declared.fault.FileKind.TheVariants.{Keyword, Count, FloatArray, TooMany}

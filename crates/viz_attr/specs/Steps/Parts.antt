@@ -1,5 +1,5 @@
--- The readers of a FIELD and of all parts, which proofs compare with the rules (docs/FORMATS.md,
--- "Attribute parts").
+-- The readers of a FIELD and of all parts, which proofs compare with the rules
+-- (docs/FORMATS-OF-FILES.md, "Attribute parts").
 use Rattle.std.specs.Prelude.{ℕ, zero, suc, ◌+◌, Bool, true, false, not, ◌||◌, List, length, codes}
 use Rattle.std.specs.Prelude.{Option, Some, None, Result, Ok, Err, if◌then◌else◌}
 use Rattle.viz_column.specs.Numbers.{Numbers}

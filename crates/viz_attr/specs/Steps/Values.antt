@@ -1,4 +1,5 @@
--- The readers of values, which proofs compare with the rules (docs/FORMATS.md, "Attribute parts").
+-- The readers of values, which proofs compare with the rules (docs/FORMATS-OF-FILES.md, "Attribute
+-- parts").
 use Rattle.std.specs.Prelude.{ℕ, ℤ, zero, suc, ◌-◌, ◌*◌, Bool, true, false, List, Option, Some}
 use Rattle.std.specs.Prelude.{None, Result, Ok, if◌then◌else◌}
 use Rattle.viz_column.specs.declared.kind.Kind8.{Kind8}

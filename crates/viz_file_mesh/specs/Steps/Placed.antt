@@ -1,5 +1,5 @@
--- The points of a file by their coordinates, as the loop over them makes them (docs/FORMATS.md,
--- "Grids and polydata").
+-- The points of a file by their coordinates, as the loop over them makes them
+-- (docs/FORMATS-OF-FILES.md, "Grids and polydata").
 use Rattle.std.specs.Prelude.{ℕ, ℤ, pos, ◌+◌, ◌*◌, ◌*ℤ◌, List, map, slice_index_or, Option}
 use Rattle.std.specs.List.{range_with_len}
 use Rattle.viz_column.specs.Numbers.{Numbers}

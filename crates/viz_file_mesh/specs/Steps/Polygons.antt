@@ -1,4 +1,4 @@
--- Polydata whose only cells are polygons (docs/FORMATS.md, "Grids and polydata").
+-- Polydata whose only cells are polygons (docs/FORMATS-OF-FILES.md, "Grids and polydata").
 use Rattle.std.specs.Prelude.{◌≡◌, ℕ, List}
 use Rattle.viz_mesh_read.specs.Poly.{ByKind}
 
