@@ -18,7 +18,7 @@ use viz_source::{LineReader, Source};
 /// history from its start. Files are read and written by `port`, answers are put to `out`, and
 /// `gate` is what tasks pass.
 ///
-/// Lines and answers are those of docs/FORMATS.md, "Sessions".
+/// Lines and answers are those of docs/FORMATS-OF-SCRIPTS.md, "Sessions".
 pub fn serve<
     R: Threads + Wait + Sync + AllocGlobal,
     S: Source,
