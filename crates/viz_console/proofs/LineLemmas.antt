@@ -1,5 +1,5 @@
 -- Lines behind other lines.
-use Rattle.std.proofs.Common.{◌≡◌, ℕ, Bool, true, false, cond, true≢false, ◌||◌, List, [], ◌∷◌, ◌++◌, Option, Result, refl, sym, ap, ap₂, subst, ◌∙◌, append_assoc}
+use Rattle.std.proofs.Common.{◌≡◌, ℕ, Bool, true, false, cond, true≢false, ◌||◌, List, [], ◌∷◌, ◌++◌, Option, Result, Ok, Err, ◌+◌, refl, sym, ap, ap₂, subst, ◌∙◌, append_assoc}
 use Rattle.viz_words.specs.declared.refusal.ScriptRefusal.{ScriptRefusal}
 use Rattle.viz_console.specs.Lines.{Demand, demand_in, is_quit, Place, behind, Due, due, dues, has_quit}
 use Rattle.viz_console.specs.Steps.Serving.{place_behind}
@@ -56,3 +56,8 @@ one_quit p line = or_false (is_quit (demand_in p.batch line))
     or_false : (b : Bool) → (b || false) ≡ b
     or_false true = refl
     or_false false = refl
+
+-- one line more is read
+pub behind_lines : (p : Place) (d : Result Demand ScriptRefusal) → (behind p d).lines ≡ p.lines + 1
+behind_lines p (Err r) = refl
+behind_lines p (Ok demand) = refl
