@@ -18,7 +18,7 @@ USAGE = (1, b"vizrun: usage\n")
 # What help names: the words, and the statuses.
 HELP = [b"\n  once IN OUT threshold LO HI ", b"\n  once IN OUT contour V ", b"\n  strip IN OUT ",
         b"\n  clip IN OUT A B C R ", b"\n  run SCRIPT JOURNAL ", b"\n  scratch JOURNAL N SINK OUT ",
-        b"\n  migrate JOURNAL OUT ", b"\n  make NUMBER NX NY NZ OUT ", b"--dir", b"--progress"]
+        b"\n  migrate JOURNAL OUT ", b"\n  console ", b"\n  make NUMBER NX NY NZ OUT ", b"--dir", b"--progress"]
 HELP += [b"\n  %d  " % status for status in range(6)]
 VERSION = b"""vizrun 0.9.0
 Before 1.0 scripts, journals, reports and written files may change with the
@@ -32,7 +32,7 @@ NONE = [[], ["--help", "x"], ["x", "--help"], ["--version", "--help"], ["--dir"]
         ["strip", "b.vtk"], ["strip", "b.vtk", "o.vtk", "x"], ["strip", "b.vtk", ".o.vtk"],
         ["clip", "b.vtk", "o.vtk", "1", "2", "3"], ["clip", "b.vtk", "o.vtk", "0", "0", "0", "1"],
         ["clip", "b.vtk", "o.vtk", "1", "2", "3", "-2147483648"],
-        ["migrate", "j"], ["migrate", "j", "k", "x"], ["migrate", "j", ".k"],
+        ["console", "x"], ["console", ""], ["migrate", "j"], ["migrate", "j", "k", "x"], ["migrate", "j", ".k"],
         ONCE + ["--dir", "folder"], [b"\xff"], ["run", b"s\xff", "j"], ["--dir", b"\xff"] + ONCE]
 # Folders, as they are typed and as they are, below the one that the program is started in.
 FOLDERS = [("folder", "folder"), ("folder/", "folder"), ("-", "-"), ("", "."), (".", ".")]
