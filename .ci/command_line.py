@@ -1,6 +1,7 @@
 #!/usr/bin/env python3
 """Types command lines at the built program: help, the version, folders, words that are none, and
-progress on a terminal.
+progress
+and a session on a terminal.
 
 The program is crates/viz_cli/out/viz_cli, or the one that is named.
 """
@@ -9,6 +10,7 @@ import pty
 import subprocess
 import sys
 import tempfile
+import termios
 
 TOP = os.path.dirname(os.path.dirname(os.path.abspath(__file__)))
 PROGRAM = os.path.join(TOP, "crates/viz_cli/out/viz_cli")
@@ -46,6 +48,8 @@ SCRIPT = b"""1 add file src
 1 update op o.vtk 1 1
 """
 SHOWN = b"1 tasks\r2 tasks\r\x1b[K"
+WELCOME = (b"A command a line, as `add file src`; `quit` or control-D ends."
+           b" The words stand in docs/CONSOLE.md.\r\n")
 errors = []
 
 
@@ -126,6 +130,27 @@ def check_progress(program, folder):
             check(words, run(program, words, place), (0, report))
 
 
+def check_person(program, folder):
+    """A person at a session is told what to type, and has a prompt for each line."""
+    near, far = pty.openpty()
+    kinds = termios.tcgetattr(far)
+    kinds[3] &= ~termios.ECHO
+    termios.tcsetattr(far, termios.TCSANOW, kinds)
+    session = subprocess.Popen([program, "console"], cwd=folder, stdin=far,
+                               stdout=subprocess.PIPE, stderr=far)
+    for line, answer in ((b"add crop a\n", b"edit 1 at 1\n"), (b"help\n", b"bad 2 Word\n")):
+        os.write(near, line)
+        check(["console"], session.stdout.readline(), answer)
+    os.write(near, b"\x04")
+    check(["console"], (session.wait(timeout=60), session.stdout.read()), (0, b""))
+    found = b""
+    while len(found) < len(WELCOME) + 6:
+        found += os.read(near, 4096)
+    check(["console"], found, WELCOME + b"> > > ")
+    os.close(near)
+    os.close(far)
+
+
 def main():
     program = os.path.abspath(sys.argv[1]) if len(sys.argv) > 1 else PROGRAM
     if not os.access(program, os.X_OK):
@@ -139,12 +164,13 @@ def main():
         check("all words", files(folder), [])
         check_folders(program, folder)
         check_progress(program, folder)
+        check_person(program, folder)
     for error in errors:
         print("command line:", error)
     if errors:
         sys.exit(1)
     print("command line: %d lines are answered as docs/FORMATS.md says"
-          % (len(NONE) + len(FOLDERS) + 10))
+          % (len(NONE) + len(FOLDERS) + 11))
 
 
 main()

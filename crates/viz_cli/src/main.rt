@@ -26,7 +26,7 @@ const HERE: &str = ".";
 
 /// What a person is told in front of a session.
 const WELCOME: &str = "\
-A command a line, as add file src; quit or control-D ends. The words stand in docs/CONSOLE.md.
+A command a line, as `add file src`; `quit` or control-D ends. The words stand in docs/CONSOLE.md.
 ";
 
 /// The words behind the program's own name.

@@ -207,7 +207,7 @@ fn a_batch_is_one_command(rt: HostRuntime) -> Result<(), Fail> {
         // one of its edits is refused
         (
             "begin\nadd crop a\nadd crop a\nend\n",
-            "refused 1 batch:2:Exists at 0\n",
+            "refused 1 2:Exists at 0\n",
             End::Closed,
         ),
         // a batch that is open at the end is dropped
