@@ -1,7 +1,6 @@
 #!/usr/bin/env python3
-"""Types command lines at the built program: help, the version, folders, words that are none, and
-progress
-and a session on a terminal.
+"""Types command lines at the built program: help, the version, folders, words that are none,
+progress on a terminal, and a person at a session.
 
 The program is crates/viz_cli/out/viz_cli, or the one that is named.
 """
