@@ -1,5 +1,5 @@
 -- What the answer to an act comes to.
-use Rattle.std.proofs.Common.{◌≡◌, ℕ, Bool, true, false, List, [], ◌∷◌, ◌++◌, Option, None, Some, refl, sym, ap, subst}
+use Rattle.std.proofs.Common.{◌≡◌, ℕ, Bool, List, [], ◌∷◌, Option, None, Some, refl, sym, ap, subst}
 use Rattle.std.proofs.lemmas.List.{append-nil}
 use Rattle.viz_base.specs.declared.out.Out as out
 use Rattle.viz_base.specs.declared.port.Port as port
@@ -14,7 +14,7 @@ use Rattle.viz_console.specs.declared.acts.Act.{Act}
 use Rattle.viz_console.specs.declared.acts.Act.TheVariants as act
 use Rattle.viz_console.specs.declared.ending.End.{End}
 use Rattle.viz_console.specs.declared.ending.End.TheVariants as end
-use Rattle.viz_console.specs.Replies.{Reply, bad, tells, bad_text, told_text}
+use Rattle.viz_console.specs.Replies.{bad, tells, bad_text, told_text}
 use Rattle.viz_console.specs.Steps.Heard.{due_in, quits_by}
 use Rattle.viz_console.specs.Steps.Serving.{Puts, PutsBy, AnswersAct}
 

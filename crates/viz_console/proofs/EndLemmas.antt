@@ -1,5 +1,5 @@
 -- The turns of a session, and its ends.
-use Rattle.std.proofs.Common.{◌≡◌, ◌≤◌, ◌<◌, ◌+◌, ℕ, Bool, true, false, true≢false, ◌⊎◌, inl, inr, List, [], ◌∷◌, ◌++◌, length, take, map, Option, None, Some, Result, Ok, Err, refl, sym, ap, subst, ◌∙◌, append_assoc, arith}
+use Rattle.std.proofs.Common.{◌≡◌, ◌≤◌, ◌<◌, ◌+◌, ℕ, Bool, true, false, ◌⊎◌, inl, inr, List, [], ◌∷◌, ◌++◌, length, take, map, Option, None, Some, Result, Err, refl, sym, ap, subst, ◌∙◌, append_assoc, arith}
 use Rattle.std.specs.Prelude.{IsTrue}
 use Rattle.std.proofs.lemmas.Bool.{cases_lt, cond-true, cond-false, lt-ltb, le-ltb}
 use Rattle.std.proofs.lemmas.Grind.{flat_map-append}
@@ -20,7 +20,7 @@ use Rattle.viz_console.specs.declared.acts.Act.{Act}
 use Rattle.viz_console.specs.declared.ending.End.{End}
 use Rattle.viz_console.specs.declared.ending.End.TheVariants as end
 use Rattle.viz_console.specs.declared.line.Said.{Said}
-use Rattle.viz_console.specs.Lines.{Demand, own_in, stood, demand_in, is_quit, Place, start, behind, dues, has_quit}
+use Rattle.viz_console.specs.Lines.{own_in, stood, demand_in, is_quit, Place, start, behind, dues, has_quit}
 use Rattle.viz_console.specs.Replies.{Reply, due_of, command_of, line_of, commands, lines_told, text_of}
 use Rattle.viz_console.specs.Ends.{all_lines, end_of, EndsAs, IsPullFailed, IsPutFailed, IsEnd}
 use Rattle.viz_console.specs.Steps.Heard.{heard_result, quits_by, Acts}

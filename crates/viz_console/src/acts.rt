@@ -62,7 +62,8 @@ impl Place {
         ensures due { due_in result ≡ served (self.old.commands + 1) (option_map seen order) }
         ensures goes_on { quits_by result ≡ false }
         ensures after { self.new ≡ record self.old {
-            commands = self.old.commands + count_of (option_map seen order) } }
+          commands = self.old.commands + count_of (option_map seen order);
+        } }
     {
         match order {
             None => Act::Nothing,

@@ -19,13 +19,7 @@ use viz_source::{LineReader, Source};
 /// `gate` is what tasks pass.
 ///
 /// Lines and answers are those of docs/FORMATS-OF-SCRIPTS.md, "Sessions".
-pub fn serve<
-    R: Threads + Wait + Sync + AllocGlobal,
-    S: Source,
-    P: Port,
-    O: Out,
-    G: Gate + Sync,
->(
+pub fn serve<R: Threads + Wait + Sync + AllocGlobal, S: Source, P: Port, O: Out, G: Gate + Sync>(
     rt: &R,
     source: &mut S,
     port: &mut P,

@@ -1,4 +1,4 @@
-use Rattle.std.proofs.Common.{◌≡◌, Option, refl, ap, subst, arith}
+use Rattle.std.proofs.Common.{Option, refl, ap, subst, arith}
 use Rattle.viz_source.specs.Readers.{Reader}
 use Rattle.viz_console.specs.declared.ending.End.{End}
 use Rattle.viz_console.specs.Lines.{Place}

@@ -1,4 +1,4 @@
-use Rattle.std.proofs.Common.{◌≤◌, ◌-◌, ◌≡◌}
+use Rattle.std.proofs.Common.{◌≤◌, ◌-◌}
 use Rattle.viz_source.specs.declared.limits.TheConstants.{STREAM_LIMIT}
 use Rattle.viz_actor.specs.Updating.{IsSamePass}
 use Rattle.viz_console.specs.Steps.Serving.{IsSoFar}

@@ -1,4 +1,4 @@
-use Rattle.std.proofs.Common.{◌≡◌, ap, ◌∙◌, arith}
+use Rattle.std.proofs.Common.{ap, ◌∙◌, arith}
 use Rattle.viz_console.specs.Lines.{Place}
 use Rattle.viz_console.proofs.LineLemmas.{behind_lines}
 use Rattle.viz_console.proofs.EndLemmas.{none_heard, none_taken, one_turn}
