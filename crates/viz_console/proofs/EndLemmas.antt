@@ -25,7 +25,7 @@ use Rattle.viz_console.specs.Replies.{Reply, due_of, command_of, line_of, comman
 use Rattle.viz_console.specs.Ends.{all_lines, end_of, EndsAs, IsPullFailed, IsPutFailed, IsEnd}
 use Rattle.viz_console.specs.Steps.Heard.{heard_result, quits_by, Acts}
 use Rattle.viz_console.specs.Steps.Serving.{Hears, Puts, PutsBy, AnswersAct, place_behind, IsSoFar, IsEnded, GoesTo}
-use Rattle.viz_console.proofs.LineLemmas.{quit_behind, quit_front, place_behind_more, one_quit}
+use Rattle.viz_console.proofs.LineLemmas.{dues_quit, quit_behind, quit_front, place_behind_more, one_quit}
 use Rattle.viz_console.proofs.ReplyLemmas.{due_more, text_more, front_of_whole, front_more, rose_after}
 
 -- a line behind others
@@ -229,6 +229,7 @@ module _ {S P O : Type 0} (s : source.Ghosts S) (m : port.Ghosts P) (o : out.Gho
         ended = record {
           quit = quit_is ∙ over;
           read = front_all;
+          last = λ t. ap (dues start) (front_all t).1 ∙ dues_quit start all (front_all t).0 (quit_is ∙ over);
           put = put_all (λ t. ap o.text stays ∙ sym (nothing_more (o.text after) (text_of answers.replies) (ap text_of none)));
         };
       }

@@ -61,3 +61,17 @@ one_quit p line = or_false (is_quit (demand_in p.batch line))
 pub behind_lines : (p : Place) (d : Result Demand ScriptRefusal) → (behind p d).lines ≡ p.lines + 1
 behind_lines p (Err r) = refl
 behind_lines p (Ok demand) = refl
+
+-- behind a line that quits nothing is due
+pub dues_quit : (p : Place) (lines more : List (Option (List ℕ))) → has_quit p lines ≡ true
+    → dues p (lines ++ more) ≡ dues p lines
+dues_quit p [] more e = absurd (true≢false (sym e))
+dues_quit p (line ∷ lines) more e = by (demand_in p.batch line) _ _ _ (dues_quit (behind p (demand_in p.batch line)) lines more) e
+  where
+    by : (d : Result Demand ScriptRefusal) (later : Bool) (whole front : List Due) → (later ≡ true → whole ≡ front) → (is_quit d || later) ≡ true
+        → cond (is_quit d) [] (due p d ++ whole) ≡ cond (is_quit d) [] (due p d ++ front)
+    by d later whole front next q = of (is_quit d) q
+      where
+        of : (b : Bool) → (b || later) ≡ true → cond b [] (due p d ++ whole) ≡ cond b [] (due p d ++ front)
+        of true r = refl
+        of false r = ap (λ l. due p d ++ l) (next r)

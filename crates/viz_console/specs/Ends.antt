@@ -10,7 +10,7 @@ use Rattle.viz_source.specs.declared.limits.TheConstants.{STREAM_LIMIT}
 use Rattle.viz_source.specs.Streams.{told_lines, whole_lines, lines_left, untaken}
 use Rattle.viz_console.specs.declared.ending.End.{End}
 use Rattle.viz_console.specs.declared.ending.End.TheVariants as end
-use Rattle.viz_console.specs.Lines.{start, has_quit}
+use Rattle.viz_console.specs.Lines.{start, dues, has_quit}
 use Rattle.viz_console.specs.Replies.{Reply, text_of}
 
 -- the lines of a source with these bytes: all of them, or, where it has more than 1,073,741,824
@@ -73,10 +73,11 @@ module _ {S O : Type 0} (s : source.Ghosts S) (o : out.Ghosts O)
     pub within : IsTrue s.tells_bytes → length (s.left old) ≤ STREAM_LIMIT
     pub put : HasPutAll
 
-  -- a line quits, and nothing behind it was answered
+  -- a line quits, and nothing behind it is due
   pub record HasQuit : Type 0 where
     pub quit : has_quit start lines ≡ true
     pub read : HasReadFront
+    pub last : IsTrue s.tells_bytes → dues start (all_lines (s.left old)) ≡ dues start lines
     pub put : HasPutAll
 
   -- there are more than 1,073,741,824 bytes, and no line quits that ends within the first so many:
