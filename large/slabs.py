@@ -5,7 +5,7 @@ import numpy
 # What vizrun takes for a slab, measured: at all, for each byte of its file, and for each point.
 MEMORY_AT_ALL = 8_000_000
 MEMORY_A_BYTE = 2.0
-MEMORY_A_POINT = 200
+MEMORY_A_POINT = 160
 # What a file may have that vizrun reads, less the header.
 MOST_BYTES = 1_073_741_824 - 4096
 # What an image may have, and a section of a written mesh.

@@ -1,6 +1,5 @@
 -- The account of a session, by what its one pass did.
-use Rattle.std.proofs.Common.{◌≡◌, ◌≢◌, ◌≤◌, ◌+◌, ℕ, zero, suc, Bool, true, false, true≢false, List, [], ◌∷◌, ◌++◌, All, length, map, flat_map, slice_get, Option, None, Some, refl, sym, ap, subst, ◌∙◌, arith}
-use Rattle.std.specs.Prelude.{IsTrue}
+use Rattle.std.proofs.Common.{◌≡◌, ◌≤◌, ℕ, zero, suc, true≢false, List, [], ◌∷◌, ◌++◌, All, length, map, flat_map, Option, refl, sym, ap, subst, ◌∙◌, arith}
 use Rattle.std.proofs.lemmas.List.{append-nil}
 use mathlib.Core.Option.{some-ne-none}
 use Rattle.viz_base.specs.declared.out.Out as out
@@ -25,7 +24,7 @@ use Rattle.viz_console.specs.declared.ending.End.{End}
 use Rattle.viz_console.specs.declared.ending.End.TheVariants as end
 use Rattle.viz_console.specs.Lines.{start, dues}
 use Rattle.viz_console.specs.Replies.{Reply, due_of, commands, lines_told}
-use Rattle.viz_console.specs.Ends.{IsEnd, all_lines}
+use Rattle.viz_console.specs.Ends.{all_lines}
 use Rattle.viz_console.specs.Sessions.{AreAnswered, IsSession}
 use Rattle.viz_console.specs.Steps.Serving.{IsEnded}
 use Rattle.viz_console.proofs.ReplyLemmas.{front_of_whole}

@@ -1,5 +1,5 @@
 -- The turns of a session, and its ends.
-use Rattle.std.proofs.Common.{◌≡◌, ◌≤◌, ◌<◌, ◌+◌, ℕ, Bool, true, false, true≢false, ◌⊎◌, inl, inr, List, [], ◌∷◌, ◌++◌, length, take, map, Option, None, Some, Result, Ok, Err, refl, sym, ap, subst, ◌∙◌, arith}
+use Rattle.std.proofs.Common.{◌≡◌, ◌≤◌, ◌<◌, ◌+◌, ℕ, Bool, true, false, ◌⊎◌, inl, inr, List, [], ◌∷◌, ◌++◌, length, take, map, Option, None, Some, Result, Err, refl, sym, ap, subst, ◌∙◌, append_assoc, arith}
 use Rattle.std.specs.Prelude.{IsTrue}
 use Rattle.std.proofs.lemmas.Bool.{cases_lt, cond-true, cond-false, lt-ltb, le-ltb}
 use Rattle.std.proofs.lemmas.Grind.{flat_map-append}
@@ -7,7 +7,6 @@ use Rattle.viz_base.specs.Faults.{Rose}
 use Rattle.viz_base.specs.declared.out.Out as out
 use Rattle.viz_base.specs.declared.port.Port as port
 use Rattle.viz_words.specs.declared.refusal.ScriptRefusal.{ScriptRefusal}
-use Rattle.viz_words.specs.Gives.{◌>>=◌}
 use Rattle.viz_hub.specs.Passes.{PassKnown}
 use Rattle.viz_account.specs.Served.{ServesAll}
 use Rattle.viz_account.proofs.AccountLemmas.{served_append, served_none}
@@ -21,9 +20,9 @@ use Rattle.viz_console.specs.declared.acts.Act.{Act}
 use Rattle.viz_console.specs.declared.ending.End.{End}
 use Rattle.viz_console.specs.declared.ending.End.TheVariants as end
 use Rattle.viz_console.specs.declared.line.Said.{Said}
-use Rattle.viz_console.specs.Lines.{Demand, own_in, standing, demand_in, is_quit, Place, start, behind, dues, has_quit}
+use Rattle.viz_console.specs.Lines.{own_in, stood, demand_in, is_quit, Place, start, behind, dues, has_quit}
 use Rattle.viz_console.specs.Replies.{Reply, due_of, command_of, line_of, commands, lines_told, text_of}
-use Rattle.viz_console.specs.Ends.{all_lines, end_of, EndsAs, IsEnd}
+use Rattle.viz_console.specs.Ends.{all_lines, end_of, EndsAs, IsPullFailed, IsPutFailed, IsEnd}
 use Rattle.viz_console.specs.Steps.Heard.{heard_result, quits_by, Acts}
 use Rattle.viz_console.specs.Steps.Serving.{Hears, Puts, PutsBy, AnswersAct, place_behind, IsSoFar, IsEnded, GoesTo}
 use Rattle.viz_console.proofs.LineLemmas.{quit_behind, quit_front, place_behind_more, one_quit}
@@ -136,22 +135,22 @@ module _ {S P O : Type 0} (s : source.Ghosts S) (m : port.Ghosts P) (o : out.Gho
     module _ (line : Option (List ℕ)) (said : Result Said ScriptRefusal) (act : Act) (reader_new : Reader) (place_new : Place) (pass_new : PassKnown) (new : S) (port_new : P) (after_new : O) (came : Option End)
         (own : own_in line ≡ heard_result said)
         (next : IsTrue s.tells_bytes → IsFrontLine (stream_of reader (s.left source)) (stream_of reader_new (s.left new)) line)
-        (acts : Acts place (heard_result said >>= standing place.batch) act place_new)
+        (acts : Acts place (stood place.batch (heard_result said)) act place_new)
         (answers : AnswersAct m o limit act came pass pass_new port port_new after after_new)
         (same : IsSamePass root pass)
         (pulls : s.faults source ≤ s.faults new)
         (puts : o.faults after ≤ o.faults after_new) where
-      demanded : demand_in place.batch line ≡ (heard_result said >>= standing place.batch)
-      demanded = ap (λ (r : Result Demand ScriptRefusal). r >>= standing place.batch) own
+      demanded : demand_in place.batch line ≡ (stood place.batch (heard_result said))
+      demanded = ap (stood place.batch) own
 
-      all : List (Option (List ℕ))
+      abbrev all : List (Option (List ℕ))
       all = far.lines ++ line ∷ []
 
-      told : List Reply
+      abbrev told : List Reply
       told = far.replies ++ answers.replies
 
       due_all : map due_of told ≡ dues start all
-      due_all = due_more far.lines line place (heard_result said >>= standing place.batch) far.replies answers.replies far.goes_on far.at demanded far.due (answers.due ∙ acts.due_is)
+      due_all = due_more far.lines line place (stood place.batch (heard_result said)) far.replies answers.replies far.goes_on far.at demanded far.due (answers.due ∙ acts.due_is)
 
       served_all : ServesAll m limit root.number (commands told) (lines_told told) root.seen pass_new.seen port_old port_new
       served_all =
@@ -186,11 +185,11 @@ module _ {S P O : Type 0} (s : source.Ghosts S) (m : port.Ghosts P) (o : out.Gho
 
       -- a line that doesn't quit
       answered : (c : Option End) → quits_by act ≡ false → Puts o (text_of answers.replies) c after after_new → GoesTo s m o limit root old port_old before c reader_new place_new pass_new new port_new after_new
-      answered None no put = record {
+      answered None goes put = record {
         lines = all;
         replies = told;
         read = read_all;
-        goes_on = quit_is ∙ no;
+        goes_on = quit_is ∙ goes;
         at = acts.after ∙ ap (behind place) (sym demanded) ∙ ap (λ (p : Place). place_behind p (line ∷ [])) far.at ∙ sym (place_behind_more start far.lines (line ∷ []));
         due = due_all;
         served = served_all;
@@ -198,37 +197,37 @@ module _ {S P O : Type 0} (s : source.Ghosts S) (m : port.Ghosts P) (o : out.Gho
         pulls = let a = far.pulls in omega (arith, a, pulls);
         puts = let a = far.puts in omega (arith, a, puts);
       }
-      answered (Some end.Fault) no put = record {
+      answered (Some end.Fault) goes put = record {
         lines = all;
         replies = told;
         due = due_all;
         served = served_all;
         ended = record {
-          goes_on = quit_is ∙ no;
+          goes_on = quit_is ∙ goes;
           read = front_all;
           failed = inr (record { cause = rose_after (o.faults before) (o.faults after) (o.faults after_new) far.puts put.0; put = put_front put.1 });
         };
       }
-      answered (Some end.Memory) no put = record {
+      answered (Some end.Memory) goes put = record {
         lines = all;
         replies = told;
         due = due_all;
         served = served_all;
-        ended = record { goes_on = quit_is ∙ no; read = front_all; put = put_front put };
+        ended = record { goes_on = quit_is ∙ goes; read = front_all; put = put_front put };
       }
-      answered (Some end.Closed) no put = absurd put
-      answered (Some end.Quit) no put = absurd put
-      answered (Some end.TooLong) no put = absurd put
+      answered (Some end.Closed) goes put = absurd put
+      answered (Some end.Quit) goes put = absurd put
+      answered (Some end.TooLong) goes put = absurd put
 
       -- one that does
       quit_there : quits_by act ≡ true → after_new ≡ after → answers.replies ≡ [] → IsEnded s m o limit root old port_old before end.Quit pass_new new port_new after_new
-      quit_there yes stays none = record {
+      quit_there over stays none = record {
         lines = all;
         replies = told;
         due = due_all;
         served = served_all;
         ended = record {
-          quit = quit_is ∙ yes;
+          quit = quit_is ∙ over;
           read = front_all;
           put = put_all (λ t. ap o.text stays ∙ sym (nothing_more (o.text after) (text_of answers.replies) (ap text_of none)));
         };
@@ -242,10 +241,10 @@ module _ {S P O : Type 0} (s : source.Ghosts S) (m : port.Ghosts P) (o : out.Gho
       one_turn = by (quits_by act) refl answers.put
         where
           by : (q : Bool) → quits_by act ≡ q → PutsBy o q answers.replies came after after_new → GoesTo s m o limit root old port_old before came reader_new place_new pass_new new port_new after_new
-          by true yes put =
+          by true over put =
               subst (λ (c : Option End). GoesTo s m o limit root old port_old before c reader_new place_new pass_new new port_new after_new) (sym put.0)
-              (quit_there yes put.1.0 put.1.1)
-          by false no put = answered came no put
+              (quit_there over put.1 put.2)
+          by false goes put = answered came goes put
 
 -- ---- the table of ends
 
@@ -270,6 +269,6 @@ module _ {S O : Type 0} (s : source.Ghosts S) (o : out.Ghosts O) (lines : List (
   pub fault_cause : IsEnd s o lines replies old new before after end.Fault → Rose (s.faults old) (s.faults new) ⊎ Rose (o.faults before) (o.faults after)
   fault_cause h = by h.failed
     where
-      by : _ → Rose (s.faults old) (s.faults new) ⊎ Rose (o.faults before) (o.faults after)
+      by : IsPullFailed s o lines replies old new before after ⊎ IsPutFailed s o lines replies old new before after → Rose (s.faults old) (s.faults new) ⊎ Rose (o.faults before) (o.faults after)
       by (inl pull) = inl pull.cause
       by (inr put) = inr put.cause

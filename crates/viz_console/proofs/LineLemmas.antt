@@ -1,5 +1,5 @@
 -- Lines behind other lines.
-use Rattle.std.proofs.Common.{◌≡◌, ℕ, Bool, true, false, cond, true≢false, ◌||◌, List, [], ◌∷◌, ◌++◌, Option, Result, refl, sym, ap, ap₂, subst, ◌∙◌, append_assoc}
+use Rattle.std.proofs.Common.{◌≡◌, ℕ, Bool, true, false, cond, true≢false, ◌||◌, List, [], ◌∷◌, ◌++◌, Option, Result, Ok, Err, ◌+◌, refl, sym, ap, ◌∙◌, append_assoc}
 use Rattle.viz_words.specs.declared.refusal.ScriptRefusal.{ScriptRefusal}
 use Rattle.viz_console.specs.Lines.{Demand, demand_in, is_quit, Place, behind, Due, due, dues, has_quit}
 use Rattle.viz_console.specs.Steps.Serving.{place_behind}
@@ -13,19 +13,16 @@ neither false b e = (refl, e)
 pub dues_behind : (p : Place) (lines more : List (Option (List ℕ))) → has_quit p lines ≡ false
     → dues p (lines ++ more) ≡ dues p lines ++ dues (place_behind p lines) more
 dues_behind p [] more none = refl
-dues_behind p (line ∷ lines) more none = by d (dues_behind (behind p d) lines more parts.1) parts.0
+dues_behind p (line ∷ lines) more none =
+    let d = demand_in p.batch line in
+    let parts = neither (is_quit d) (has_quit (behind p d) lines) none in
+    by d (dues (behind p d) (lines ++ more)) (dues (behind p d) lines) (dues (place_behind (behind p d) lines) more) (dues_behind (behind p d) lines more parts.1) parts.0
   where
-    d : Result Demand ScriptRefusal
-    d = demand_in p.batch line
-
-    parts : (is_quit d ≡ false) × (has_quit (behind p d) lines ≡ false)
-    parts = neither (is_quit d) (has_quit (behind p d) lines) none
-
-    by : (d : Result Demand ScriptRefusal) → {whole front back : List Due} → whole ≡ front ++ back → is_quit d ≡ false
-        → cond (is_quit d) [] (due p d ++ whole) ≡ cond (is_quit d) [] (due p d ++ front) ++ back
-    by d {whole = whole} {front = front} {back = back} e no =
-        ap (λ b. cond b [] (due p d ++ whole)) no ∙ ap (λ l. due p d ++ l) e ∙ sym (append_assoc (due p d) front back)
-        ∙ ap (λ b. cond b [] (due p d ++ front) ++ back) (sym no)
+    by : (x : Result Demand ScriptRefusal) (whole front back : List Due) → whole ≡ front ++ back → is_quit x ≡ false
+        → cond (is_quit x) [] (due p x ++ whole) ≡ cond (is_quit x) [] (due p x ++ front) ++ back
+    by x whole front back e goes =
+        ap (λ b. cond b [] (due p x ++ whole)) goes ∙ ap (λ l. due p x ++ l) e ∙ sym (append_assoc (due p x) front back)
+        ∙ ap (λ b. cond b [] (due p x ++ front) ++ back) (sym goes)
 
 pub quit_behind : (p : Place) (lines more : List (Option (List ℕ))) → has_quit p lines ≡ false
     → has_quit p (lines ++ more) ≡ has_quit (place_behind p lines) more
@@ -59,3 +56,8 @@ one_quit p line = or_false (is_quit (demand_in p.batch line))
     or_false : (b : Bool) → (b || false) ≡ b
     or_false true = refl
     or_false false = refl
+
+-- one line more is read
+pub behind_lines : (p : Place) (d : Result Demand ScriptRefusal) → (behind p d).lines ≡ p.lines + 1
+behind_lines p (Err r) = refl
+behind_lines p (Ok demand) = refl

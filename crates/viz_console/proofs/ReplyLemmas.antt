@@ -1,12 +1,11 @@
 -- Answers behind other answers, and the text of both.
-use Rattle.std.proofs.Common.{◌≡◌, ◌≤◌, ℕ, suc, Bool, false, cond, ◌⊎◌, inl, inr, List, [], ◌∷◌, ◌++◌, length, take, map, Option, None, Some, Result, Ok, Err, refl, sym, ap, ap₂, subst, ◌∙◌, append_assoc, arith}
+use Rattle.std.proofs.Common.{◌≡◌, ◌≤◌, ℕ, suc, false, cond, inl, inr, List, [], ◌∷◌, ◌++◌, length, take, map, Option, None, Some, Result, Ok, Err, refl, sym, ap, ap₂, ◌∙◌, append_assoc, arith}
 use Rattle.std.proofs.lemmas.List.{append-nil, map-append}
 use Rattle.std.proofs.lemmas.Grind.{flat_map-append}
 use Rattle.viz_base.specs.Faults.{Rose}
 use Rattle.viz_base.specs.Texts.{AppendsPrefix}
 use Rattle.viz_network.specs.declared.edit.Edit.{Edit}
 use Rattle.viz_words.specs.declared.refusal.ScriptRefusal.{ScriptRefusal}
-use Rattle.viz_script.specs.Orders.{Asked}
 use Rattle.viz_console.specs.Lines.{Demand, nothing, quits, begins, ends, asks, demand_in, completed, is_quit, Place, start, Due, served, due, dues, has_quit}
 use Rattle.viz_console.specs.Replies.{Reply, due_of, text_of, reply_text}
 use Rattle.viz_console.specs.Steps.Serving.{place_behind}

@@ -1,5 +1,5 @@
 -- How a session ends: what was read of its source, and what was put of its answers
--- (docs/FORMATS.md, "Sessions").
+-- (docs/FORMATS-OF-SCRIPTS.md, "Sessions").
 use Rattle.std.specs.Prelude.{◌≡◌, ◌⊎◌, ◌≤◌, ◌<◌, ℕ, nat_lt, true, false, List, ◌++◌, length, take}
 use Rattle.std.specs.Prelude.{Option, IsTrue, if◌then◌else◌}
 use Rattle.viz_base.specs.Faults.{Rose}

@@ -1,4 +1,4 @@
--- What the lines of a session ask for (docs/FORMATS.md, "Sessions").
+-- What the lines of a session ask for (docs/FORMATS-OF-SCRIPTS.md, "Sessions").
 use Rattle.std.specs.Prelude.{ℕ, ◌+◌, Bool, true, false, ◌||◌, List, [], ◌∷◌, ◌++◌, codes}
 use Rattle.std.specs.Prelude.{Option, None, Some, is_some, Result, Ok, Err, if◌then◌else◌}
 use Rattle.viz_kinds.specs.Values.{is_text}
@@ -66,9 +66,13 @@ breaks_batch batch (asks asked) = is_some batch
 abbrev pub standing : Option (List Edit) → Demand → Result Demand ScriptRefusal
 standing batch demand = if breaks_batch batch demand then Err refusal.Batch else Ok demand
 
+-- the same, where a line may have a refusal of its own
+abbrev pub stood : Option (List Edit) → Result Demand ScriptRefusal → Result Demand ScriptRefusal
+stood batch demanded = demanded >>= standing batch
+
 -- what a line demands there, or why it is refused
 abbrev pub demand_in : Option (List Edit) → Option (List ℕ) → Result Demand ScriptRefusal
-demand_in batch line = own_in line >>= standing batch
+demand_in batch line = stood batch (own_in line)
 
 -- the batch that is open behind a demand
 abbrev pub batch_behind : Option (List Edit) → Demand → Option (List Edit)

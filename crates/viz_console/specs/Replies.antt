@@ -1,4 +1,4 @@
--- The answers of a session, and their text (docs/FORMATS.md, "Sessions").
+-- The answers of a session, and their text (docs/FORMATS-OF-SCRIPTS.md, "Sessions").
 use Rattle.std.specs.Prelude.{ℕ, List, [], ◌∷◌, ◌++◌, flat_map, codes}
 use Rattle.viz_words.specs.declared.refusal.ScriptRefusal.{ScriptRefusal}
 use Rattle.viz_words.specs.Refusals.{refusal_word}

@@ -1,14 +1,14 @@
 //! What is to be done for a line.
 
 ghost use Rattle.std.specs.Prelude.{◌≡◌, ◌+◌, ◌<◌, ◌^◌, false, option_map, IfOk};
-ghost use Rattle.viz_words.specs.Gives.{◌>>=◌};
 ghost use Rattle.viz_script.specs.Orders.{seen};
-ghost use Rattle.viz_console.specs.Lines.{start, standing, served, count_of};
+ghost use Rattle.viz_console.specs.Lines.{start, stood, served, count_of};
 ghost use Rattle.viz_console.specs.Steps.Heard.{heard_result, due_in, quits_by, Acts};
 
 use crate::line::Said;
 use crate::open_batch::OpenBatch;
 use std::alloc::{AllocError, Global};
+use std::marker::Model;
 use viz_script::{Order, ScriptRefusal};
 
 /// What is to be done for a line.
@@ -62,7 +62,8 @@ impl Place {
         ensures due { due_in result ≡ served (self.old.commands + 1) (option_map seen order) }
         ensures goes_on { quits_by result ≡ false }
         ensures after { self.new ≡ record self.old {
-            commands = self.old.commands + count_of (option_map seen order) } }
+          commands = self.old.commands + count_of (option_map seen order);
+        } }
     {
         match order {
             None => Act::Nothing,
@@ -82,7 +83,7 @@ impl Place {
     ) -> Result<Act, AllocError>
         requires lines { self.old.lines + 1 < 2 ^ 64 }
         ensures acts { IfOk result (λ act. Acts self.old
-            (heard_result said >>= standing self.old.batch) act self.new) }
+            (stood self.old.batch (heard_result said)) act self.new) }
     {
         self.lines += 1;
         let line = self.lines;

@@ -18,14 +18,8 @@ use viz_source::{LineReader, Source};
 /// history from its start. Files are read and written by `port`, answers are put to `out`, and
 /// `gate` is what tasks pass.
 ///
-/// Lines and answers are those of docs/FORMATS.md, "Sessions".
-pub fn serve<
-    R: Threads + Wait + Sync + AllocGlobal,
-    S: Source,
-    P: Port,
-    O: Out,
-    G: Gate + Sync,
->(
+/// Lines and answers are those of docs/FORMATS-OF-SCRIPTS.md, "Sessions".
+pub fn serve<R: Threads + Wait + Sync + AllocGlobal, S: Source, P: Port, O: Out, G: Gate + Sync>(
     rt: &R,
     source: &mut S,
     port: &mut P,

@@ -4,7 +4,7 @@
 //! the other, which have the account of one actor; the end is the one that the bytes call for,
 //! unless a call failed or memory ran out. Definitions: `specs/Sessions.antt` for a whole session,
 //! `specs/Ends.antt` for its ends, `specs/Replies.antt` for the text, `specs/Lines.antt` for what
-//! lines ask for; the rules are those of docs/FORMATS.md, "Sessions".
+//! lines ask for; the rules are those of docs/FORMATS-OF-SCRIPTS.md, "Sessions".
 #![tactic(auto)]
 
 mod acts;

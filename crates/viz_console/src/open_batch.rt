@@ -29,9 +29,9 @@ impl Model for OpenBatch {
 
     ghost Value = { Option (List Item) };
 
-    ghost view = { λ open. option_map (λ v. v.items) open.edits };
+    ghost view = { λ held. option_map (λ v. v.items) held.edits };
 
-    ghost invariant = { λ open. IsSized (option_map (λ v. v.items) open.edits) };
+    ghost invariant = { λ held. IsSized (option_map (λ v. v.items) held.edits) };
 }
 
 impl OpenBatch {

@@ -129,7 +129,7 @@ pub fn serve_lines<R: Threads + Wait + Sync, S: Source, P: Port, O: Out, G: Gate
     let mut reader = reader;
     let mut place = Place::start();
     let mut text = Vec::new(alloc);
-    loop {
+    'lines: loop {
         let (back, came) = turn(
             rt,
             alloc,

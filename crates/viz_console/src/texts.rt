@@ -28,7 +28,10 @@ fn add_behind(text: &mut Vec<u8>, line: &Line) -> Result<(), AllocError>
 {
     match line {
         Line::File {
-            at, cells, points, ..
+            at,
+            cells,
+            points,
+            ..
         } => {
             put_number(text, b" at ", u64::from(*at))?;
             put_number(text, b" cells ", *cells)?;

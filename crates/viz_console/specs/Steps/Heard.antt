@@ -1,6 +1,6 @@
 -- What the code has heard of a line, and what it does then: words of private contracts alone.
-use Rattle.std.specs.Prelude.{◌≡◌, ◌≤◌, Bool, true, false, List, [], ◌∷◌, length, Unit}
-use Rattle.std.specs.Prelude.{Option, None, Some, option_map, Result, Ok, Err, vec_len}
+use Rattle.std.specs.Prelude.{◌≡◌, ◌≤◌, Bool, true, false, List, [], ◌∷◌, length}
+use Rattle.std.specs.Prelude.{Option, None, Some, Result, Ok, Err}
 use Rattle.viz_network.specs.declared.edit.Edit.{Edit}
 use Rattle.viz_batches.specs.Batches.{batch_limit}
 use Rattle.viz_words.specs.declared.refusal.ScriptRefusal.{ScriptRefusal}

@@ -1,5 +1,5 @@
 -- How far a session has come: words of private contracts alone.
-use Rattle.std.specs.Prelude.{◌≡◌, ◌×◌, ℕ, ◌≤◌, Bool, true, false, List, [], ◌∷◌, ◌++◌, map, IsTrue}
+use Rattle.std.specs.Prelude.{◌≡◌, ℕ, ◌≤◌, Bool, true, false, List, [], ◌∷◌, ◌++◌, map, IsTrue}
 use Rattle.std.specs.Prelude.{Option, None, Some, Result, Ok, Err}
 use Rattle.viz_base.specs.Faults.{Rose}
 use Rattle.viz_base.specs.Texts.{AppendsPrefix}
@@ -45,8 +45,10 @@ Puts o text (Some end.Memory) before after = IsTrue o.tells_text
 Puts o text (Some e) before after = ⊥
 
 -- the same, where a quit puts nothing
-abbrev pub PutsBy : {O : Type 0} → out.Ghosts O → Bool → List Reply → Option End → O → O → Type 0
-PutsBy o true replies came before after = (came ≡ Some end.Quit) × (after ≡ before) × (replies ≡ [])
+abbrev pub PutsBy : {O : Type 0} → out.Ghosts O → Bool → List Reply → Option End → O → O
+    → Type 0
+PutsBy o true replies came before after = (came ≡ Some end.Quit) × (after ≡ before)
+    × (replies ≡ [])
 PutsBy o false replies came before after = Puts o (text_of replies) came before after
 
 -- what was due by an act was answered, up to the end that came at it
