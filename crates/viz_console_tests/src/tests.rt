@@ -195,7 +195,7 @@ fn a_batch_is_one_command(rt: HostRuntime) -> Result<(), Fail> {
     for (lines, answers, end) in [
         (
             "begin\nadd crop a\nadd crop b\nend\nadd crop c\n",
-            "edit 1 at 2\nedit 2 at 3\n",
+            "edit 1 at 1\nedit 2 at 2\n",
             End::Closed,
         ),
         // a bad line leaves the batch open, and so does an end of no edit
