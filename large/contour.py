@@ -166,7 +166,7 @@ class Run:
                                            sum(it.triangles for it in mine)):
             raise ValueError("%s doesn't add up" % path)
         self.log.say("%s at %d: %d triangles, %d points, %d more at seams, %s" % (
-            volume.name, level, triangles, points, seams, path))
+            volume.name, level, triangles, points, seams, os.path.relpath(path)))
 
     def all(self):
         """Contours all volumes: the slabs of all are handed out before the first is waited for."""
