@@ -1,6 +1,6 @@
 #!/usr/bin/env python3
-"""Types command lines at the built program: help, the version, folders, words that are none, and
-progress on a terminal.
+"""Types command lines at the built program: help, the version, folders, words that are none,
+progress on a terminal, and a person at a session.
 
 The program is crates/viz_cli/out/viz_cli, or the one that is named.
 """
@@ -9,6 +9,7 @@ import pty
 import subprocess
 import sys
 import tempfile
+import termios
 
 TOP = os.path.dirname(os.path.dirname(os.path.abspath(__file__)))
 PROGRAM = os.path.join(TOP, "crates/viz_cli/out/viz_cli")
@@ -18,7 +19,7 @@ USAGE = (1, b"vizrun: usage\n")
 # What help names: the words, and the statuses.
 HELP = [b"\n  once IN OUT threshold LO HI ", b"\n  once IN OUT contour V ", b"\n  strip IN OUT ",
         b"\n  clip IN OUT A B C R ", b"\n  run SCRIPT JOURNAL ", b"\n  scratch JOURNAL N SINK OUT ",
-        b"\n  migrate JOURNAL OUT ", b"\n  make NUMBER NX NY NZ OUT ", b"--dir", b"--progress"]
+        b"\n  migrate JOURNAL OUT ", b"\n  console ", b"\n  make NUMBER NX NY NZ OUT ", b"--dir", b"--progress"]
 HELP += [b"\n  %d  " % status for status in range(6)]
 VERSION = b"""vizrun 0.9.0
 Before 1.0 scripts, journals, reports and written files may change with the
@@ -32,7 +33,7 @@ NONE = [[], ["--help", "x"], ["x", "--help"], ["--version", "--help"], ["--dir"]
         ["strip", "b.vtk"], ["strip", "b.vtk", "o.vtk", "x"], ["strip", "b.vtk", ".o.vtk"],
         ["clip", "b.vtk", "o.vtk", "1", "2", "3"], ["clip", "b.vtk", "o.vtk", "0", "0", "0", "1"],
         ["clip", "b.vtk", "o.vtk", "1", "2", "3", "-2147483648"],
-        ["migrate", "j"], ["migrate", "j", "k", "x"], ["migrate", "j", ".k"],
+        ["console", "x"], ["console", ""], ["migrate", "j"], ["migrate", "j", "k", "x"], ["migrate", "j", ".k"],
         ONCE + ["--dir", "folder"], [b"\xff"], ["run", b"s\xff", "j"], ["--dir", b"\xff"] + ONCE]
 # Folders, as they are typed and as they are, below the one that the program is started in.
 FOLDERS = [("folder", "folder"), ("folder/", "folder"), ("-", "-"), ("", "."), (".", ".")]
@@ -46,6 +47,8 @@ SCRIPT = b"""1 add file src
 1 update op o.vtk 1 1
 """
 SHOWN = b"1 tasks\r2 tasks\r\x1b[K"
+WELCOME = (b"A command a line, as `add file src`; `quit` or control-D ends."
+           b" The words stand in docs/CONSOLE.md.\r\n")
 errors = []
 
 
@@ -126,6 +129,27 @@ def check_progress(program, folder):
             check(words, run(program, words, place), (0, report))
 
 
+def check_person(program, folder):
+    """A person at a session is told what to type, and has a prompt for each line."""
+    near, far = pty.openpty()
+    kinds = termios.tcgetattr(far)
+    kinds[3] &= ~termios.ECHO
+    termios.tcsetattr(far, termios.TCSANOW, kinds)
+    session = subprocess.Popen([program, "console"], cwd=folder, stdin=far,
+                               stdout=subprocess.PIPE, stderr=far)
+    for line, answer in ((b"add crop a\n", b"edit 1 at 1\n"), (b"help\n", b"bad 2 Word\n")):
+        os.write(near, line)
+        check(["console"], session.stdout.readline(), answer)
+    os.write(near, b"\x04")
+    check(["console"], (session.wait(timeout=60), session.stdout.read()), (0, b""))
+    found = b""
+    while len(found) < len(WELCOME) + 6:
+        found += os.read(near, 4096)
+    check(["console"], found, WELCOME + b"> > > ")
+    os.close(near)
+    os.close(far)
+
+
 def main():
     program = os.path.abspath(sys.argv[1]) if len(sys.argv) > 1 else PROGRAM
     if not os.access(program, os.X_OK):
@@ -139,12 +163,13 @@ def main():
         check("all words", files(folder), [])
         check_folders(program, folder)
         check_progress(program, folder)
+        check_person(program, folder)
     for error in errors:
         print("command line:", error)
     if errors:
         sys.exit(1)
     print("command line: %d lines are answered as docs/FORMATS.md says"
-          % (len(NONE) + len(FOLDERS) + 10))
+          % (len(NONE) + len(FOLDERS) + 11))
 
 
 main()

@@ -11,7 +11,8 @@ PROVED = ["docs/PROVED%s.md" % it for it in ("", "-OF-UPDATES", "-OF-DATA", "-OF
 PAGES = sorted(os.path.relpath(it, TOP) for where in ("*.md", "bench/*.md", "docs/*.md")
                for it in glob.glob(os.path.join(TOP, where)))
 # The pages whose blocks `.ci/examples.py` types.
-TYPED = ["README.md", "docs/USING.md", "docs/USING-SCRIPTS.md", "docs/USING-FILES.md"]
+TYPED = ["README.md", "docs/USING.md", "docs/USING-SCRIPTS.md", "docs/USING-FILES.md",
+         "docs/CONSOLE.md"]
 # A page is no longer than this many lines.
 MOST_LINES = 400
 SUFFIXES = (".md", ".rt", ".antt", ".txt", ".py", ".vtk", ".edit", ".sh")

@@ -282,8 +282,59 @@ def outputs_that_fail(place):
             os.close(stdout)
 
 
+class Session:
+    """A session whose answers are read while it goes on."""
+
+    def __init__(self, place, stdin=subprocess.PIPE):
+        self.it = subprocess.Popen([place.program, "console"], cwd=place.folder, stdin=stdin,
+                                   stdout=subprocess.PIPE, stderr=subprocess.PIPE, bufsize=0)
+
+    def asks(self, line):
+        """Types a line, and waits for its answer."""
+        self.it.stdin.write(line + b"\n")
+        return self.it.stdout.readline()
+
+    def ends(self):
+        """Ends the input. The status, and what still came."""
+        put, shown = self.it.communicate(timeout=60)
+        return self.it.returncode, put, shown
+
+
+def sessions(place):
+    """Each answer comes before the next line is typed, and nothing is shown where the input is no
+    terminal; the input ends, is a folder, or the output is closed early, and the files are whole."""
+    place.put("b.vtk", open(os.path.join(DATA, "b.vtk"), "rb").read())
+    lines = [b"add file src", b"load src b.vtk", b"add threshold op", b"connect src op 1",
+             b"set op range 2 3", b"update op o.vtk 1 1"]
+    answers = [b"edit %d at %d\n" % (n, n) for n in range(1, 6)]
+    answers.append(b"file 6 at 5 cells 0 points 4\n")
+    session = Session(place)
+    for line, answer in zip(lines, answers):
+        wants("the answer to %r" % line, session.asks(line), answer)
+    wants("the end", session.ends(), (0, b"", b""))
+    wants("the file", place.has("o.vtk"), THRESHOLD)
+    session = Session(place)
+    wants("a long line", session.asks(b"#" * 4097), b"bad 1 TooLong\n")
+    wants("a line of 4,096 bytes, and one behind it", session.asks(b"#" * 4096 + b"\nadd crop a"),
+          b"edit 1 at 1\n")
+    session.it.stdin.write(b"add crop b\nadd crop")
+    wants("the last line", session.ends(), (0, b"edit 2 at 2\nbad 5 Arity\n", b""))
+    folder = os.open(place.folder, os.O_RDONLY)
+    wants("an input that fails", Session(place, folder).ends(), (4, b"", b""))
+    os.close(folder)
+    os.remove(place.path("o.vtk"))
+    session = Session(place)
+    for line, answer in zip(lines[:5], answers):
+        wants("the answer to %r" % line, session.asks(line), answer)
+    session.it.stdout.close()
+    session.it.stdin.write(lines[5] + b"\nupdate op p.vtk 1 1\n")
+    wants("the status behind a closed output", session.it.wait(timeout=60), 4)
+    wants("the file behind it", (place.has("o.vtk"), place.has("p.vtk")), (THRESHOLD, None))
+
+
 CHECKS = [files_of_each_size, written_files_of_each_size, a_long_report, names_of_each_length,
-          eight_actors, each_status, full_disks, folders_without_rights, outputs_that_fail]
+          eight_actors, each_status, full_disks, folders_without_rights, outputs_that_fail,
+          sessions]
 
 
 def main():

@@ -23,7 +23,8 @@ import tempfile
 TOP = os.path.dirname(os.path.dirname(os.path.abspath(__file__)))
 PROGRAM = os.path.join(TOP, "crates/viz_cli/out/viz_cli")
 README, FILTERS = "README.md", "docs/FILTERS.md"
-USING = ["docs/USING.md", "docs/USING-SCRIPTS.md", "docs/USING-FILES.md"]
+USING = ["docs/USING.md", "docs/USING-SCRIPTS.md", "docs/USING-FILES.md",
+         "docs/CONSOLE.md"]
 TYPED_PAGES = [README, FILTERS] + USING
 KINDS = "docs/FORMATS-OF-FILTERS.md"
 # Lines that are shown and not typed: their first words, and why. No line that is typed reads a file

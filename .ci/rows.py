@@ -1,7 +1,8 @@
 #!/usr/bin/env python3
 """Types the worked rows at the built program, each in a folder of its own.
 
-A row is a folder of .ci/rows, with the program's files, and `lines`, which are typed in turn. Its
+A row is a folder of .ci/rows, with the program's files, and `lines`, which are typed in turn. What
+stands in its file `stdin` is given to each of them at once, and in a second run byte by byte. Its
 folder `want` has `status`, one for each line; `stdout`, all that was put; `none`, files that don't
 stand there in the end; `same`, lines of files that have the same bytes; and files as they are in
 the end. The values were reckoned by hand or by plain programs.
@@ -17,6 +18,8 @@ import tempfile
 TOP = os.path.dirname(os.path.dirname(os.path.abspath(__file__)))
 PROGRAM = os.path.join(TOP, "crates/viz_cli/out/viz_cli")
 ROWS = os.path.join(TOP, ".ci", "rows")
+# Files of a row that aren't the program's.
+OWN = ("lines", "stdin")
 # Files of `want` that say something of the run.
 TOLD = ("status", "stdout", "none", "same")
 # A rough image of 32 points along each axis, the values 7 i + 11 j + 13 k modulo 17, and what it
@@ -72,21 +75,34 @@ def check(name, what, found, wanted):
         errors.append("%s: %s is %.400r, and not %.400r" % (name, what, found, wanted))
 
 
-def typed(program, lines, folder):
+def run(program, words, folder, given, piece):
+    """The status of a command, and what it put; it is given its input in pieces of this size."""
+    command = subprocess.Popen([program] + words, cwd=folder, stdin=subprocess.PIPE,
+                               stdout=subprocess.PIPE, bufsize=0)
+    for at in range(0, len(given), piece):
+        try:
+            command.stdin.write(given[at:at + piece])
+        except BrokenPipeError:
+            break
+    put, _ = command.communicate(timeout=120)
+    return command.returncode, put
+
+
+def typed(program, lines, folder, given=b"", piece=1 << 20):
     """The statuses of the lines, and all that was put."""
-    done = [subprocess.run([program] + line.split(), cwd=folder, stdin=subprocess.DEVNULL,
-                           stdout=subprocess.PIPE, timeout=120) for line in lines]
-    return [it.returncode for it in done], b"".join(it.stdout for it in done)
+    done = [run(program, line.split(), folder, given, piece) for line in lines]
+    return [status for status, _ in done], b"".join(put for _, put in done)
 
 
-def check_row(program, name, folder):
+def check_row(program, name, folder, piece):
     row = os.path.join(ROWS, name)
     want = os.path.join(row, "want")
     for file in os.listdir(row):
-        if os.path.isfile(os.path.join(row, file)) and file != "lines":
+        if os.path.isfile(os.path.join(row, file)) and file not in OWN:
             shutil.copy(os.path.join(row, file), folder)
     lines = read(os.path.join(row, "lines")).decode().splitlines()
-    statuses, put = typed(program, lines, folder)
+    given = read(os.path.join(row, "stdin")) or b""
+    statuses, put = typed(program, lines, folder, given, piece)
     check(name, "status", statuses, [int(it) for it in read(os.path.join(want, "status")).split()])
     check(name, "what was put", put, read(os.path.join(want, "stdout")))
     for file in (it for it in os.listdir(want) if it not in TOLD):
@@ -118,8 +134,13 @@ def main():
     rough = "large-contour-audited"
     names = sys.argv[2:] or sorted(os.listdir(ROWS)) + [rough]
     for name in names:
-        with tempfile.TemporaryDirectory() as folder:
-            (check_rough if name == rough else check_row)(program, name, folder)
+        pieces = [1 << 20] + [1] * os.path.exists(os.path.join(ROWS, name, "stdin"))
+        for piece in pieces:
+            with tempfile.TemporaryDirectory() as folder:
+                if name == rough:
+                    check_rough(program, name, folder)
+                else:
+                    check_row(program, name, folder, piece)
     for error in errors:
         print("rows:", error)
     if errors:

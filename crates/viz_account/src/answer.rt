@@ -63,7 +63,7 @@ pub enum AuditAnswer {
 impl Answer {
     /// The answer where there is no file.
     pub fn without(missing: Missing, at: u32) -> Answer
-        ensures { result ≡ without missing at }
+        ensures value { result ≡ without missing at }
     {
         match missing {
             Missing::Unknown => Answer::Unknown { at },
@@ -74,7 +74,7 @@ impl Answer {
 
     /// The line of the report.
     pub fn line(&self) -> Line
-        ensures { result ≡ line_of self.now }
+        ensures value { result ≡ line_of self.now }
     {
         match *self {
             Answer::Written {
@@ -105,7 +105,7 @@ impl Answer {
 impl AuditAnswer {
     /// The answer where there are no counts.
     pub fn without(missing: Missing, at: u32) -> AuditAnswer
-        ensures { result ≡ audit_without missing at }
+        ensures value { result ≡ audit_without missing at }
     {
         match missing {
             Missing::Unknown => AuditAnswer::Unknown { at },
@@ -116,7 +116,7 @@ impl AuditAnswer {
 
     /// The line of the report.
     pub fn line(&self) -> Line
-        ensures { result ≡ audit_line_of self.now }
+        ensures value { result ≡ audit_line_of self.now }
     {
         match *self {
             AuditAnswer::Counted { at, audit } => Line::Audit {

@@ -30,6 +30,6 @@ mod updating;
 
 pub use run::run_script;
 pub use script::{Served, serve_script};
-pub use serving::serve_steps;
+pub use serving::{serve_order, serve_steps};
 pub use updating::{audit_node, update};
 pub use viz_account::{Answer, AuditAnswer};

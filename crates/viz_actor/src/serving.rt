@@ -192,9 +192,9 @@ fn count<R: Threads + Wait + Sync, P: Port, G: Gate + Sync>(
     (pass, answer.line())
 }
 
-// Serves one command: an edit, and a batch, is an entry of the history, or is refused; a load reads
-// its file first; an update writes once; an audit calls nothing.
-fn serve<R: Threads + Wait + Sync, P: Port, G: Gate + Sync>(
+/// Serves one command: an edit, and a batch, is an entry of the history, or is refused; a load reads
+/// its file first; an update writes once; an audit calls nothing.
+pub fn serve_order<R: Threads + Wait + Sync, P: Port, G: Gate + Sync>(
     rt: &R,
     alloc: Global,
     hub: &Hub,
@@ -250,7 +250,7 @@ fn serve_step<R: Threads + Wait + Sync, P: Port, G: Gate + Sync>(
     ensures capacity { vec_capacity lines.new ≡ vec_capacity lines.old }
 {
     if step.actor == actor {
-        let (pass, line) = serve(rt, alloc, hub, pass, port, gate, &step.order);
+        let (pass, line) = serve_order(rt, alloc, hub, pass, port, gate, &step.order);
         lines.push_reserved(line);
         pass
     } else {

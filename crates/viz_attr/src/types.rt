@@ -46,7 +46,7 @@ impl Stored {
 
     /// Whether the values are of floating point.
     pub fn is_real(self) -> bool
-        ensures { result ≡ is_real self }
+        ensures value { result ≡ is_real self }
     {
         match self {
             Stored::Whole(_) => false,

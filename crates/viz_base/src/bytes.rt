@@ -22,14 +22,14 @@ impl Model for Bytes {
 impl Bytes {
     /// Holds the bytes that it is given.
     pub fn new(items: Vec<u8>) -> Bytes
-        ensures { result ≡ items.items }
+        ensures value { result ≡ items.items }
     {
         Bytes { items }
     }
 
     /// The bytes, in order.
     pub fn list(&self) -> &[u8]
-        ensures { result.now ≡ self.now }
+        ensures value { result.now ≡ self.now }
     {
         &self.items
     }

@@ -21,21 +21,21 @@ impl<T> Model for Items<T> {
 impl<T> Items<T> {
     /// Holds the values that it is given.
     pub fn new(items: Vec<T>) -> Items<T>
-        ensures { result ≡ items.items }
+        ensures value { result ≡ items.items }
     {
         Items { items }
     }
 
     /// The values, in order.
     pub fn list(&self) -> &[T]
-        ensures { result.now ≡ self.now }
+        ensures value { result.now ≡ self.now }
     {
         &self.items
     }
 
     /// Hands the values out.
     pub fn take(self) -> Vec<T>
-        ensures { result.items ≡ self }
+        ensures value { result.items ≡ self }
     {
         let Items { items } = self;
         items

@@ -27,7 +27,7 @@ impl Model for LongText {
 impl LongText {
     /// A text without a part.
     pub fn new(alloc: Global) -> LongText
-        ensures { result ≡ [] }
+        ensures value { result ≡ [] }
     {
         LongText {
             parts: Vec::new(alloc),
@@ -36,14 +36,14 @@ impl LongText {
 
     /// A text of one part.
     pub fn of(alloc: Global, part: Bytes) -> Result<LongText, AllocError>
-        ensures { IfOk result (λ text. text ≡ part) }
+        ensures value { IfOk result (λ text. text ≡ part) }
     {
         LongText::of_shared(alloc, Shared::new(alloc, part)?)
     }
 
     /// A text of one part, which may have other owners.
     pub fn of_shared(alloc: Global, part: Shared<Bytes>) -> Result<LongText, AllocError>
-        ensures { IfOk result (λ text. text ≡ part) }
+        ensures value { IfOk result (λ text. text ≡ part) }
     {
         let mut text = LongText::new(alloc);
         text.push(part)?;
@@ -52,7 +52,7 @@ impl LongText {
 
     /// Puts a part behind the others.
     pub fn push(&mut self, part: Shared<Bytes>) -> Result<(), AllocError>
-        ensures { OnOk result (self.new ≡ self.old ++ part) }
+        ensures pushed { OnOk result (self.new ≡ self.old ++ part) }
     {
         self.parts.push(part)?;
         Ok(())
@@ -60,14 +60,14 @@ impl LongText {
 
     /// The parts, in order.
     pub fn parts(&self) -> &[Shared<Bytes>]
-        ensures { joined result.now ≡ self.now }
+        ensures value { joined result.now ≡ self.now }
     {
         &self.parts
     }
 
     /// A copy of the whole text.
     pub fn to_bytes(&self, alloc: Global) -> Result<Bytes, AllocError>
-        ensures { IfOk result (λ bytes. bytes ≡ self.now) }
+        ensures value { IfOk result (λ bytes. bytes ≡ self.now) }
     {
         let mut bytes = Vec::with_capacity(alloc, self.len())?;
         for part in &self.parts {

@@ -54,7 +54,7 @@ impl MemoryOut {
 
     /// The text so far.
     pub fn text(&self) -> &[u8]
-        ensures { result.now ≡ ⟦<MemoryOut as Out>⟧.text self.now }
+        ensures value { result.now ≡ ⟦<MemoryOut as Out>⟧.text self.now }
     {
         &self.text
     }

@@ -115,7 +115,7 @@ impl MemoryPort {
 
     /// The file of this name. It is no call: nothing is noted.
     pub fn file(&self, name: &str) -> Option<&Bytes>
-        ensures { option_copied result ≡ ⟦<MemoryPort as Port>⟧.files self.now name.now }
+        ensures value { option_copied result ≡ ⟦<MemoryPort as Port>⟧.files self.now name.now }
     {
         find(&self.files, name.as_bytes())
     }

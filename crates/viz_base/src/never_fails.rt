@@ -57,7 +57,7 @@ impl NeverFails {
 
     /// The file of this name. It is no call: nothing is noted.
     pub fn file(&self, name: &str) -> Option<&Bytes>
-        ensures { option_copied result ≡ ⟦<NeverFails as Port>⟧.files self.now name.now }
+        ensures value { option_copied result ≡ ⟦<NeverFails as Port>⟧.files self.now name.now }
     {
         Some(self.present(name.as_bytes()))
     }

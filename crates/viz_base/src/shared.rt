@@ -21,7 +21,7 @@ impl<T> Model for Shared<T> {
 impl<T: Drop> Shared<T> {
     /// Holds the value. A refused call drops it.
     pub fn new(alloc: Global, value: T) -> Result<Shared<T>, AllocError>
-        ensures { IfOk result (λ shared. shared ≡ value) }
+        ensures value { IfOk result (λ shared. shared ≡ value) }
     {
         match Arc::new(alloc, value) {
             Ok(held) => Ok(Shared { held }),
@@ -33,14 +33,14 @@ impl<T: Drop> Shared<T> {
 impl<T> Shared<T> {
     /// Lends the value.
     pub fn get(&self) -> &T
-        ensures { result.now ≡ self.now }
+        ensures value { result.now ≡ self.now }
     {
         &self.held
     }
 
     /// One owner more of the same value, which isn't copied.
     pub fn copy(&self) -> Result<Shared<T>, AllocError>
-        ensures { IfOk result (λ shared. shared ≡ self.now) }
+        ensures value { IfOk result (λ shared. shared ≡ self.now) }
     {
         let held = Arc::try_clone(&self.held)?;
         Ok(Shared { held })

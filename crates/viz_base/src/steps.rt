@@ -22,7 +22,7 @@ impl<L> Model for Steps<L> {
 impl<L> Steps<L> {
     /// No step so far.
     pub fn new(ledger: L) -> Steps<L>
-        ensures { result ≡ 0 }
+        ensures value { result ≡ 0 }
     {
         Steps { count: 0, ledger }
     }
@@ -30,7 +30,7 @@ impl<L> Steps<L> {
     /// One step more.
     pub fn tick(&mut self)
         requires room { self.old + 1 < 2 ^ 64 }
-        ensures { self.new ≡ self.old + 1 }
+        ensures value { self.new ≡ self.old + 1 }
     {
         self.count += 1;
     }

@@ -67,7 +67,7 @@ fn empty_buckets<T: Drop>(alloc: Global, expected: usize) -> Result<Vec<Vec<T>>,
 impl<T: Numbered + Copy> Buckets<T> {
     /// An empty list, with buckets for as many items as are expected. More may come.
     pub fn new(alloc: Global, expected: usize) -> Result<Buckets<T>, AllocError>
-        ensures { IfOk result (λ b. b ≡ []) }
+        ensures value { IfOk result (λ b. b ≡ []) }
     {
         let all = Vec::new(alloc);
         let buckets = empty_buckets(alloc, expected)?;
@@ -76,7 +76,7 @@ impl<T: Numbered + Copy> Buckets<T> {
 
     /// Adds an item at the end.
     pub fn push(&mut self, item: T) -> Result<(), AllocError>
-        ensures { OnOk result (self.new ≡ self.old ++ item ∷ []) }
+        ensures pushed { OnOk result (self.new ≡ self.old ++ item ∷ []) }
     {
         let at = bucket_of(item.number(), self.buckets.len());
         self.all.reserve(1)?;
@@ -87,21 +87,21 @@ impl<T: Numbered + Copy> Buckets<T> {
 
     /// All items of the number, in the list's order, perhaps with others.
     pub fn bucket(&self, number: u64) -> &[T]
-        ensures { HasAllOf T.number number self.now result.now }
+        ensures value { HasAllOf T.number number self.now result.now }
     {
         &self.buckets[bucket_of(number, self.buckets.len())]
     }
 
     /// The items, in order.
     pub fn list(&self) -> &[T]
-        ensures { result.now ≡ self.now }
+        ensures value { result.now ≡ self.now }
     {
         &self.all
     }
 
     /// Hands the items out.
     pub fn into_list(self) -> Vec<T>
-        ensures { result.items ≡ self }
+        ensures value { result.items ≡ self }
     {
         let Buckets { all, .. } = self;
         all

@@ -88,7 +88,7 @@ impl Cache {
 
     /// How many entries there are.
     pub fn len(&self) -> usize
-        ensures { result ≡ length self.now.entries }
+        ensures value { result ≡ length self.now.entries }
     {
         self.held.len()
     }

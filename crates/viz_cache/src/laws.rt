@@ -7,5 +7,5 @@ ghost use Rattle.viz_cache.specs.Keys.{same_key};
 
 /// Keys are the same exactly where they are equal.
 pub fn same_keys_are_equal()
-    ensures { (a b : Key) → (same_key a b ≡ true) ↔ (a ≡ b) }
+    ensures law { (a b : Key) → (same_key a b ≡ true) ↔ (a ≡ b) }
 {}

@@ -3,6 +3,7 @@
 
 mod options;
 mod progress;
+mod std_in;
 
 use options::{LineOptions, read_options, shown};
 use progress::Progress;
@@ -11,7 +12,9 @@ use std::io::{ErrorKind, IsTerminal};
 use std::process::ExitCode;
 use std::rt::{Env, Files};
 use std::{env, io};
+use std_in::StdIn;
 use viz_base::{ACTORS, Bytes, DirPort, FILE_LIMIT, Out, StdOut, WriteRefusal};
+use viz_console::{End, serve};
 use viz_session::{Status, run};
 use viz_told::usage_line;
 
@@ -20,6 +23,11 @@ const NAME: &str = "vizrun";
 
 /// The folder that vizrun is started in, which the empty text names too.
 const HERE: &str = ".";
+
+/// What a person is told in front of a session.
+const WELCOME: &str = "\
+A command a line, as `add file src`; `quit` or control-D ends. The words stand in docs/CONSOLE.md.
+";
 
 /// The words behind the program's own name.
 fn words<R: Env + AllocGlobal>(rt: &R) -> io::Result<Vec<String>> {
@@ -172,6 +180,32 @@ fn asked<O: Out>(alloc: Global, words: &[String], out: &mut O) -> Wanted {
     }
 }
 
+/// Whether the words ask for a session: the word `console`, alone.
+fn asks_for_session(words: &[Bytes]) -> bool {
+    match words {
+        [word] => word.list() == b"console".as_slice(),
+        _ => false,
+    }
+}
+
+/// The input of a session. A person is told what to type, and has a prompt.
+fn welcomed<R: Input + Eprint>(rt: &R, is_person: bool) -> StdIn<'_, R> {
+    if is_person {
+        let _ = eprint!(rt; "{WELCOME}");
+    }
+    StdIn::new(rt, is_person)
+}
+
+/// The status of a session that ended so.
+fn status_of(end: End) -> Status {
+    match end {
+        End::Closed | End::Quit => Status::Done,
+        End::TooLong => Status::Script,
+        End::Fault => Status::Fault,
+        End::Memory => Status::Memory,
+    }
+}
+
 /// The code of a status.
 fn code(status: Status) -> ExitCode {
     ExitCode::from(status as u8)
@@ -196,10 +230,16 @@ fn main(rt: HostRuntime) -> ExitCode {
     let Ok(mut desk) = DirPort::new(&rt, alloc, folder.as_str(), FILE_LIMIT) else {
         return code(Status::Memory);
     };
+    let gate = Progress::new(&rt, progress && rt.stderr().is_terminal());
+    if asks_for_session(&words) {
+        let mut input = welcomed(&rt, rt.stdin().is_terminal() && rt.stderr().is_terminal());
+        let end = serve(&rt, &mut input, &mut desk, &mut out, &gate);
+        gate.end();
+        return code(status_of(end));
+    }
     let Ok(mut ports) = ports(&rt, alloc, folder.as_str()) else {
         return code(Status::Memory);
     };
-    let gate = Progress::new(&rt, progress && rt.stderr().is_terminal());
     let status = run(&rt, alloc, &words, &mut desk, &mut ports, &mut out, &gate);
     gate.end();
     code(status)

@@ -16,6 +16,7 @@ WORDS are one of:
   run SCRIPT JOURNAL           serve a script, keep its edits and put a report
   scratch JOURNAL N SINK OUT   write the file of SINK after the first N entries
   migrate JOURNAL OUT          write a journal anew in version 2
+  console                      answer each line of the standard input at once
   make NUMBER NX NY NZ OUT     write a volume made of a number, and audit it
 
 All files lie in DIR; their names have no slash.
@@ -23,7 +24,7 @@ All files lie in DIR; their names have no slash.
 The program ends with the status
   0  all was done
   1  the words are no command
-  2  the script or journal isn't one
+  2  the script or journal isn't one, or a session's input is too long
   3  something was refused
   4  a file or the output failed
   5  memory ran out";

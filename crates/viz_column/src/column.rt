@@ -51,7 +51,7 @@ macro_rules! each {
 impl Column {
     /// No number yet.
     pub fn new(alloc: Global, kind: Kind8) -> Column
-        ensures { result ≡ record { kind = kind; items = [] } }
+        ensures value { result ≡ record { kind = kind; items = [] } }
     {
         let typed = match kind {
             Kind8::I8 => Typed::I8(Vec::new(alloc)),
@@ -68,7 +68,7 @@ impl Column {
 
     /// No number yet, with room for so many: `push` takes no memory for them.
     pub fn with_room(alloc: Global, kind: Kind8, room: usize) -> Result<Column, AllocError>
-        ensures { IfOk result (λ c. c ≡ record { kind = kind; items = [] }) }
+        ensures value { IfOk result (λ c. c ≡ record { kind = kind; items = [] }) }
     {
         let typed = match kind {
             Kind8::I8 => Typed::I8(Vec::with_capacity(alloc, room)?),
@@ -85,7 +85,7 @@ impl Column {
 
     /// The column of these numbers, which it takes over as they stand.
     pub fn of<T: Number>(numbers: Vec<T>) -> Column
-        ensures { result ≡ record { kind = T.kind; items = map T.value numbers.items } }
+        ensures value { result ≡ record { kind = T.kind; items = map T.value numbers.items } }
     {
         show_range(&numbers);
         let typed = T::typed(numbers);
@@ -94,7 +94,7 @@ impl Column {
 
     /// The type of the numbers.
     pub fn kind(&self) -> Kind8
-        ensures { result ≡ self.now.kind }
+        ensures value { result ≡ self.now.kind }
     {
         match &self.typed {
             Typed::I8(_) => Kind8::I8,
@@ -138,7 +138,7 @@ impl Column {
     /// The numbers in these bytes, the highest byte of each first: a block of a file.
     pub fn from_be(alloc: Global, kind: Kind8, bytes: &[u8]) -> Result<Column, AllocError>
         requires { IsBlock kind bytes.now }
-        ensures { IfOk result (λ c. c ≡ numbers_of kind bytes.now) }
+        ensures value { IfOk result (λ c. c ≡ numbers_of kind bytes.now) }
     {
         let column = match kind {
             Kind8::I8 => Column::of(i8::from_block(alloc, bytes)?),
@@ -155,7 +155,7 @@ impl Column {
 
     /// The bytes of the numbers, the highest byte of each first.
     pub fn to_be(&self, alloc: Global) -> Result<Vec<u8>, AllocError>
-        ensures { IfOk result (λ v. v.items ≡ block_of self.now) }
+        ensures value { IfOk result (λ v. v.items ≡ block_of self.now) }
     {
         each!(&self.typed, numbers => Number::to_block(alloc, numbers))
     }

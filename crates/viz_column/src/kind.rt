@@ -33,7 +33,7 @@ impl Kind8 {
 
     /// Whether a number lies in the range, as `Column::push` needs it.
     pub fn fits(self, n: i128) -> bool
-        ensures { IsTrue result ↔ (fits self n ≡ true) }
+        ensures value { IsTrue result ↔ (fits self n ≡ true) }
     {
         match self {
             Kind8::I8 => i8::try_from(n).is_ok(),

@@ -21,11 +21,11 @@ pub trait Number: Copy {
 
     /// The kind of a column of these numbers.
     fn kind() -> Kind8
-        ensures { result ≡ kind };
+        ensures value { result ≡ kind };
 
     /// The number 0.
     fn zero() -> Self
-        ensures { value result ≡ pos 0 };
+        ensures value { value result ≡ pos 0 };
 
     /// The number n, where it lies in the range of the type.
     fn of_whole(n: i128) -> Option<Self>
@@ -40,16 +40,16 @@ pub trait Number: Copy {
     /// The numbers in these bytes, the highest byte of each first.
     fn from_block(alloc: Global, bytes: &[u8]) -> Result<Vec<Self>, AllocError>
         requires { IsBlock kind bytes.now }
-        ensures { IfOk result (λ v. map value v.items ≡ numbers_in kind bytes.now) };
+        ensures value { IfOk result (λ v. map value v.items ≡ numbers_in kind bytes.now) };
 
     /// The bytes of these numbers, the highest byte of each first.
     fn to_block(alloc: Global, numbers: &[Self]) -> Result<Vec<u8>, AllocError>
-        ensures { IfOk result (λ v.
+        ensures value { IfOk result (λ v.
             v.items ≡ block_of (record { kind = kind; items = map value numbers.now })) };
 
     /// These numbers, as a column keeps them: call `Column::of`.
     fn typed(numbers: Vec<Self>) -> Typed
-        ensures { held_by result ≡ record { kind = kind; items = map value numbers.items } };
+        ensures value { held_by result ≡ record { kind = kind; items = map value numbers.items } };
 
     /// What a column lends, where it is of this type: call `Column::numbers`.
     fn lent(lent: Lent<'_>) -> Option<&[Self]>

@@ -44,7 +44,7 @@ impl Number for i8 {
     }
 
     fn typed(numbers: Vec<i8>) -> Typed
-        ensures { held_by result ≡ record { kind = I8; items = map (λ n. n) numbers.items } }
+        ensures value { held_by result ≡ record { kind = I8; items = map (λ n. n) numbers.items } }
     {
         Typed::I8(numbers)
     }
@@ -91,7 +91,7 @@ impl Number for i16 {
     }
 
     fn typed(numbers: Vec<i16>) -> Typed
-        ensures { held_by result ≡ record { kind = I16; items = map (λ n. n) numbers.items } }
+        ensures value { held_by result ≡ record { kind = I16; items = map (λ n. n) numbers.items } }
     {
         Typed::I16(numbers)
     }
@@ -138,7 +138,7 @@ impl Number for i32 {
     }
 
     fn typed(numbers: Vec<i32>) -> Typed
-        ensures { held_by result ≡ record { kind = I32; items = map (λ n. n) numbers.items } }
+        ensures value { held_by result ≡ record { kind = I32; items = map (λ n. n) numbers.items } }
     {
         Typed::I32(numbers)
     }
@@ -185,7 +185,7 @@ impl Number for i64 {
     }
 
     fn typed(numbers: Vec<i64>) -> Typed
-        ensures { held_by result ≡ record { kind = I64; items = map (λ n. n) numbers.items } }
+        ensures value { held_by result ≡ record { kind = I64; items = map (λ n. n) numbers.items } }
     {
         Typed::I64(numbers)
     }

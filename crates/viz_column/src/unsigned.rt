@@ -42,7 +42,7 @@ impl Number for u8 {
     }
 
     fn typed(numbers: Vec<u8>) -> Typed
-        ensures { held_by result ≡ record { kind = U8; items = map (λ n. pos n) numbers.items } }
+        ensures value { held_by result ≡ record { kind = U8; items = map (λ n. pos n) numbers.items } }
     {
         Typed::U8(numbers)
     }
@@ -89,7 +89,7 @@ impl Number for u16 {
     }
 
     fn typed(numbers: Vec<u16>) -> Typed
-        ensures { held_by result ≡ record { kind = U16; items = map (λ n. pos n) numbers.items } }
+        ensures value { held_by result ≡ record { kind = U16; items = map (λ n. pos n) numbers.items } }
     {
         Typed::U16(numbers)
     }
@@ -136,7 +136,7 @@ impl Number for u32 {
     }
 
     fn typed(numbers: Vec<u32>) -> Typed
-        ensures { held_by result ≡ record { kind = U32; items = map (λ n. pos n) numbers.items } }
+        ensures value { held_by result ≡ record { kind = U32; items = map (λ n. pos n) numbers.items } }
     {
         Typed::U32(numbers)
     }
@@ -183,7 +183,7 @@ impl Number for u64 {
     }
 
     fn typed(numbers: Vec<u64>) -> Typed
-        ensures { held_by result ≡ record { kind = U64; items = map (λ n. pos n) numbers.items } }
+        ensures value { held_by result ≡ record { kind = U64; items = map (λ n. pos n) numbers.items } }
     {
         Typed::U64(numbers)
     }

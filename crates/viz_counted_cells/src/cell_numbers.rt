@@ -37,21 +37,21 @@ impl Model for CellNumbers {
 impl CellNumbers {
     /// The numbers that these arrays keep.
     pub fn of(arrays: CellArrays) -> CellNumbers
-        ensures { result.items ≡ numbers_held arrays }
+        ensures value { result.items ≡ numbers_held arrays }
     {
         CellNumbers { arrays }
     }
 
     /// The arrays that keep the numbers.
     pub fn arrays(&self) -> &CellArrays
-        ensures { numbers_held result.now ≡ self.now.items }
+        ensures value { numbers_held result.now ≡ self.now.items }
     {
         &self.arrays
     }
 
     /// The arrays that keep the numbers, which are given up.
     pub fn into_arrays(self) -> CellArrays
-        ensures { numbers_held result ≡ self.items }
+        ensures value { numbers_held result ≡ self.items }
     {
         let CellNumbers { arrays } = self;
         arrays
@@ -68,7 +68,7 @@ impl CellNumbers {
 
     /// All the numbers in one array, which is their own where they stand in one.
     pub fn into_list(self, alloc: Global) -> Result<Vec<u32>, AllocError>
-        ensures { IfOk result (λ v. v.items ≡ self.items) }
+        ensures value { IfOk result (λ v. v.items ≡ self.items) }
     {
         match self.into_arrays() {
             CellArrays::Mixed(numbers) => Ok(numbers),

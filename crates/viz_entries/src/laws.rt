@@ -7,5 +7,5 @@ ghost use Rattle.viz_entries.specs.History.{own_of, IsLegal, AreCountedFrom};
 
 /// In a legal history the entries of each pass are counted from 1.
 pub fn own_entries_are_counted()
-    ensures { (h : List Entry) (pass : ℕ) → IsLegal h → AreCountedFrom 1 (own_of pass h) }
+    ensures law { (h : List Entry) (pass : ℕ) → IsLegal h → AreCountedFrom 1 (own_of pass h) }
 {}

@@ -37,7 +37,7 @@ pub fn value(form: &Form, p: &Point5) -> Result<i128, TooWide>
 
 /// A point is inside where the form's value there is at least 0.
 pub fn is_inside(value: i128) -> bool
-    ensures { IsTrue result ↔ (pos 0 ≤ℤ value) }
+    ensures value { IsTrue result ↔ (pos 0 ≤ℤ value) }
 {
     value >= 0
 }

@@ -8,7 +8,7 @@ const MOST: u64 = (1 << 31) - 1;
 /// Whether so many points, and cells of so many numbers in all, may be written: at most 2^31 - 1 of
 /// each.
 pub fn counts_fit(points: u64, size: u64) -> bool
-    ensures { IsTrue result ↔ ((points < 2 ^ 31) × (size < 2 ^ 31)) }
+    ensures value { IsTrue result ↔ ((points < 2 ^ 31) × (size < 2 ^ 31)) }
 {
     points <= MOST && size <= MOST
 }

@@ -19,7 +19,7 @@ fn fault_at<X>(table: &[Option<Result<X, Fault>>], place: &Option<usize>) -> Opt
 
 /// The first fault at the places that feed the ports, port 1 first.
 pub fn fault_in<X>(table: &[Option<Result<X, Fault>>], places: &[Option<usize>]) -> Option<Fault>
-    ensures { result ≡ first_fault table.now places.now }
+    ensures value { result ≡ first_fault table.now places.now }
 {
     for place in places {
         if let Some(fault) = fault_at(table, place) {

@@ -88,7 +88,7 @@ pub fn information_fault(
 ) -> Result<Option<Fault>, AllocError>
     requires steps { AreSteps net.now steps.now }
     requires at { slice_get (nodes_of steps.now) sink ≡ Some node }
-    ensures { IfOk result (IsInformedAs (IsGiven InformationRule (cone_of net.now node.0))) }
+    ensures value { IfOk result (IsInformedAs (IsGiven InformationRule (cone_of net.now node.0))) }
 {
     let known = information_pass(alloc, net, steps)?;
     match known.get(sink) {

@@ -49,7 +49,7 @@ pub fn marks_above(
 ) -> Result<Vec<bool>, AllocError>
     requires steps { AreSteps net.now steps.now }
     requires within { sink < length steps.now }
-    ensures { IfOk result (λ marks. AreMarks net.now steps.now sink 0 marks.items) }
+    ensures value { IfOk result (λ marks. AreMarks net.now steps.now sink 0 marks.items) }
 {
     let mut marks = Vec::from_elem(alloc, false, steps.len())?;
     marks[sink] = true;

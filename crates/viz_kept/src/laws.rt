@@ -14,7 +14,7 @@ use viz_node_meaning::scratch_is_one;
 
 /// What is made in the network of a prefix is true of the history.
 pub fn made_is_true()
-    ensures { MadeIsTrue }
+    ensures law { MadeIsTrue }
 {}
 
 /// What is true of a history is true of every longer one, and in its network.
@@ -26,7 +26,7 @@ pub fn true_of_longer()
 /// What stands under the key of an overtaken part is true of the history, whatever the part is: its
 /// node never has the key's stamp again.
 pub fn overtaken_is_true()
-    ensures { OvertakenIsTrue }
+    ensures law { OvertakenIsTrue }
 {}
 
 /// A true part whose node has its stamp is of a node that gives a dataset, and a part of every

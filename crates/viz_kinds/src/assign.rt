@@ -103,7 +103,7 @@ fn op_text(op: Op) -> Word
 
 /// Whether a node has release, after another value of the parameter.
 pub fn release_with(release: bool, param: Param, value: &Value) -> bool
-    ensures { result ≡ released release param value.now }
+    ensures value { result ≡ released release param value.now }
 {
     match (param, value) {
         (Param::Release, Value::Numbers { items, .. }) => items[0] == 1,
@@ -115,7 +115,7 @@ impl Settings {
     /// The settings with another value of the parameter, where the kind has it and it may have
     /// the value.
     pub fn with(&self, param: Param, value: &Value) -> Settings
-        ensures { result ≡ changed self.now param value.now }
+        ensures value { result ≡ changed self.now param value.now }
     {
         match value {
             Value::Numbers { count, items } => self.with_numbers(param, *count, items),
@@ -241,7 +241,7 @@ impl Settings {
     /// The value of the parameter of a node with these settings, and with release or without; None
     /// where the kind hasn't the parameter.
     pub fn value(&self, release: bool, param: Param) -> Option<Value>
-        ensures { result ≡ value_of self.now release param }
+        ensures value { result ≡ value_of self.now release param }
     {
         match param {
             Param::Release => one(i64::from(release)),

@@ -41,7 +41,7 @@ pub enum Kind {
 impl Kind {
     /// How many ports a node of this kind has; they are numbered from 1.
     pub fn ports(self) -> u8
-        ensures { result ≡ ports_of self }
+        ensures value { result ≡ ports_of self }
     {
         match self {
             Kind::File => 0,
@@ -61,7 +61,7 @@ impl Kind {
 
     /// Whether a node of this kind has the parameter.
     pub fn has(self, param: Param) -> bool
-        ensures { result ≡ has_param self param }
+        ensures value { result ≡ has_param self param }
     {
         match param {
             Param::Release => true,

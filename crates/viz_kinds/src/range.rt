@@ -21,7 +21,7 @@ pub struct Range {
 /// Version have to fit together besides, as `allows` says.
 #[rattlefmt::skip]
 pub fn range_of(param: Param) -> Option<Range>
-    ensures { result ≡ numbers_of param }
+    ensures value { result ≡ numbers_of param }
 {
     let takes = |least, most, low, high| Some(Range { least, most, low, high });
     match param {
@@ -41,7 +41,7 @@ pub fn range_of(param: Param) -> Option<Range>
 
 /// Whether the parameter may have the value.
 pub fn allows(param: Param, value: &Value) -> bool
-    ensures { result ≡ is_value param value.now }
+    ensures value { result ≡ is_value param value.now }
 {
     match value {
         Value::Numbers { count, items } => match range_of(param) {

@@ -76,7 +76,7 @@ impl Settings {
     /// The parameters of a new node.
     #[rattlefmt::skip]
     pub fn new(kind: Kind) -> Settings
-        ensures { result ≡ defaults kind }
+        ensures value { result ≡ defaults kind }
     {
         const LAST: u32 = 2_147_483_647;
         match kind {
@@ -99,7 +99,7 @@ impl Settings {
 
     /// The kind of the node.
     pub fn kind(&self) -> Kind
-        ensures { result ≡ kind_of self.now }
+        ensures value { result ≡ kind_of self.now }
     {
         match self {
             Settings::File { .. } => Kind::File,

@@ -41,7 +41,7 @@ pub fn writes_each_fraction()
 
 /// What `put_decimal` writes is read again, between blanks and whatever ends a word.
 pub fn reads_written_decimals()
-    ensures { (r : Reading) (gap behind : List ℕ) (z : ℤ) → in_limit z ≡ true
+    ensures law { (r : Reading) (gap behind : List ℕ) (z : ℤ) → in_limit z ≡ true
         → IsBlank gap → EndsWord behind → rest_of r ≡ gap ++ (decimal_text z ++ behind)
         → decimal_at r ≡ Ok (z, advanced r (length gap + length (decimal_text z))) }
 {}

@@ -41,7 +41,7 @@ impl<'a> Model for Lexer<'a> {
 impl<'a> Lexer<'a> {
     /// Nothing is read yet.
     pub fn new(bytes: &'a [u8]) -> Lexer<'a>
-        ensures { result ≡ record { bytes = bytes.now; place = 0 } }
+        ensures value { result ≡ record { bytes = bytes.now; place = 0 } }
     {
         Lexer { bytes, place: 0 }
     }
@@ -56,7 +56,7 @@ impl<'a> Lexer<'a> {
 
     /// All the bytes, read or not: the place of a fault at the end is their number.
     pub fn bytes(&self) -> &'a [u8]
-        ensures { result.now ≡ self.now.bytes }
+        ensures value { result.now ≡ self.now.bytes }
     {
         self.bytes
     }
@@ -65,7 +65,7 @@ impl<'a> Lexer<'a> {
     pub fn text(&self, span: &Span) -> &'a [u8]
         requires ordered { span.now.start ≤ span.now.«end» }
         requires within { span.now.«end» ≤ length self.now.bytes }
-        ensures { result.now ≡ text_of self.now span.now }
+        ensures value { result.now ≡ text_of self.now span.now }
     {
         &self.bytes[span.start as usize..span.end as usize]
     }

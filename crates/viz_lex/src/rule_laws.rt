@@ -54,7 +54,7 @@ pub trait RuleAmong {
 /// Where a reader decides a rule, each place has exactly one value or exactly one fault.
 pub fn decided_rules_are_definite<R: AnyRule>()
     requires { Decides (record { is = R.is; isnt = R.isnt }) R.read }
-    ensures { IsDefinite (record { is = R.is; isnt = R.isnt }) }
+    ensures law { IsDefinite (record { is = R.is; isnt = R.isnt }) }
 {}
 
 /// Words, whole numbers, decimals, keywords, the end of a line, blocks of bytes and what is passed
@@ -100,7 +100,7 @@ pub fn following_rules_are_decided<A: AnyRule, B: RuleKnowing<A::Value>>()
     requires first { Decides (record { is = A.is; isnt = A.isnt }) A.read }
     requires second { (x : A.Value)
         → Decides (record { is = B.is x; isnt = B.isnt x }) (B.read x) }
-    ensures { Decides
+    ensures law { Decides
         (follow (record { is = A.is; isnt = A.isnt })
         (λ x. record { is = B.is x; isnt = B.isnt x }))
         (λ r. after (A.read r) (λ x. B.read x.0 x.1)) }
@@ -109,7 +109,7 @@ pub fn following_rules_are_decided<A: AnyRule, B: RuleKnowing<A::Value>>()
 /// So many, one behind the other.
 pub fn repeated_rules_are_decided<R: AnyRule>()
     requires { Decides (record { is = R.is; isnt = R.isnt }) R.read }
-    ensures { (n : ℕ)
+    ensures law { (n : ℕ)
         → Decides (times n (record { is = R.is; isnt = R.isnt })) (times_at R.read n) }
 {}
 
@@ -117,7 +117,7 @@ pub fn repeated_rules_are_decided<R: AnyRule>()
 pub fn knowing_rules_are_decided<R: RuleAmong>()
     requires { (before : List R.Value)
         → Decides (record { is = R.is before; isnt = R.isnt before }) (R.read before) }
-    ensures { (n : ℕ)
+    ensures law { (n : ℕ)
         → Decides
         (times_knowing n (λ before. record { is = R.is before; isnt = R.isnt before }))
         (known_at R.read n []) }
@@ -126,14 +126,14 @@ pub fn knowing_rules_are_decided<R: RuleAmong>()
 /// All to the end of the text, where each takes at least a byte.
 pub fn rules_to_the_end_are_decided<R: RuleAmong>()
     requires { Moves (λ before. record { is = R.is before; isnt = R.isnt before }) R.read }
-    ensures { Decides
+    ensures law { Decides
         (to_the_end (λ before. record { is = R.is before; isnt = R.isnt before }))
         (λ r. all_at R.read (suc (length r.bytes)) [] r) }
 {}
 
 /// As many as there are where a test holds, where each takes at least a byte.
 pub fn skipped_rules_are_decided<R: AnyRule>()
-    ensures { (test : Reading → Bool)
+    ensures law { (test : Reading → Bool)
         → Skips test (record { is = R.is; isnt = R.isnt }) R.read
         → Decides
         (skip test (record { is = R.is; isnt = R.isnt }))

@@ -16,7 +16,7 @@ use crate::scan::is_blank;
 
 /// Whether two words are the same but for the case of letters.
 pub fn is_word(text: &[u8], keyword: &[u8]) -> bool
-    ensures { result ≡ same_word text.now keyword.now }
+    ensures value { result ≡ same_word text.now keyword.now }
 {
     text.eq_ignore_ascii_case(keyword)
 }
@@ -33,7 +33,7 @@ fn is_left_out(word: &[u8]) -> bool
 /// The fault of a word that stands in the place of a keyword and is none that may stand there:
 /// Unsupported exactly at a keyword of the format that isn't read here, else Keyword.
 pub fn keyword_fault(place: u64, word: &[u8]) -> FileFault
-    ensures { result ≡ fault_at (keyword_kind word.now) place }
+    ensures value { result ≡ fault_at (keyword_kind word.now) place }
 {
     let kind = if is_left_out(word) {
         FileKind::Unsupported
@@ -76,7 +76,7 @@ impl<'a> Lexer<'a> {
     /// The next word, which is due to be a whole number: its place and the number.
     #[tactic(auto, unfolding(crate::specs::Steps::due_number))]
     pub fn due_number(&mut self) -> Result<(u64, i128), FileFault>
-        ensures { Reads (λ n. n) result self.new (due_number self.old) }
+        ensures value { Reads (λ n. n) result self.new (due_number self.old) }
     {
         let (place, word) = self.due_word()?;
         let n = number(word, place)?;
@@ -102,7 +102,7 @@ impl<'a> Lexer<'a> {
     /// The next word, which is due to be this keyword, in any case of letters.
     #[tactic(auto, unfolding(crate::specs::Steps::keyword_at))]
     pub fn due_keyword(&mut self, keyword: &[u8]) -> Result<(), FileFault>
-        ensures { Reads (λ done. done) result self.new (keyword_at keyword.now self.old) }
+        ensures value { Reads (λ done. done) result self.new (keyword_at keyword.now self.old) }
     {
         let (place, word) = self.due_word()?;
         if !is_word(word, keyword) {
@@ -113,7 +113,7 @@ impl<'a> Lexer<'a> {
 
     /// Whether the next word is this one, in any case of letters.
     pub fn is_next(&self, keyword: &[u8]) -> bool
-        ensures { result ≡ is_next keyword.now self.now }
+        ensures value { result ≡ is_next keyword.now self.now }
     {
         match self.ahead() {
             Some(span) => is_word(self.text(&span), keyword),
@@ -124,7 +124,7 @@ impl<'a> Lexer<'a> {
     /// Passes METADATA over, with its lines, where that word stands next, in any case of letters.
     #[tactic(auto, unfolding(crate::specs::Readers::any_metadata_at))]
     pub fn any_metadata(&mut self) -> Result<(), FileFault>
-        ensures { Reads (λ done. done) result self.new (any_metadata_at self.old) }
+        ensures value { Reads (λ done. done) result self.new (any_metadata_at self.old) }
     {
         if self.is_next(b"METADATA") {
             self.due_word()?;
@@ -135,14 +135,14 @@ impl<'a> Lexer<'a> {
 
     /// Whether only blanks are left.
     pub fn is_done(&self) -> bool
-        ensures { result ≡ not (has (word_at self.now)) }
+        ensures value { result ≡ not (has (word_at self.now)) }
     {
         self.ahead().is_none()
     }
 
     /// Whether a byte that is no blank stands before the next newline.
     pub fn is_beside(&self) -> bool
-        ensures { result ≡ is_beside self.now }
+        ensures value { result ≡ is_beside self.now }
     {
         continues(&self.bytes()[self.place() as usize..])
     }

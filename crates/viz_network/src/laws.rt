@@ -25,11 +25,11 @@ pub fn networks_are_sound()
 /// Where a node has equal stamps in the networks of a history and of a longer one, it has equal
 /// cones in them, with all parameters and files.
 pub fn equal_stamps_are_equal_cones()
-    ensures { EqualStamps }
+    ensures law { EqualStamps }
 {}
 
 /// A stamp that a node has lost never comes back: where it isn't past a history, and the node has
 /// it in the network of a longer one, the node has it in that of the history.
 pub fn stamps_stay()
-    ensures { StampsStay }
+    ensures law { StampsStay }
 {}

@@ -58,7 +58,7 @@ fn copy_order(order: &Vec<NodeId>) -> Result<Vec<NodeId>, AllocError>
 impl Net {
     /// A network without nodes.
     pub fn new(alloc: Global) -> Net
-        ensures { result ≡ [] }
+        ensures value { result ≡ [] }
     {
         Net {
             nodes: IndexMap::new(alloc),
@@ -68,7 +68,7 @@ impl Net {
 
     /// The same network. The bytes of its files aren't copied.
     pub fn copy(&self) -> Result<Net, AllocError>
-        ensures { IfOk result (λ net. net ≡ self.now) }
+        ensures value { IfOk result (λ net. net ≡ self.now) }
     {
         let nodes = copy_nodes(&self.nodes)?;
         let order = copy_order(&self.order)?;
@@ -105,7 +105,7 @@ impl Net {
 
     /// The node of this name.
     pub fn find(&self, node: &Word) -> Option<NodeId>
-        ensures { result ≡ option_map (λ n. n.id) (named self.now node.now) }
+        ensures value { result ≡ option_map (λ n. n.id) (named self.now node.now) }
     {
         let node = node_named(&self.nodes, node)?;
         Some(node.id)
@@ -113,14 +113,14 @@ impl Net {
 
     /// The node, with its settings, what feeds it, its file and its own stamp.
     pub fn node(&self, node: NodeId) -> Option<&Node>
-        ensures { option_copied result ≡ node_of self.now node.0 }
+        ensures value { option_copied result ≡ node_of self.now node.0 }
     {
         node_at(&self.nodes, node)
     }
 
     /// The name of the node.
     pub fn name(&self, node: NodeId) -> Option<Word>
-        ensures { result ≡ name_of self.now node.0 }
+        ensures value { result ≡ name_of self.now node.0 }
     {
         let name = name_at(&self.nodes, node)?;
         Some(*name)
@@ -128,7 +128,7 @@ impl Net {
 
     /// The kind of the node.
     pub fn kind(&self, node: NodeId) -> Option<Kind>
-        ensures { result ≡ option_map kind_at (node_of self.now node.0) }
+        ensures value { result ≡ option_map kind_at (node_of self.now node.0) }
     {
         let node = node_at(&self.nodes, node)?;
         Some(node.settings.kind())
@@ -136,7 +136,7 @@ impl Net {
 
     /// What feeds the port; None also where the kind has no such port or the port is empty.
     pub fn input(&self, node: NodeId, port: u8) -> Option<NodeId>
-        ensures { result ≡ option_and_then (input_at port) (node_of self.now node.0) }
+        ensures value { result ≡ option_and_then (input_at port) (node_of self.now node.0) }
     {
         let node = node_at(&self.nodes, node)?;
         node.input(port)
@@ -144,7 +144,7 @@ impl Net {
 
     /// The value of the parameter; None also where the kind hasn't it.
     pub fn value(&self, node: NodeId, param: Param) -> Option<Value>
-        ensures { result ≡ option_and_then (value_at param) (node_of self.now node.0) }
+        ensures value { result ≡ option_and_then (value_at param) (node_of self.now node.0) }
     {
         let node = node_at(&self.nodes, node)?;
         node.value(param)
@@ -152,7 +152,7 @@ impl Net {
 
     /// The file that was loaded; None also where nothing is loaded.
     pub fn file(&self, node: NodeId) -> Option<&Bytes>
-        ensures { option_copied result ≡ option_and_then (λ n. n.file) (node_of self.now node.0) }
+        ensures value { option_copied result ≡ option_and_then (λ n. n.file) (node_of self.now node.0) }
     {
         let node = node_at(&self.nodes, node)?;
         match &node.file {
@@ -163,7 +163,7 @@ impl Net {
 
     /// The greatest position that stamped a node of the cone. It takes no memory.
     pub fn stamp(&self, node: NodeId) -> Option<u32>
-        ensures { result ≡ stamp_of self.now node.0 }
+        ensures value { result ≡ stamp_of self.now node.0 }
     {
         if node_at(&self.nodes, node).is_none() {
             return None;
@@ -174,14 +174,14 @@ impl Net {
     /// The stamps of all nodes, for who asks for many: they cost as much as one. It takes no
     /// memory.
     pub fn stamps(&self) -> Stamps<'_>
-        ensures { result ≡ self.now }
+        ensures value { result ≡ self.now }
     {
         stamps_in(&self.nodes, &self.order)
     }
 
     /// A step for each node, each behind what feeds it.
     pub fn steps(&self, alloc: Global) -> Result<Vec<Step>, AllocError>
-        ensures { IfOk result (λ steps. AreSteps self.now steps.items) }
+        ensures value { IfOk result (λ steps. AreSteps self.now steps.items) }
     {
         steps_in(alloc, &self.nodes, &self.order)
     }

@@ -27,7 +27,7 @@ pub struct Node {
 impl Node {
     /// What feeds the port; None also where the kind has no such port.
     pub fn input(&self, port: u8) -> Option<NodeId>
-        ensures { result ≡ input_at port self.now }
+        ensures value { result ≡ input_at port self.now }
     {
         if self.settings.kind().has_port(port) {
             self.inputs[port as usize - 1]
@@ -38,7 +38,7 @@ impl Node {
 
     /// The value of the parameter; None where the kind hasn't it.
     pub fn value(&self, param: Param) -> Option<Value>
-        ensures { result ≡ value_at param self.now }
+        ensures value { result ≡ value_at param self.now }
     {
         self.settings.value(self.release, param)
     }

@@ -42,7 +42,7 @@ pub fn stamps_in<'a>(nodes: &'a Nodes, order: &[NodeId]) -> Stamps<'a>
 impl<'a> Stamps<'a> {
     /// The greatest position that stamped a node of the cone, as `Net::stamp` gives it.
     pub fn of(&self, node: NodeId) -> Option<u32>
-        ensures { result ≡ stamp_of self.now node.0 }
+        ensures value { result ≡ stamp_of self.now node.0 }
     {
         let rank = rank_of(self.nodes, node)?;
         Some(self.stamps[rank])

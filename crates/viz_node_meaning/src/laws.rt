@@ -29,7 +29,7 @@ pub fn scratch_is_one()
 /// Where a node has equal stamps in the networks of a history and of a longer one, it gives the
 /// same in both.
 pub fn equal_stamps_give_one()
-    ensures { EqualStampsGiveOne }
+    ensures law { EqualStampsGiveOne }
 {
     equal_stamps_are_equal_cones();
 }

@@ -27,7 +27,7 @@ pub fn rate_with(x: u32, y: u32, z: u32) -> [u32; 3]
 
 /// The radius of a mean, at most 8.
 pub fn radius_with(radius: u32) -> u32
-    ensures { result ≡ radius_with radius }
+    ensures value { result ≡ radius_with radius }
 {
     within(0, 8, radius)
 }
@@ -42,7 +42,7 @@ pub fn unit_with(unit: u8) -> u8
 
 /// What arith reckons.
 pub fn op_with(op: Op) -> viz_meaning::Op
-    ensures { result ≡ op_with op }
+    ensures value { result ≡ op_with op }
 {
     match op {
         Op::Add => viz_meaning::Op::Add,
@@ -54,7 +54,7 @@ pub fn op_with(op: Op) -> viz_meaning::Op
 
 /// The form of a plane: how far a x + b y + c z lies above r.
 pub fn plane_form(a: &i64, b: &i64, c: &i64, r: &i64) -> Form
-    ensures { result ≡ plane_form a.now b.now c.now r.now }
+    ensures value { result ≡ plane_form a.now b.now c.now r.now }
 {
     Form {
         a: *a,
@@ -102,7 +102,7 @@ pub fn first_levels(count: u8, levels: &[i64; 8]) -> &[i64]
 
 /// The forms of a contour's first levels: how far the scalar lies above each.
 pub fn contour_forms(alloc: Global, count: u8, levels: &[i64; 8]) -> Result<Vec<Form>, AllocError>
-    ensures { IfOk result (λ forms. forms.items ≡ contour_forms count levels.now) }
+    ensures value { IfOk result (λ forms. forms.items ≡ contour_forms count levels.now) }
 {
     forms_of(alloc, first_levels(count, levels))
 }

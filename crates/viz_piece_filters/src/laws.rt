@@ -10,27 +10,27 @@ ghost use Rattle.viz_piece_filters.specs.Owns.{OwnsHandOn, SharesAreAll};
 
 /// What is made of a part, cell by cell, is a part of what is made of the whole.
 pub fn made_keep_parts()
-    ensures { MadeKeepParts }
+    ensures law { MadeKeepParts }
 {}
 
 /// The selection of a part is a part of the selection of the whole.
 pub fn selections_keep_parts()
-    ensures { SelectionsKeepParts }
+    ensures law { SelectionsKeepParts }
 {}
 
 /// The section of a part is a part of the section of the whole.
 pub fn sections_keep_parts()
-    ensures { SectionsKeepParts }
+    ensures law { SectionsKeepParts }
 {}
 
 /// The boundary of a part with one ghost level more is a part of the boundary of the whole.
 pub fn boundaries_keep_parts()
-    ensures { BoundariesKeepParts }
+    ensures law { BoundariesKeepParts }
 {}
 
 /// A part without its last ghost levels is one.
 pub fn trimmed_keep_parts()
-    ensures { TrimmedKeepParts }
+    ensures law { TrimmedKeepParts }
 {}
 
 /// What each filter asks of a part and of the whole holds of what it makes, so that the next one

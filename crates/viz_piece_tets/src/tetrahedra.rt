@@ -67,7 +67,7 @@ pub fn tets_piece(
 
 /// The sheet of an image's tetrahedra.
 pub fn sheet_of_tets(alloc: Global, image: &Image) -> Result<Sheet, AllocError>
-    ensures { IfOk result (λ s. s ≡ tetrahedra_sheet image.now) }
+    ensures value { IfOk result (λ s. s ≡ tetrahedra_sheet image.now) }
 {
     let mut sheets = all_tets(alloc, image)?.into_sheets();
     match sheets.pop() {

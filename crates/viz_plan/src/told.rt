@@ -20,7 +20,7 @@ pub fn extent_of(information: &Information) -> Option<Extent>
 
 /// The extent that is told of a node's image; None of a mesh.
 pub fn extent_told(told: &[Told], node: NodeId) -> Option<Extent>
-    ensures { result ≡ extent_told told.now node.0 }
+    ensures value { result ≡ extent_told told.now node.0 }
 {
     for one in told {
         if one.node == node {

@@ -31,7 +31,7 @@ pub trait Evaluation {
 
 /// Tasks that each find what they ask for before themselves give true parts, or a node faults.
 pub fn orders_produce<E: Evaluation>()
-    ensures { IsSound E.known E.restrict E.run E.is_true E.faults
+    ensures law { IsSound E.known E.restrict E.run E.is_true E.faults
         → OrdersProduce E.known E.restrict E.run E.is_true E.faults }
 {
     serving_is_an_order();
@@ -39,7 +39,7 @@ pub fn orders_produce<E: Evaluation>()
 
 /// The plan, level by level, gives true parts for all requests, or a node faults.
 pub fn plans_produce<E: Evaluation>()
-    ensures { IsSound E.known E.restrict E.run E.is_true E.faults
+    ensures law { IsSound E.known E.restrict E.run E.is_true E.faults
         → PlansProduce E.known E.restrict E.run E.is_true E.faults }
 {
     serving_is_an_order();
@@ -48,7 +48,7 @@ pub fn plans_produce<E: Evaluation>()
 /// Where all tasks of a plan came out, each spoilt node that is reached through spoilt ones was
 /// asked for each request.
 pub fn no_fault_hides<E: Evaluation>()
-    ensures { IsSound E.known E.restrict E.run E.is_true E.faults
+    ensures law { IsSound E.known E.restrict E.run E.is_true E.faults
         → IsSpoiling E.known E.spoilt E.stems
         → NoFaultHides E.known E.is_true E.spoilt E.stems }
 {

@@ -8,7 +8,7 @@ use viz_requests::serving_is_an_order;
 /// The tasks of a plan have levels as defined, each above those that it uses. Level by level no
 /// task is lost, each finds what it asks for, and all requests are met.
 pub fn plans_stand()
-    ensures { PlansStand }
+    ensures law { PlansStand }
 {
     serving_is_an_order();
 }

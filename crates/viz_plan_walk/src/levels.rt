@@ -152,7 +152,7 @@ pub fn with_levels<A: Asking>(
 ) -> Result<Vec<Levelled>, AllocError>
     requires tasks { AreTasks net.now
         (A.order asking.now) tasks.now.steps.items tasks.now.sources.items }
-    ensures { IfOk result (λ t. levelled t.items ≡ with_levels serves (A.kept asking.now)
+    ensures value { IfOk result (λ t. levelled t.items ≡ with_levels serves (A.kept asking.now)
         (A.widened asking.now)
         (A.asked asking.now) (inputs_of net.now) [] (named plan.now)) }
 {

@@ -71,7 +71,7 @@ fn own_source(net: &Net, node: NodeId, place: usize, inputs: &[Option<usize>; 8]
 /// The steps with inputs that lead past writers.
 pub fn task_steps(alloc: Global, net: &Net, steps: &[Step]) -> Result<Tasks, AllocError>
     requires { AreSteps net.now steps.now }
-    ensures { IfOk result (λ tasks. AreTasks net.now
+    ensures value { IfOk result (λ tasks. AreTasks net.now
         (nodes_of steps.now) tasks.steps.items tasks.sources.items) }
 {
     let mut tasks = Vec::with_capacity(alloc, steps.len())?;

@@ -12,5 +12,5 @@ mod words;
 
 pub use laws::one_actor_is_reported_in_order;
 pub use line::{Line, Reason, Row};
-pub use text::report_text;
+pub use text::{put_behind, put_number, report_text, word_of};
 pub use words::put_reason;

@@ -10,9 +10,9 @@ use std::alloc::{AllocError, Global};
 use viz_base::Bytes;
 use viz_lex::put_whole;
 
-// Puts a word and a number behind it.
-fn put_number(text: &mut Vec<u8>, word: &[u8], n: u64) -> Result<(), AllocError>
-    ensures { OnOk result (text.new.items ≡ text.old.items ++ and_number word.now n) }
+/// Puts a word and a number behind it.
+pub fn put_number(text: &mut Vec<u8>, word: &[u8], n: u64) -> Result<(), AllocError>
+    ensures value { OnOk result (text.new.items ≡ text.old.items ++ and_number word.now n) }
 {
     text.extend_from_slice(word)?;
     put_whole(text, i128::from(n))?;
@@ -60,8 +60,9 @@ fn put_counts(
     Ok(())
 }
 
-fn put_behind(text: &mut Vec<u8>, line: &Line) -> Result<(), AllocError>
-    ensures { OnOk result (text.new.items ≡ text.old.items ++ behind line.now) }
+/// Puts what stands behind the number of a line's command: its position, cause and counts.
+pub fn put_behind(text: &mut Vec<u8>, line: &Line) -> Result<(), AllocError>
+    ensures value { OnOk result (text.new.items ≡ text.old.items ++ behind line.now) }
 {
     match line {
         Line::Edit { at } => put_at(text, *at),
@@ -95,8 +96,9 @@ fn put_behind(text: &mut Vec<u8>, line: &Line) -> Result<(), AllocError>
     }
 }
 
-fn word_of(line: &Line) -> &'static str
-    ensures { result.now ≡ word_of line.now }
+/// The word that a line begins with.
+pub fn word_of(line: &Line) -> &'static str
+    ensures value { result.now ≡ word_of line.now }
 {
     match line {
         Line::Edit { .. } => "edit",
@@ -119,7 +121,7 @@ fn put_row(text: &mut Vec<u8>, row: &Row) -> Result<(), AllocError>
 
 /// The text of rows.
 pub fn report_text(alloc: Global, rows: &[Row]) -> Result<Bytes, AllocError>
-    ensures { IfOk result (λ text. text ≡ rows_text rows.now) }
+    ensures value { IfOk result (λ text. text ≡ rows_text rows.now) }
 {
     let mut text = Vec::new(alloc);
     for row in rows {

@@ -148,7 +148,7 @@ fn put_refusal_at(text: &mut Vec<u8>, index: u32, refusal: Refusal) -> Result<()
 
 /// Puts the words of a reason.
 pub fn put_reason(text: &mut Vec<u8>, reason: &Reason) -> Result<(), AllocError>
-    ensures { OnOk result (text.new.items ≡ text.old.items ++ reason_text reason.now) }
+    ensures value { OnOk result (text.new.items ≡ text.old.items ++ reason_text reason.now) }
 {
     match reason {
         Reason::Edit(refusal) => text.extend_from_slice(refusal_word(*refusal).as_bytes()),

@@ -157,5 +157,5 @@ pub fn asked(settings: &Settings, whole: &Option<Extent>, request: &Request) -> 
 
 /// What fits the dataset that a node makes can be asked of its inputs.
 pub fn fitting_can_be_asked()
-    ensures { FittingCanBeAsked }
+    ensures law { FittingCanBeAsked }
 {}

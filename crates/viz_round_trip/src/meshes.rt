@@ -54,5 +54,5 @@ pub fn no_other_mesh_is_read()
 
 /// The type that is written of a cell of 1 to 4 points is the one that the reader wants of it.
 pub fn written_types_are_wanted()
-    ensures { (n : ℕ) → 1 ≤ n → n ≤ 4 → points_of_type (type_of n) ≡ Some n }
+    ensures law { (n : ℕ) → 1 ≤ n → n ≤ 4 → points_of_type (type_of n) ≡ Some n }
 {}

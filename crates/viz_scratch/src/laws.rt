@@ -7,7 +7,7 @@ use viz_node_meaning::scratch_is_one;
 
 /// The file of a node is one text or one fault.
 pub fn files_are_one()
-    ensures { FilesAreOne }
+    ensures law { FilesAreOne }
 {
     scratch_is_one();
 }

@@ -10,6 +10,7 @@ mod order;
 mod parser;
 mod parsing;
 
+pub use line::order_in;
 pub use order::{Order, Script, Step};
 pub use parsing::parse;
 pub use viz_words::{ScriptRefusal, ScriptStop};

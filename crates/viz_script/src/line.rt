@@ -62,9 +62,10 @@ fn audit_in(text: &[u8]) -> Result<Order, ScriptRefusal>
     Ok(Order::Audit { node, shape })
 }
 
-/// The order of a command with the words behind it.
-fn order_in(verb: Verb, text: &[u8]) -> Result<Order, ScriptRefusal>
-    ensures { Gives seen result (order_in verb (words_of text.now)) }
+/// The order of a command with the words behind it, as they stand to the end of its line. It is
+/// refused where the words are too few or too many, or one of them isn't what is due there.
+pub fn order_in(verb: Verb, text: &[u8]) -> Result<Order, ScriptRefusal>
+    ensures value { Gives seen result (order_in verb (words_of text.now)) }
 {
     match verb {
         Verb::Load => load_in(text),

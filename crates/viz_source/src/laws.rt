@@ -41,7 +41,7 @@ pub fn answers_the_same_for_every_cut()
 
 /// Where a pull fails, the lines that were answered are those that were taken whole.
 pub fn answers_what_was_taken_whole()
-    ensures { (old new : Stream) (lines : List (Option (List ℕ))) (left : List ℕ)
+    ensures law { (old new : Stream) (lines : List (Option (List ℕ))) (left : List ℕ)
         → AreFrontLines old lines new → new.ended ≡ false → IsOpenLine new.bytes left
         → ((taken : List ℕ) × (old.bytes ≡ taken ++ left) × (lines ≡ whole_lines taken)) }
 {}

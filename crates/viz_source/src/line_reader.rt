@@ -104,7 +104,7 @@ fn measured(line: &[u8]) -> NextLine
 impl LineReader {
     /// A reader that stands at the start of its source, with room for a line.
     pub fn new(alloc: Global) -> Result<LineReader, AllocError>
-        ensures { IfOk result (λ reader. reader ≡ fresh) }
+        ensures value { IfOk result (λ reader. reader ≡ fresh) }
     {
         let line = Vec::with_capacity(alloc, KEPT)?;
         Ok(LineReader {
@@ -119,7 +119,7 @@ impl LineReader {
 
     /// The line that was answered last.
     pub fn line(&self) -> &[u8]
-        ensures { result.now ≡ self.now.line }
+        ensures value { result.now ≡ self.now.line }
     {
         &self.line
     }

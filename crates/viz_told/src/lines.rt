@@ -8,7 +8,7 @@ ghost use Rattle.viz_told.specs.Lines.{write_fault_line, memory_line};
 /// The words are no command.
 #[tactic(auto, unfolding(crate::specs::Lines::usage_line))]
 pub fn usage_line() -> &'static [u8]
-    ensures { result.now ≡ usage_line }
+    ensures value { result.now ≡ usage_line }
 {
     b"vizrun: usage\n"
 }
@@ -16,7 +16,7 @@ pub fn usage_line() -> &'static [u8]
 /// No port is there.
 #[tactic(auto, unfolding(crate::specs::Lines::no_port_line))]
 pub fn no_port_line() -> &'static [u8]
-    ensures { result.now ≡ no_port_line }
+    ensures value { result.now ≡ no_port_line }
 {
     b"script line 0 ActorRange\n"
 }
@@ -24,7 +24,7 @@ pub fn no_port_line() -> &'static [u8]
 /// A read failed.
 #[tactic(auto, unfolding(crate::specs::Lines::read_fault_line))]
 pub fn read_fault_line() -> &'static [u8]
-    ensures { result.now ≡ read_fault_line }
+    ensures value { result.now ≡ read_fault_line }
 {
     b"fault read\n"
 }
@@ -32,7 +32,7 @@ pub fn read_fault_line() -> &'static [u8]
 /// A write failed.
 #[tactic(auto, unfolding(crate::specs::Lines::write_fault_line))]
 pub fn write_fault_line() -> &'static [u8]
-    ensures { result.now ≡ write_fault_line }
+    ensures value { result.now ≡ write_fault_line }
 {
     b"fault write\n"
 }
@@ -40,7 +40,7 @@ pub fn write_fault_line() -> &'static [u8]
 /// Memory ran out.
 #[tactic(auto, unfolding(crate::specs::Lines::memory_line))]
 pub fn memory_line() -> &'static [u8]
-    ensures { result.now ≡ memory_line }
+    ensures value { result.now ≡ memory_line }
 {
     b"memory\n"
 }

@@ -65,7 +65,7 @@ fn put<O: Out>(alloc: Global, out: &mut O, text: &[u8], status: Status) -> Statu
 /// Puts the text of an outcome, once, and gives the status. Where memory runs out at the making of
 /// the text, that is told in its place.
 pub fn tell<T: Tells, O: Out>(alloc: Global, out: &mut O, outcome: &T) -> Status
-    ensures { IsTold O.Out (T.telling outcome.now) result out.old out.new }
+    ensures value { IsTold O.Out (T.telling outcome.now) result out.old out.new }
 {
     match outcome.text(alloc) {
         Ok(text) => put(alloc, out, bytes_of(&text), outcome.status()),

@@ -14,7 +14,7 @@ pub trait Tells {
 
     /// The status where the whole text is put.
     fn status(&self) -> Status
-        ensures { result ≡ (telling self.now).status };
+        ensures value { result ≡ (telling self.now).status };
 
     /// The text. Memory runs out only where it is made.
     fn text(&self, alloc: Global) -> Result<Text, AllocError>

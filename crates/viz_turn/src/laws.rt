@@ -31,13 +31,13 @@ pub fn append_adds_one_entry<S: Story>()
 
 /// What goes further than a pass that knows more, goes further.
 pub fn further_goes_on<S: Story>()
-    ensures { (p q : Known S.Entry) (tale : List S.Entry)
+    ensures law { (p q : Known S.Entry) (tale : List S.Entry)
         → ((n : ℕ) → has n (numbers p) ≡ true → has n (numbers q) ≡ true)
         → GoesFurther S.by p q.seen → GoesFurther S.by q tale → GoesFurther S.by p tale }
 {}
 
 /// Where each entry has one of these numbers, those of these numbers are all entries.
 pub fn no_other_is_all<S: Story>()
-    ensures { (ns : List ℕ) (tale : List S.Entry) → HasNoOther S.by ns tale
+    ensures law { (ns : List ℕ) (tale : List S.Entry) → HasNoOther S.by ns tale
         → entries_of S.by ns tale ≡ tale }
 {}

@@ -26,7 +26,7 @@ pub use files::{FileName, name_text};
 pub use lines::{is_plain, is_skipped, next_line};
 pub use names::{array_name, file_name, node_name};
 pub use numbers::{natural, number};
-pub use refusal::{ScriptRefusal, ScriptStop, refused_line};
+pub use refusal::{ScriptRefusal, ScriptStop, refusal_word, refused_line};
 pub use scan::{line_len, next_word};
 pub use table::{command_named, command_word, kind_named, kind_word, param_named, param_word};
 pub use values::set_in;

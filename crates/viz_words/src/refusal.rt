@@ -72,8 +72,9 @@ impl<T: Drop> From<AllocFailed<T>> for ScriptStop {
     }
 }
 
-fn refusal_word(refusal: &ScriptRefusal) -> &'static str
-    ensures { result.now ≡ refusal_word refusal.now }
+/// The word of a refusal, as reports spell it.
+pub fn refusal_word(refusal: &ScriptRefusal) -> &'static str
+    ensures value { result.now ≡ refusal_word refusal.now }
 {
     match refusal {
         ScriptRefusal::Word => "Word",
@@ -95,7 +96,7 @@ pub fn refused_line(
     line: u32,
     refusal: &ScriptRefusal,
 ) -> Result<Vec<u8>, AllocError>
-    ensures { IfOk result (λ text. text.items ≡ refused_script line refusal.now) }
+    ensures value { IfOk result (λ text. text.items ≡ refused_script line refusal.now) }
 {
     let mut text = Vec::from_slice(alloc, b"script line ")?;
     put_whole(&mut text, i128::from(line))?;

@@ -52,11 +52,11 @@ returns-in-Err-clause-tells c =
     let told = stopped_audit net c.args.at node named.found stop c.missing_of.result named.there
     (subst (λ i. Answers (IsAuditOf net i) (Err stop)) (sym named.same)
     (subst (Answers (IsAuditOf net id)) c.in-Err.is c.requires.counted.counts)) c.missing_of.ensures in
-    subst (λ a. TellsAudit net c.args.at node (audit_line_of a)) (sym c.without.ensures) told
+    subst (λ a. TellsAudit net c.args.at node (audit_line_of a)) (sym c.without.ensures.value) told
 
 pub returns-in-Err-clause-closed : goal.returns-in-Err-clause-closed
 returns-in-Err-clause-closed c =
-    subst (λ a. IsClosedLine (audit_line_of a)) (sym c.without.ensures)
+    subst (λ a. IsClosedLine (audit_line_of a)) (sym c.without.ensures.value)
     (without_closed c.missing_of.result c.args.at)
 
 pub returns-in-Err-clause-parts : goal.returns-in-Err-clause-parts
@@ -68,7 +68,7 @@ returns-in-Err-clause-parts c =
     let gone = c.missing_of.result in
     let entries = c.args._entries.now in
     let pieces = c.args._shape.now.pieces in
-    subst (λ a. HandsOut net entries pieces node (audit_missing_in a) parts) (sym c.without.ensures)
+    subst (λ a. HandsOut net entries pieces node (audit_missing_in a) parts) (sym c.without.ensures.value)
     (stop_hands Counts net node id entries pieces c.in-Err.stop gone (audit_missing_in (audit_without gone c.args.at)) parts
     c.requires.named c.missing_of.ensures
     (subst (λ f. HasParts net entries pieces id f parts) c.in-Err.is c.requires.counted.parts)

@@ -13,7 +13,7 @@ loop-item-preserved c =
     let pushed : Stored = record { key = item.key; part = c.in_ok-part.part } in
     let here : IsTrueIn net item = subst (IsTrueIn net) (sym c.item-item.is)
     (c.requires.items.each c.loop-item.item-index item c.loop-item-test.true) in
-    let there = copied_true net item c.in_ok-part.part c.in_ok-part.ensures here in
+    let there = copied_true net item c.in_ok-part.part c.in_ok-part.ensures.value here in
     record {
       all = record {
         each = subst (All (IsTrueIn net)) (sym c.in_ok-push.ensures.items)

@@ -36,7 +36,7 @@ returns-in-Err-clause-updates g c =
     (subst (λ i. Makes net i (Err stop)) (sym named.same)
     (subst (Makes net c.args._sink.0) c.in-Err.is c.requires.planned.file)) c.missing_of.ensures in
     subst (λ a. Writes g.P.Port Ran net c.args.at node file (line_of a) port port)
-    (sym c.without.ensures)
+    (sym c.without.ensures.value)
     (not_called Ran g.P.Port net c.args.at node file c.missing_of.result port gone)
 
 pub returns-in-Err-clause-parts : goal.returns-in-Err-clause-parts
@@ -48,7 +48,7 @@ returns-in-Err-clause-parts g c =
     let gone = c.missing_of.result in
     let entries = c.args._entries.now in
     let pieces = c.args._shape.now.pieces in
-    subst (λ a. HandsOut net entries pieces node (missing_in a) parts) (sym c.without.ensures)
+    subst (λ a. HandsOut net entries pieces node (missing_in a) parts) (sym c.without.ensures.value)
     (stop_hands Made net node id entries pieces c.in-Err.stop gone (missing_in (without gone c.args.at)) parts
     c.requires.named c.missing_of.ensures
     (subst (λ f. HasParts net entries pieces id f parts) c.in-Err.is c.requires.planned.parts)

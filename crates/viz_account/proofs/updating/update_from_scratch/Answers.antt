@@ -11,7 +11,7 @@ returns-in-Err-clause-writes g c =
     let port = c.args.port.now in
     let net = c.args.net.now in
     subst (λ a. Writes m HasNoPlan net c.args.at c.args.node.now c.args.file.now (line_of a) port
-    port) (sym c.without.ensures)
+    port) (sym c.without.ensures.value)
     (not_called HasNoPlan m net c.args.at c.args.node.now c.args.file.now c.in-Err.missing port
     c.in-Err.ensures)
 

@@ -16,4 +16,4 @@ returns g c =
     let r = c.in-Ok.ensures in
     ran_after g.P.Port c.args.script.now c.args.journal.now c.args.desk.now c.read.new.self c.serve_bytes.new.desk c.in-Ok.bytes r.told r.bytes r.kept r.later r.same_limit
     c.args.ports.now.items c.serve_bytes.new.ports.items c.serve_bytes.result
-    (subst (λ (b : List ℕ). IsRanBehind g.P.Port b c.args.journal.now c.serve_bytes.result c.read.new.self c.serve_bytes.new.desk c.args.ports.now.items c.serve_bytes.new.ports.items) c.list.ensures c.serve_bytes.ensures)
+    (subst (λ (b : List ℕ). IsRanBehind g.P.Port b c.args.journal.now c.serve_bytes.result c.read.new.self c.serve_bytes.new.desk c.args.ports.now.items c.serve_bytes.new.ports.items) c.list.ensures.value c.serve_bytes.ensures)

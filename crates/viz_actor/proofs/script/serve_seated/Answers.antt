@@ -35,4 +35,4 @@ returns-clause-ok g c =
     let all = seated_account m hub.mark hub 64 c.requires.script.0 steps journal.result.entries ran.result places ran.new.places ran.new.rows.items script c.reserve_all.ensures.idle runs
     journal.ensures.legal journal.ensures.within journal.ensures.further journal.ensures.whole in
     is_seated m hub.mark steps ran.new.rows.items journal.result.entries c.take.result.items (length places) (ports_of places) (ports_of c.args.places.now) (ports_of ran.new.places) all.0
-    c.in_ok-hub.ensures.limit (sym c.take.ensures) ports (length-map places (λ s. s.port)) all.1 all.2
+    c.in_ok-hub.ensures.limit (sym c.take.ensures.value) ports (length-map places (λ s. s.port)) all.1 all.2

@@ -15,6 +15,6 @@ returns-clause-serves g c =
     subst (λ limit. Serves m limit p.number asked c.line.result p.seen new.seen port port)
     (ap (λ t. t.mark) c.requires.belongs)
     (subst (λ l. Serves m p.turn.mark p.number asked l p.seen new.seen port port)
-    (sym c.line.ensures)
+    (sym c.line.ensures.value)
     (serves_audit m p new c.args.node.now shape c.audit_node-pass.result.1 port
     c.audit_node-pass.ensures.further c.audit_node-pass.ensures.audits))

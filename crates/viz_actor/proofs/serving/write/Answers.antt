@@ -19,7 +19,7 @@ returns-clause-serves g c =
     subst (λ limit. Serves m limit p.number asked c.line.result p.seen new.seen port after)
     (ap (λ t. t.mark) c.requires.belongs)
     (subst (λ l. Serves m p.turn.mark p.number asked l p.seen new.seen port after)
-    (sym c.line.ensures)
+    (sym c.line.ensures.value)
     (serves_update m p new node c.args.file.now shape answer port after
     c.update-pass.ensures.further
     (subst (λ f. IsUpdate m node f shape answer p new port after) c.text.ensures.value

@@ -16,5 +16,5 @@ returns-else-wanted c =
     let head = head_of c.args.head.now in
     let read = rw c.is_wanted-wanted.ensures at c.in_ok-column.ensures in
     let other = sym c.is_wanted-wanted.ensures ∙ c.if-wanted.false in
-    array-done g k head c.args.stored c.args.head.now.tuples c.args.components c.args.lexer.now c.values.new.lexer c.any_metadata.new.self c.in_ok-column.column read c.in_ok-any_metadata.ensures
+    array-done g k head c.args.stored c.args.head.now.tuples c.args.components c.args.lexer.now c.values.new.lexer c.any_metadata.new.self c.in_ok-column.column read c.in_ok-any_metadata.ensures.value
     ∙ ap (known_at c.any_metadata.new.self) (with_part-other g k head c.in_ok-column.column other)

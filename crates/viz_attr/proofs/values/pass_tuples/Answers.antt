@@ -9,6 +9,6 @@ pub returns : goal.returns
 returns c =
     let few = c.more_than-most.type_inv in
     let more = c.more_than-most.ensures in
-    let all : length c.bytes.result.now ≡ length c.args.lexer.now.bytes = ap length c.bytes.ensures in
+    let all : length c.bytes.result.now ≡ length c.args.lexer.now.bytes = ap length c.bytes.ensures.value in
     let same = words_at-most (c.args.tuples * c.args.components) 18446744073709551615 c.args.lexer.now (omega arith) in
     rw (← same, ← c.saturating_mul.ensures) c.pass.ensures

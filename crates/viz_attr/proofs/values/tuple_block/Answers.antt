@@ -8,7 +8,7 @@ pub returns-clause-read : goal.returns-clause-read
 returns-clause-read c =
     let few = c.more_than-most.type_inv in
     let more = c.more_than-most.ensures in
-    let all : length c.bytes.result.now ≡ length c.args.lexer.now.bytes = ap length c.bytes.ensures in
+    let all : length c.bytes.result.now ≡ length c.args.lexer.now.bytes = ap length c.bytes.ensures.value in
     let same = bytes_at-most (c.args.tuples * c.args.width) 18446744073709551615 c.args.lexer.now (omega arith) in
     rw (← same, ← c.saturating_mul.ensures) c.block.ensures.read
 
@@ -16,5 +16,5 @@ pub returns-clause-long : goal.returns-clause-long
 returns-clause-long c =
     let few = c.more_than-most.type_inv in
     let more = c.more_than-most.ensures in
-    let all : length c.bytes.result.now ≡ length c.args.lexer.now.bytes = ap length c.bytes.ensures in
+    let all : length c.bytes.result.now ≡ length c.args.lexer.now.bytes = ap length c.bytes.ensures.value in
     long_of c.block.result c.saturating_mul.result (c.args.tuples * c.args.width) 18446744073709551615 (length c.args.lexer.now.bytes) c.block.ensures.long c.block.ensures.few c.saturating_mul.ensures (omega arith)

@@ -5,4 +5,4 @@ use Rattle.viz_batches.proofs.SetLemmas.{found_node}
 use Rattle.viz_batches.proofs.sets.kind_named.Goals as goal
 
 pub returns : goal.returns
-returns c = c.kind.ensures ∙ ap (option_map kind_at) (found_node c.args.net.now c.args.node.now c.in_ok-find.field-0 c.requires (sym c.find.ensures ∙ c.in_ok-find.was))
+returns c = c.kind.ensures.value ∙ ap (option_map kind_at) (found_node c.args.net.now c.args.node.now c.in_ok-find.field-0 c.requires (sym c.find.ensures.value ∙ c.in_ok-find.was))

@@ -10,4 +10,4 @@ returns g c =
     let part = c.args.part.now in
     let value = g.T.Number.value in
     let old : Numbers = record { kind = g.T.Number.kind; items = map value c.args.numbers.now } in
-    subst (AreRestricted whole part old) (sym c.of.ensures) (rows-restricted whole part g.T.Number.kind (map value c.args.numbers.now) (map value c.in_ok-rows.rows.items) c.requires.within c.in_ok-rows.ensures)
+    subst (AreRestricted whole part old) (sym c.of.ensures.value) (rows-restricted whole part g.T.Number.kind (map value c.args.numbers.now) (map value c.in_ok-rows.rows.items) c.requires.within c.in_ok-rows.ensures)

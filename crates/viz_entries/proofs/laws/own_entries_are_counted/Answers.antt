@@ -3,4 +3,4 @@ use Rattle.viz_entries.proofs.CountLemmas.{counted_after}
 use Rattle.viz_entries.proofs.laws.own_entries_are_counted.Goals as goal
 
 pub returns : goal.returns
-returns c = λ h pass legal. counted_after pass [] h legal
+returns c = record { law = λ h pass legal. counted_after pass [] h legal }

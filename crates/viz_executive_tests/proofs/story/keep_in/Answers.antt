@@ -8,5 +8,5 @@ publish-requires c =
     let edits = edits_of c.args.core.now.history in
     record {
       made = subst (λ all. AreTrueOf all c.args.made.now) (append-nil edits)
-          (c.made_is_true.ensures edits [] c.args.made.now c.requires.made);
+          (c.made_is_true.ensures.law edits [] c.args.made.now c.requires.made);
     }

@@ -14,7 +14,7 @@ loop-preserved c =
     let es = c.args.cache.now.entries in
     let net = c.args.stamps.now in
     let left = length es - (c.loop.counter + 1) in
-    let within : c.loop.counter < length es = subst (λ n. c.loop.counter < n) c.len-end.ensures c.loop-test.true in
+    let within : c.loop.counter < length es = subst (λ n. c.loop.counter < n) c.len-end.ensures.value c.loop-test.true in
     let one : length es - c.loop.counter ≡ suc left = omega (arith, within) in
     let below : left < length es = omega (arith, within) in
     let passed = subst (λ n. HasPassed net c.args.at n es c.loop.cache.entries) one c.loop.invariant.passed in
@@ -27,5 +27,5 @@ pub returns-clause-entries : goal.returns-clause-entries
 returns-clause-entries c =
     let es = c.args.cache.now.entries in
     let net = c.args.stamps.now in
-    let none : length es - c.loop.counter ≡ 0 = omega (arith, c.loop-test.false, c.len-end.ensures) in
+    let none : length es - c.loop.counter ≡ 0 = omega (arith, c.loop-test.false, c.len-end.ensures.value) in
     all_passed net c.args.at es c.loop.cache.entries (subst (λ n. HasPassed net c.args.at n es c.loop.cache.entries) none c.loop.invariant.passed)

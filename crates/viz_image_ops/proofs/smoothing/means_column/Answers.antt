@@ -34,4 +34,4 @@ returns g c =
     ∙ ap (λ (a : Axes). values_on (place_mean xs a) out) c.axes_of-axes.ensures.value
     ∙ values_same (place_mean xs (round_axes radius whole out)) (λ i j k. mean_on (λ i j k. get_or xs (index_at (grown radius whole out) i j k) (pos 0)) (box_round radius whole i j k)) out
     c.axes_of-axes.ensures.valid (λ i j k has. place_mean_is xs radius whole out i j k c.requires.whole c.axes_of-axes.ensures.valid has) in
-    c.of.ensures ∙ ap (λ (ys : List ℤ). with_kind g.T.Number.kind ys) items
+    c.of.ensures.value ∙ ap (λ (ys : List ℤ). with_kind g.T.Number.kind ys) items

@@ -7,7 +7,7 @@ pub returns-in_ok-keep_within-in-Some : goal.returns-in_ok-keep_within-in-Some
 returns-in_ok-keep_within-in-Some g c =
     let value = g.T.Number.value in
     let xs = map value c.args.numbers.now in
-    column_within g.T.Number.kind c.args.lo.now c.args.hi.now (value c.in-Some.own.0) (value c.in-Some.own.1) xs _ c.of.result c.of.ensures c.requires.own
+    column_within g.T.Number.kind c.args.lo.now c.args.hi.now (value c.in-Some.own.0) (value c.in-Some.own.1) xs _ c.of.result c.of.ensures.value c.requires.own
     c.in-Some.ensures.some c.in_ok-keep_within-in-Some.ensures
 
 pub returns-in_ok-zeros-in-None : goal.returns-in_ok-zeros-in-None
@@ -15,4 +15,4 @@ returns-in_ok-zeros-in-None g c =
     let value = g.T.Number.value in
     let xs = map value c.args.numbers.now in
     let zeros = c.in_ok-zeros-in-None.ensures ∙ ap (λ (n : ℕ). replicate n (pos 0)) (sym (length-map c.args.numbers.now value)) in
-    column_none g.T.Number.kind c.args.lo.now c.args.hi.now xs _ c.of-in-None.result c.of-in-None.ensures c.requires.own c.in-None.ensures.none zeros
+    column_none g.T.Number.kind c.args.lo.now c.args.hi.now xs _ c.of-in-None.result c.of-in-None.ensures.value c.requires.own c.in-None.ensures.none zeros

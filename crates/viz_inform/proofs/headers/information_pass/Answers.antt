@@ -12,7 +12,7 @@ use Rattle.viz_inform.proofs.headers.information_pass.Goals as goal
 pub unwrap-node-requires : goal.unwrap-node-requires
 unwrap-node-requires c =
     let step = c.requires.each c.loop-step.step-index _ (slice_get-get_or c.args.steps.now c.loop-step.step-index _ c.loop-step-test.true) in
-    lent_there c.node.result step.node (c.node.ensures ∙ step.there)
+    lent_there c.node.result step.node (c.node.ensures.value ∙ step.there)
 
 pub loop-step-preserved : goal.loop-step-preserved
 loop-step-preserved c =
@@ -25,7 +25,7 @@ loop-step-preserved c =
     let at = slice_get-get_or steps k none c.loop-step-test.true in
     let step = c.requires.each k s at in
     let is : c.node.result ≡ Some c.unwrap-node.result = search rules in
-    let found = sym c.node.ensures ∙ ap option_copied is in
+    let found = sym c.node.ensures.value ∙ ap option_copied is in
     let known = c.loop-step.invariant.table in
     let has = has_always InformationRule anything net steps (nodes_of steps) k table known step.node.inputs s.inputs step.fed in
     let made = subst (λ t. IsMade InformationRule c.unwrap-node.result.now (told t s.inputs) c.known_of-known.result) c.deref.ensures.value c.known_of-known.ensures in

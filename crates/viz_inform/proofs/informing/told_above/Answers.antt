@@ -14,6 +14,6 @@ returns c =
     let table = c.args.table.now in
     let told = c.in_ok-told.told.items in
     all_told c.args.net.now steps c.args.sink c.args.node c.in_ok-marks.marks.items table told
-    c.requires.at c.in_ok-marks.ensures c.requires.table
+    c.requires.at c.in_ok-marks.ensures.value c.requires.table
     (subst (λ marks. AreTaken steps marks table (length steps) told)
     c.deref.ensures.value c.in_ok-told.ensures)

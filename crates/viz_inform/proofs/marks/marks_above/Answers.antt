@@ -21,5 +21,7 @@ pass_on-requires-clause-marks c =
     subst (λ k. AreMarks c.args.net.now c.args.steps.now c.args.sink k c.loop-behind.marks.items) (let e : (c.args.sink + 1) - c.loop-behind.behind ≡ (c.args.sink - c.loop-behind.behind) + 1 = omega (arith, c.loop-behind-test.true) in e) c.loop-behind.invariant
 
 pub returns : goal.returns
-returns c =
-    subst (λ k. AreMarks c.args.net.now c.args.steps.now c.args.sink k c.loop-behind.marks.items) (let e : (c.args.sink + 1) - c.loop-behind.behind ≡ 0 = omega (arith, c.loop-behind-test.false) in e) c.loop-behind.invariant
+returns c = record {
+  value =
+      subst (λ k. AreMarks c.args.net.now c.args.steps.now c.args.sink k c.loop-behind.marks.items) (let e : (c.args.sink + 1) - c.loop-behind.behind ≡ 0 = omega (arith, c.loop-behind-test.false) in e) c.loop-behind.invariant;
+}

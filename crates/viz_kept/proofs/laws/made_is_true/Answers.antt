@@ -2,4 +2,4 @@ use Rattle.viz_kept.proofs.TrueLemmas.{all_made_true}
 use Rattle.viz_kept.proofs.laws.made_is_true.Goals as goal
 
 pub returns : goal.returns
-returns c = all_made_true
+returns c = record { law = all_made_true }

@@ -2,28 +2,28 @@ use Rattle.viz_make.proofs.RunLemmas.{others, done, script, refuses, fault, caus
 use Rattle.viz_make.proofs.run.run_make.Goals as goal
 
 pub returns-clause-script : goal.returns-clause-script
-returns-clause-script g c = script g.P.Port g.O.Out _ _ _ _ _ _ _ c.serve-came.ensures c.tell.ensures
+returns-clause-script g c = script g.P.Port g.O.Out _ _ _ _ _ _ _ c.serve-came.ensures c.tell.ensures.value
 
 pub returns-clause-refuses : goal.returns-clause-refuses
-returns-clause-refuses g c = refuses g.P.Port g.O.Out _ _ _ _ _ _ _ c.serve-came.ensures c.tell.ensures
+returns-clause-refuses g c = refuses g.P.Port g.O.Out _ _ _ _ _ _ _ c.serve-came.ensures c.tell.ensures.value
 
 pub returns-clause-complete : goal.returns-clause-complete
-returns-clause-complete g c = complete g.P.Port g.O.Out _ _ _ _ _ _ _ c.serve-came.ensures c.tell.ensures
+returns-clause-complete g c = complete g.P.Port g.O.Out _ _ _ _ _ _ _ c.serve-came.ensures c.tell.ensures.value
 
 pub returns-clause-done : goal.returns-clause-done
-returns-clause-done g c = done g.P.Port g.O.Out _ _ _ _ _ _ _ c.serve-came.ensures c.tell.ensures
+returns-clause-done g c = done g.P.Port g.O.Out _ _ _ _ _ _ _ c.serve-came.ensures c.tell.ensures.value
 
 pub returns-clause-fault : goal.returns-clause-fault
-returns-clause-fault g c = fault g.P.Port g.O.Out _ _ _ _ _ _ _ c.serve-came.ensures c.tell.ensures
+returns-clause-fault g c = fault g.P.Port g.O.Out _ _ _ _ _ _ _ c.serve-came.ensures c.tell.ensures.value
 
 pub returns-clause-cause : goal.returns-clause-cause
-returns-clause-cause g c = cause g.P.Port g.O.Out _ _ _ _ _ _ _ c.serve-came.ensures c.tell.ensures
+returns-clause-cause g c = cause g.P.Port g.O.Out _ _ _ _ _ _ _ c.serve-came.ensures c.tell.ensures.value
 
 pub returns-clause-usage : goal.returns-clause-usage
-returns-clause-usage g c is = no_usage g.P.Port g.O.Out _ _ _ _ _ _ _ c.serve-came.ensures c.tell.ensures is
+returns-clause-usage g c is = no_usage g.P.Port g.O.Out _ _ _ _ _ _ _ c.serve-came.ensures c.tell.ensures.value is
 
 pub returns-clause-refused : goal.returns-clause-refused
-returns-clause-refused g c is = no_refused g.P.Port g.O.Out _ _ _ _ _ _ _ c.serve-came.ensures c.tell.ensures is
+returns-clause-refused g c is = no_refused g.P.Port g.O.Out _ _ _ _ _ _ _ c.serve-came.ensures c.tell.ensures.value is
 
 pub returns-clause-others : goal.returns-clause-others
 returns-clause-others g c = others g.P.Port _ _ _ _ c.serve-came.ensures

@@ -24,7 +24,7 @@ pub returns : goal.returns
 returns g c =
     let numbers = g.N.PointNumbers.numbers c.args.what.now in
     let point = g.P.WidePoint.point in (
-      c.new-2.ensures ∙ rows_of_part (λ x. row_of c.args.binary I64 (numbers (point x)))
+      c.new-2.ensures.value ∙ rows_of_part (λ x. row_of c.args.binary I64 (numbers (point x)))
           c.part_at-rows.result.now c.args.points.now c.args.part c.in_ok-text.text.items _
           c.part_at-rows.ensures c.in_ok-text.ensures.items c.in_ok-put_width.ensures.ok,
       subst (FitBy point numbers) c.part_at-rows.ensures c.in_ok-put_width.ensures.fits,

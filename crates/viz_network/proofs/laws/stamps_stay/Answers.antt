@@ -2,4 +2,4 @@ use Rattle.viz_network.proofs.HistoryLemmas.{stamps_stay}
 use Rattle.viz_network.proofs.laws.stamps_stay.Goals as goal
 
 pub returns : goal.returns
-returns c = stamps_stay
+returns c = record { law = stamps_stay }

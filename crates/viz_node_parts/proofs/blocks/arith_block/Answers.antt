@@ -17,6 +17,6 @@ returns c =
           made_both (arith_of (op_with c.args.op)) c.args.request.now (option_copied c.args.first)
           (option_copied c.args.second) out a b made c.block_of-out.ensures.value
           c.image_of-a.ensures.value c.image_of-b.ensures.value
-          (subst (λ op. GivesOnBoth (arith_of op) a b out made) c.op_with.ensures
+          (subst (λ op. GivesOnBoth (arith_of op) a b out made) c.op_with.ensures.value
           c.in_ok-arith.ensures.value);
     }

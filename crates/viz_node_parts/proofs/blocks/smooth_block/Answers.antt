@@ -18,7 +18,7 @@ returns c =
     let made = c.in_ok-smooth-in-Some.field-0 in
     let request = c.args.request.now in
     let input = option_copied c.args.input in
-    let gives = subst (λ r. GivesOn (smooth_within r whole) image out made) c.radius_with.ensures
+    let gives = subst (λ r. GivesOn (smooth_within r whole) image out made) c.radius_with.ensures.value
     c.in_ok-smooth-in-Some.ensures.value in
     record {
       made =

@@ -36,7 +36,7 @@ returns-clause-value c =
     let op = op_with c.args.op in
     let e : shared_grid (image_grid a) (image_grid b) ≡ Ok g =
     ap (λ h. shared_grid h (image_grid b)) (sym c.grid_of_image.ensures.value) ∙ ap (shared_grid c.grid_of_image.result) (sym c.grid_of_image-2.ensures.value) ∙ sym c.shared_grid.ensures ∙ c.in_ok-grid.was in
-    let gives = subst (λ p. GivesOnBoth (arith_of p) a b g.extent o) c.op_with.ensures c.in_ok-arith.ensures.value in
+    let gives = subst (λ p. GivesOnBoth (arith_of p) a b g.extent o) c.op_with.ensures.value c.in_ok-arith.ensures.value in
     subst (λ d. IsFromTwo (arith_of op) d (option_copied c.args.second) (Ok c.whole_image.result)) (sym c.in_ok-a.ensures.value)
     (subst (λ d. IsFromTwo (arith_of op) (Some (Image a)) d (Ok c.whole_image.result)) (sym c.in_ok-b.ensures.value)
     (subst (λ r. IsFromTwo (arith_of op) (Some (Image a)) (Some (Image b)) (Ok r)) (sym c.whole_image.ensures.value)

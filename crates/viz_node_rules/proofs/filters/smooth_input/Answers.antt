@@ -25,7 +25,7 @@ returns-clause-value c =
     let filter = smooth_of (radius_with c.args.radius) in
     let on = c.in_ok-smooth.ensures.value (whole_of i) (on_itself i c.extent-whole.ensures.valid) in
     let on-whole = subst (λ b. IsOn (smooth_within c.radius_with.result b (whole_of i)) whole o) same on in
-    let on-radius = subst (λ r. IsOn (smooth_within r i.extent (whole_of i)) whole o) c.radius_with.ensures on-whole in
+    let on-radius = subst (λ r. IsOn (smooth_within r i.extent (whole_of i)) whole o) c.radius_with.ensures.value on-whole in
     subst (λ d. IsFromOne (λ g. Ok g) filter d (Ok c.whole_image.result)) (sym c.in_ok-image.ensures.value)
     (subst (λ r. IsFromOne (λ g. Ok g) filter (Some (Image i)) (Ok r)) (sym c.whole_image.ensures.value)
     (one_on filter i o whole (sym same) on-radius))

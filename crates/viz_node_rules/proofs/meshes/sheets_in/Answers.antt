@@ -9,5 +9,5 @@ use Rattle.viz_node_rules.proofs.meshes.sheets_in.Goals as goal
 pub returns-in-Mesh-clause-fits : goal.returns-in-Mesh-clause-fits
 returns-in-Mesh-clause-fits c =
     let there : IsSound c.in-Some.dataset.now = subst (λ o. IfSome (option_copied o) IsSound) c.in-Some.is c.requires.sound in
-    let sound : IsSound (dataset.Mesh c.in-Mesh.mesh) = subst IsSound (sym c.get.ensures ∙ c.in-Mesh.is) there in
+    let sound : IsSound (dataset.Mesh c.in-Mesh.mesh) = subst IsSound (sym c.get.ensures.value ∙ c.in-Mesh.is) there in
     subst (All IsFit) (sym c.sheets.ensures.value) sound.1

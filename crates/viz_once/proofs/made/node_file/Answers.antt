@@ -27,7 +27,7 @@ returns-in-Some-Some c =
       counts = record {
         dataset = d;
         given = c.in_ok-dataset.ensures.value;
-        cells_are = counted c.cell_count-cells.result c.in-Some-Some.cells _ c.cell_count-cells.ensures.value c.in-Some-Some.is-0 ∙ ap cells_written c.get.ensures;
-        points_are = counted c.point_count-points.result c.in-Some-Some.points _ c.point_count-points.ensures.value c.in-Some-Some.is-1 ∙ ap points_written c.get-2.ensures;
+        cells_are = counted c.cell_count-cells.result c.in-Some-Some.cells _ c.cell_count-cells.ensures.value c.in-Some-Some.is-0 ∙ ap cells_written c.get.ensures.value;
+        points_are = counted c.point_count-points.result c.in-Some-Some.points _ c.point_count-points.ensures.value c.in-Some-Some.is-1 ∙ ap points_written c.get-2.ensures.value;
       };
     }

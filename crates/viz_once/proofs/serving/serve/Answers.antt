@@ -40,7 +40,7 @@ returns-in-Ok-write g c =
     let r = c.in-Ok.ensures in
     let w = c.in-Ok-write.ensures in (
       Answered bytes text write.Written,
-      (made.counts, subst (λ (t : List ℕ). IsMadeFor filter bytes t made.counts) (sym c.in-Ok-of.ensures) c.in-Ok-made_of.ensures, refl),
+      (made.counts, subst (λ (t : List ℕ). IsMadeFor filter bytes t made.counts) (sym c.in-Ok-of.ensures.value) c.in-Ok-made_of.ensures, refl),
       written g.P.Port (command_view c.args.command.now) c.args.port.now c.read.new.self c.write.new.self bytes r.told r.bytes r.kept r.later r.same_limit w.later w.same_limit text write.Written w.told w.written w.kept (λ f. absurd f),
     )
 
@@ -53,7 +53,7 @@ returns-in-Err-Failed-write g c =
     let r = c.in-Ok.ensures in
     let w = rw c.in-Err-Failed-write.field-0-is at c.in-Err-Failed-write.ensures in (
       Answered bytes text write.Failed,
-      (subst (λ (t : List ℕ). IsFileFor filter bytes (Ok t)) (sym c.in-Ok-of.ensures) (made_file filter bytes made.text made.counts c.in-Ok-made_of.ensures), refl),
+      (subst (λ (t : List ℕ). IsFileFor filter bytes (Ok t)) (sym c.in-Ok-of.ensures.value) (made_file filter bytes made.text made.counts c.in-Ok-made_of.ensures), refl),
       written g.P.Port (command_view c.args.command.now) c.args.port.now c.read.new.self c.write.new.self bytes r.told r.bytes r.kept r.later r.same_limit w.later w.same_limit text write.Failed w.told (λ t. w.prefix t refl) w.kept (λ f. w.failed refl),
     )
 

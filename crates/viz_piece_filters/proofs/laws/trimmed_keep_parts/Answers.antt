@@ -2,4 +2,4 @@ use Rattle.viz_piece_filters.proofs.BoundaryLemmas.{trimmed_keep}
 use Rattle.viz_piece_filters.proofs.laws.trimmed_keep_parts.Goals as goal
 
 pub returns : goal.returns
-returns c = trimmed_keep
+returns c = record { law = trimmed_keep }

@@ -39,7 +39,7 @@ joined_extent-extent-requires c =
 pub joined_column-requires : goal.joined_column-requires
 joined_column-requires c =
     let k = stacked-lent c.requires.image c.args.parts.items c.deref.result.now c.deref-2.result.now c.first_image-first.result.now c.last_image.result.now c.deref.ensures.value c.deref-2.ensures.value c.requires.are c.first_image-first.ensures c.last_image.ensures in
-    let kind : c.kind-kind.result ≡ c.requires.image.values.kind = c.kind-kind.ensures ∙ ap (λ (v : Numbers). v.kind) c.column.ensures.value ∙ k.kind in
+    let kind : c.kind-kind.result ≡ c.requires.image.values.kind = c.kind-kind.ensures.value ∙ ap (λ (v : Numbers). v.kind) c.column.ensures.value ∙ k.kind in
     subst (λ (q : Kind8). All (HasKind q) c.args.parts.items) (sym kind) k.kinds
 
 pub new-requires-clause-count : goal.new-requires-clause-count
@@ -54,6 +54,6 @@ returns c = λ whole are.
     let origin : vector_of c.origin-origin.result ≡ whole.origin = c.origin-origin.ensures.value ∙ k.origin in
     let spacing : vector_of c.spacing-spacing.result ≡ whole.spacing = c.spacing-spacing.ensures.value ∙ k.spacing in
     let kind : c.in_ok-column.column.kind ≡ whole.values.kind =
-    ap (λ (v : Numbers). v.kind) (c.in_ok-column.ensures) ∙ c.kind-kind.ensures ∙ ap (λ (v : Numbers). v.kind) c.column.ensures.value ∙ k.kind in
+    ap (λ (v : Numbers). v.kind) (c.in_ok-column.ensures) ∙ c.kind-kind.ensures.value ∙ ap (λ (v : Numbers). v.kind) c.column.ensures.value ∙ k.kind in
     let items : c.in_ok-column.column.items ≡ whole.values.items = ap (λ (v : Numbers). v.items) c.in_ok-column.ensures ∙ k.items in
     c.new.ensures.value ∙ (λ i. record { extent = extent i; origin = origin i; spacing = spacing i; values = record { kind = kind i; items = items i } })

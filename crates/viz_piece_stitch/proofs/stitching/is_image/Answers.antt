@@ -11,6 +11,6 @@ pub returns-in-Mesh-clause-pieces : goal.returns-in-Mesh-clause-pieces
 returns-in-Mesh-clause-pieces c = λ is.
     let first = c.in-Some.part.now in
     let mesh = Mesh c.in-Mesh.field-0 in
-    let same : first ≡ mesh = sym c.get.ensures ∙ c.in-Mesh.is in
+    let same : first ≡ mesh = sym c.get.ensures.value ∙ c.in-Mesh.is in
     let at : get_or c.args.parts.now 0 first ≡ first = search rules in
     all-pieces c.args.parts.now mesh c.requires (subst (λ (p : Part). get_or c.args.parts.now 0 p ≡ p) same at) tt

@@ -23,7 +23,7 @@ with_levels-requires-clause-matched c =
     let whole = c.args.whole.now in
     let slab = c.args.slab.now in
     let asks = asked-planes c.args.p c.args.n c.args.ghosts whole c.requires.below in
-    ap (λ s. length s.cells) (c.in_ok-sheet.ensures.value ∙ ap (shifted_sheet c.leaf_base-base.result) c.in_ok-sheet_of_tets.ensures)
+    ap (λ s. length s.cells) (c.in_ok-sheet.ensures.value ∙ ap (shifted_sheet c.leaf_base-base.result) c.in_ok-sheet_of_tets.ensures.value)
     ∙ levels-match c.args.p c.args.n c.leaf_base-base.result whole slab (subst (ArePlanes whole) (sym c.requires.slab) asks)
     ∙ ap (λ e. length (block_levels c.args.p c.args.n whole e)) (sym c.extent-block.ensures.value)
 
@@ -35,7 +35,7 @@ returns c =
       value =
           subst (λ q. IfOk c.with_levels.result (λ part. part ≡ q))
           (ap₂ made
-          (c.in_ok-sheet.ensures.value ∙ ap₂ shifted_sheet (c.leaf_base-base.ensures.value ∙ ap (leaf_shift whole) extent) c.in_ok-sheet_of_tets.ensures)
+          (c.in_ok-sheet.ensures.value ∙ ap₂ shifted_sheet (c.leaf_base-base.ensures.value ∙ ap (leaf_shift whole) extent) c.in_ok-sheet_of_tets.ensures.value)
           (ap (block_levels c.args.p c.args.n whole) extent))
           c.with_levels.ensures;
     }

@@ -10,4 +10,4 @@ returns c =
     let some = c.bucket.result.now in
     c.extent_among.ensures
     ∙ extent_found all some c.args.node.0
-    (subst (λ k. HasAllOf (λ (x : Shown). x.node.0) k all some) c.number_of.ensures c.bucket.ensures)
+    (subst (λ k. HasAllOf (λ (x : Shown). x.node.0) k all some) c.number_of.ensures c.bucket.ensures.value)

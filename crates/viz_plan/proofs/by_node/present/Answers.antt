@@ -10,4 +10,4 @@ returns c =
     let some = c.bucket.result.now in
     c.in_ok-kept.ensures
     ∙ present_found c.args.stamp.now all some c.args.node.0
-    (subst (λ k. HasAllOf (λ (x : Entry). x.key.node.0) k all some) c.number_of.ensures c.bucket.ensures)
+    (subst (λ k. HasAllOf (λ (x : Entry). x.key.node.0) k all some) c.number_of.ensures c.bucket.ensures.value)

@@ -20,10 +20,10 @@ returns c = λ x at told stored is_shown is_entries.
     let extents : extent_shown c.args.shown.now ≡ extent_told told = extents_are c.args.shown.now told is_shown in
     site_is (known_with net told stored) steps c.requires.steps c.args.place step c.in-Some.node.now _
     (slice_get-get_or steps c.args.place none c.requires.within)
-    (sym c.node.ensures ∙ ap option_copied c.in-Some.is)
+    (sym c.node.ensures.value ∙ ap option_copied c.in-Some.is)
     refl
     (c.extent_shown-own.ensures ∙ ap (λ f. f c.in-Some.node.now.id.0) extents)
     (c.whole_of-whole.ensures ∙ ap (λ f. first_extent f (nodes_of steps) step.inputs) extents)
-    (c.in_ok-kept.ensures ∙ ap (λ s. present_in s step.node.0 c.args.entries.now) (c.of.ensures ∙ ap (λ n. stamp_of n step.node.0) c.requires.stamps)
+    (c.in_ok-kept.ensures ∙ ap (λ s. present_in s step.node.0 c.args.entries.now) (c.of.ensures.value ∙ ap (λ n. stamp_of n step.node.0) c.requires.stamps)
     ∙ presents_are (stamp_of net step.node.0) step.node.0 c.args.entries.now stored is_entries)
     x at

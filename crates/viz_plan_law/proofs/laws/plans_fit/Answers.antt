@@ -8,7 +8,7 @@ use Rattle.viz_plan_law.proofs.laws.plans_fit.Goals as goal
 pub returns : goal.returns
 returns c =
     let one = c.rules_are_one.ensures.information in
-    let fitting = c.fitting_can_be_asked.ensures in
+    let fitting = c.fitting_can_be_asked.ensures.law in
     record {
       tasks = lemma.plans_fit one fitting;
       requests = lemma.requests_fit one fitting;

@@ -2,4 +2,4 @@ use Rattle.viz_plan_meaning.proofs.LawLemmas.{orders_produce}
 use Rattle.viz_plan_meaning.proofs.evaluation.orders_produce.Goals as goal
 
 pub returns : goal.returns
-returns g c = λ sound. orders_produce c.serving_is_an_order.ensures.itself c.serving_is_an_order.ensures.on _ _ _ _ _ sound
+returns g c = record { law = λ sound. orders_produce c.serving_is_an_order.ensures.itself c.serving_is_an_order.ensures.on _ _ _ _ _ sound }

@@ -12,5 +12,5 @@ returns c =
     let some = c.bucket.result.now in
     if_some_more c.above_among.result
     (λ l e. e ∙ first_found all some c.args.node.0 c.args.wanted.now
-    (subst (λ k. HasAllOf (λ (x : Levelled). number_of x.need.node.0 x.need.request) k all some) c.number_of.ensures c.bucket.ensures))
+    (subst (λ k. HasAllOf (λ (x : Levelled). number_of x.need.node.0 x.need.request) k all some) c.number_of.ensures c.bucket.ensures.value))
     c.above_among.ensures

@@ -12,4 +12,4 @@ loop-need-preserved g c =
     table_more kept widened asked (inputs_of c.args.net.now) c.args.plan.now c.loop-need.need-index x c.loop-need.table _ c.in-Some.level _
     c.loop-need-test.true c.need-item.is c.loop-need.invariant
     c.in-Some.ensures
-    c.in_ok-push.ensures
+    c.in_ok-push.ensures.pushed

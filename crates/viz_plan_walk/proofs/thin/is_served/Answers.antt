@@ -11,4 +11,4 @@ returns c =
     let some = c.bucket-bucket.result.now in
     c.serves_among.ensures
     ∙ served_found all some c.args.need.now.node.0 c.args.need.now.request
-    (subst (λ k. HasAllOf (λ (x : Need). number_of x.node.0 x.request) k all some) c.number_of.ensures c.bucket-bucket.ensures)
+    (subst (λ k. HasAllOf (λ (x : Need). number_of x.node.0 x.request) k all some) c.number_of.ensures c.bucket-bucket.ensures.value)

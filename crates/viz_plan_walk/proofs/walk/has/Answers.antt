@@ -11,4 +11,4 @@ returns c =
     let some = c.bucket.result.now in
     c.is_among.ensures
     ∙ has_found all some c.args.node.0 c.args.request.now
-    (subst (λ k. HasAllOf (λ (x : Need). number_of x.node.0 x.request) k all some) c.number_of.ensures c.bucket.ensures)
+    (subst (λ k. HasAllOf (λ (x : Need). number_of x.node.0 x.request) k all some) c.number_of.ensures c.bucket.ensures.value)

@@ -3,28 +3,28 @@ use Rattle.viz_replay.proofs.CompleteLemmas.{complete}
 use Rattle.viz_replay.proofs.run.run_scratch.Goals as goal
 
 pub returns-clause-script : goal.returns-clause-script
-returns-clause-script g c = script g.P.Port g.O.Out _ _ _ _ _ _ _ _ _ c.serve-came.ensures.ran c.tell.ensures
+returns-clause-script g c = script g.P.Port g.O.Out _ _ _ _ _ _ _ _ _ c.serve-came.ensures.ran c.tell.ensures.value
 
 pub returns-clause-refuses : goal.returns-clause-refuses
-returns-clause-refuses g c = tells_refusals g.P.Port g.O.Out _ _ _ _ _ _ _ _ _ c.serve-came.ensures.ran c.tell.ensures c.serve-came.ensures.no_port
+returns-clause-refuses g c = tells_refusals g.P.Port g.O.Out _ _ _ _ _ _ _ _ _ c.serve-came.ensures.ran c.tell.ensures.value c.serve-came.ensures.no_port
 
 pub returns-clause-complete : goal.returns-clause-complete
-returns-clause-complete g c = complete c.updates_say_of_files.ensures.files g.P.Port g.O.Out _ _ _ _ _ _ _ _ _ c.serve-came.ensures.ran c.tell.ensures
+returns-clause-complete g c = complete c.updates_say_of_files.ensures.files g.P.Port g.O.Out _ _ _ _ _ _ _ _ _ c.serve-came.ensures.ran c.tell.ensures.value
 
 pub returns-clause-done : goal.returns-clause-done
-returns-clause-done g c = done g.P.Port g.O.Out _ _ _ _ _ _ _ _ _ c.serve-came.ensures.ran c.tell.ensures
+returns-clause-done g c = done g.P.Port g.O.Out _ _ _ _ _ _ _ _ _ c.serve-came.ensures.ran c.tell.ensures.value
 
 pub returns-clause-refused : goal.returns-clause-refused
-returns-clause-refused g c = refused g.P.Port g.O.Out _ _ _ _ _ _ _ _ _ c.serve-came.ensures.ran c.tell.ensures
+returns-clause-refused g c = refused g.P.Port g.O.Out _ _ _ _ _ _ _ _ _ c.serve-came.ensures.ran c.tell.ensures.value
 
 pub returns-clause-fault : goal.returns-clause-fault
-returns-clause-fault g c = fault g.P.Port g.O.Out _ _ _ _ _ _ _ _ _ c.serve-came.ensures.ran c.tell.ensures
+returns-clause-fault g c = fault g.P.Port g.O.Out _ _ _ _ _ _ _ _ _ c.serve-came.ensures.ran c.tell.ensures.value
 
 pub returns-clause-cause : goal.returns-clause-cause
-returns-clause-cause g c = cause g.P.Port g.O.Out _ _ _ _ _ _ _ _ _ c.serve-came.ensures.ran c.tell.ensures
+returns-clause-cause g c = cause g.P.Port g.O.Out _ _ _ _ _ _ _ _ _ c.serve-came.ensures.ran c.tell.ensures.value
 
 pub returns-clause-others : goal.returns-clause-others
-returns-clause-others g c = others g.P.Port g.O.Out _ _ _ _ _ _ _ _ _ c.serve-came.ensures.ran c.tell.ensures
+returns-clause-others g c = others g.P.Port g.O.Out _ _ _ _ _ _ _ _ _ c.serve-came.ensures.ran c.tell.ensures.value
 
 pub returns-clause-usage : goal.returns-clause-usage
-returns-clause-usage g c = no_usage g.P.Port g.O.Out _ _ _ _ _ _ _ _ _ c.serve-came.ensures.ran c.tell.ensures
+returns-clause-usage g c = no_usage g.P.Port g.O.Out _ _ _ _ _ _ _ _ _ c.serve-came.ensures.ran c.tell.ensures.value

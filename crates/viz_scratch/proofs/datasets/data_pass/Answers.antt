@@ -19,7 +19,7 @@ none = record { node = record { 0 = 0 }; inputs = [] }
 pub unwrap-node-requires : goal.unwrap-node-requires
 unwrap-node-requires c =
     let step = c.requires.steps.each c.loop-k.k _ (slice_get-get_or c.args.steps.now c.loop-k.k _ c.loop-k-test.true) in
-    lent_there c.node.result step.node (c.node.ensures ∙ step.there)
+    lent_there c.node.result step.node (c.node.ensures.value ∙ step.there)
 
 -- a step that is asked for
 asked : (n : ℕ) → (n ≡ 0 → ⊥) → 0 < n

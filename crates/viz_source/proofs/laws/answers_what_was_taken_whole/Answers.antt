@@ -2,4 +2,4 @@ use Rattle.viz_source.proofs.StreamLemmas.{answered-whole}
 use Rattle.viz_source.proofs.laws.answers_what_was_taken_whole.Goals as goal
 
 pub returns : goal.returns
-returns c old new lines left h goes_on open_line = answered-whole old new lines left h goes_on open_line
+returns c = record { law = answered-whole }

@@ -12,5 +12,5 @@ returns-in-Ok-clause-ok c =
     let item = c.args.item.now in
     let held = c.self.inside.held in
     ap (λ h. items_of c.self.inside.empty h.entries) c.in-Ok.ensures.entries
-    ∙ (ap (items_of c.self.inside.empty) (put_entries-same (equality.ghosts).eq same_key key_eq held item.key (Some c.in_ok-part.part) (Some item.part) (ap Some c.in_ok-part.ensures))
+    ∙ (ap (items_of c.self.inside.empty) (put_entries-same (equality.ghosts).eq same_key key_eq held item.key (Some c.in_ok-part.part) (Some item.part) (ap Some c.in_ok-part.ensures.value))
     ∙ (sym (with_item-items c.self.inside.empty held item) ∙ ap (λ d. with_item d.capacity item d.entries) c.self.view_is))

@@ -5,6 +5,8 @@ use Rattle.viz_column.proofs.BlockLemmas.{naturals_are_read}
 use Rattle.viz_column.proofs.unsigned.U64Number.from_block.Goals as goal
 
 pub returns : goal.returns
-returns c =
-    naturals_are_read U64 (big_number 8) c.args.bytes.now _ _ _ _ (λ _. refl)
-    c.read_u64_into.auto.dst c.deref_mut.ensures.value c.deref_mut.ensures.len c.in_ok-numbers.ensures.long c.read_u64_into.ensures
+returns c = record {
+  value =
+      naturals_are_read U64 (big_number 8) c.args.bytes.now _ _ _ _ (λ _. refl)
+      c.read_u64_into.auto.dst c.deref_mut.ensures.value c.deref_mut.ensures.len c.in_ok-numbers.ensures.long c.read_u64_into.ensures;
+}

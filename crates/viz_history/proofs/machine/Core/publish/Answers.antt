@@ -19,7 +19,7 @@ invariant_of-self c =
     let made_true = subst (λ (s : State). All (IsTrueOf (edits_of s.history)) c.args.made.now) (sym c.self.view_is) c.requires.made.each in
     let brought_true = subst (All holds) (sym c.bring_all.ensures.entries) (all_brought_hold holds c.args.used.now core.cache.entries c.self.invariant.parts.each) in
     let taken_true = taken_hold holds c.stamps-stamps.result c.bring_all.new.cache.capacity c.args.made.now c.bring_all.new.cache.entries c.take_in-kept.result taken c.take_in-kept.ensures.takes made_true brought_true in
-    let net = c.stamps-stamps.ensures ∙ c.self.invariant.network in
+    let net = c.stamps-stamps.ensures.value ∙ c.self.invariant.network in
     let many = c.self.invariant.edits in
     let given = subst (λ n. GivesOvertakenUp n (length (edits_of h)) taken new) net (subst (λ n. GivesOvertakenUp c.stamps-stamps.result n taken new) many c.give_overtaken_up.ensures.entries) in
     kept_parts h core.edits core.limit core.net core.cache.entries new c.self.invariant (record { each = given_up_true (edits_of h) taken new given taken_true })
@@ -29,7 +29,7 @@ returns-clause-publishes c =
     let core = c.self.inside in
     let h = core.history.items in
     let taken = c.take_in-kept.new.cache.entries in
-    let net = c.stamps-stamps.ensures ∙ c.self.invariant.network in
+    let net = c.stamps-stamps.ensures.value ∙ c.self.invariant.network in
     let many = c.self.invariant.edits in
     let takes : TakesIn (network_of h) core.cache.capacity c.args.made.now (all_brought c.args.used.now core.cache.entries) c.take_in-kept.result taken =
     subst (λ n. TakesIn n core.cache.capacity c.args.made.now (all_brought c.args.used.now core.cache.entries) c.take_in-kept.result taken) net

@@ -1,0 +1,5 @@
+mod LineLemmas
+mod ReplyLemmas
+mod EndLemmas
+mod AnswerLemmas
+mod AccountLemmas

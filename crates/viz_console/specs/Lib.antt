@@ -1,0 +1,5 @@
+pub mod Sessions
+pub mod Ends
+pub mod Replies
+pub mod Lines
+pub mod Steps

@@ -1,0 +1,5 @@
+//! Sessions over files in memory, by hand: tests alone.
+#![tactic(auto)]
+
+#[cfg(test)]
+mod tests;
