@@ -24,6 +24,8 @@ LIMITS = [("bytes of a file", "viz_base/src/limits.rt", "FILE_LIMIT"),
           ("edits of a batch", "viz_script/src/parser.rt", "BATCH"),
           ("bytes, and lines, of a script", "viz_script/src/parsing.rt", "BYTES"),
           ("bytes, and lines, of a script", "viz_script/src/parsing.rt", "LINES"),
+          ("bytes of a line of a", "viz_source/src/limits.rt", "LINE_LIMIT"),
+          ("bytes of a line of a", "viz_source/src/limits.rt", "STREAM_LIMIT"),
           ("entries", "viz_base/src/limits.rt", "HISTORY"),
           ("kept parts", "viz_base/src/limits.rt", "CACHE"),
           ("points of a volume that `make`", "viz_make/src/size.rt", "MOST_POINTS")]
