@@ -8,7 +8,7 @@ import time
 
 import vtk
 
-CHANGES = ["set iso levels 0", "set iso levels 8000", "set iso levels -8000", "connect soft iso 1"]
+CHANGES = ["set iso levels 8000", "set iso levels -8000", "set iso levels 0", "connect soft iso 1"]
 vizrun, png = sys.argv[1:]
 session = subprocess.Popen([vizrun, "console"], stdin=subprocess.PIPE, stdout=subprocess.PIPE,
                            text=True, bufsize=1)
